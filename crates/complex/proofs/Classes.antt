@@ -1,0 +1,105 @@
+-- Equal doubles, and no others, have the same class number, and identical ones are equal. Assumes nothing.
+use mathlib.Core.Path.{_≡_, refl, sym, ap, _∙_, subst}
+use mathlib.Core.Bool.{Bool, true, false, cond}
+use mathlib.Core.Logic.{_⊎_, inl, inr}
+use Prim.Native.Nat.{ℕ, _+_, _-_, _*_, _/_, _^_}
+use native.Mathlib.Nat.{mul-right-comm, zero-mul, zero-div}
+use lib.Dec.{T, eqb, eqb→eq}
+use lib.IntN.{ℤ}
+use lib.Ieee.{Float, nan, inf, fin, binary64, up, down, hid, top, size, eq, isNan, toBits, ofBits, fits}
+use lib.Ieee.Fits.{down-pos, eq→eqb}
+use lib.Ieee.Nearest.{div-same}
+use Rattle.complex.specs.Bits.{bitsOf, doubleOf}
+use Rattle.complex.specs.Equality.{identicalDoubles, equalDoubles, classOf, classOfBits}
+use Rattle.complex.specs.Zero.{units}
+use Rattle.complex.proofs.Doubles.{double-back, same-bits}
+use Rattle.complex.proofs.Alike.{Alike, nans, infs, fins, alike, equal-of, equal-refl}
+
+-- ---- equal doubles have one class
+
+-- a finite double's bits, by its sign and its magnitude
+bitsBy : Bool → ℕ → ℕ
+bitsBy s n = cond s (top binary64) 0 + (size n - 53) * hid binary64 + n / 2 ^ (size n - 53)
+
+bits-by : (s : Bool) (m : ℕ) (e : ℤ) → bitsOf (fin s m e) ≡ bitsBy s (units (fin s m e))
+unfolding toBits bitsBy units
+bits-by s m e = refl
+
+zero-bits : (s : Bool) → bitsBy s 0 ≡ cond s 0x8000_0000_0000_0000 0
+unfolding bitsBy size
+zero-bits true = refl
+zero-bits false = refl
+
+zero-class : (s : Bool) → classOfBits (cond s 0x8000_0000_0000_0000 0) ≡ 0
+unfolding classOfBits
+zero-class true = refl
+zero-class false = refl
+
+same-units : (s : Bool) (m : ℕ) (e : ℤ) (t : Bool) (n : ℕ) (d : ℤ) → m * up e * down d ≡ n * up d * down e → units (fin s m e) ≡ units (fin t n d)
+unfolding units
+same-units s m e t n d v =
+    div-same (m * up e * 2 ^ 1074) (down e) (n * up d * 2 ^ 1074) (down d) (down-pos e) (down-pos d)
+    (mul-right-comm (m * up e) (2 ^ 1074) (down d) ∙ ap (λ (x : ℕ). x * 2 ^ 1074) v ∙ mul-right-comm (n * up d) (down e) (2 ^ 1074))
+
+no-units : (s : Bool) (m : ℕ) (e : ℤ) → m * up e ≡ 0 → units (fin s m e) ≡ 0
+unfolding units
+no-units s m e z = ap (λ (x : ℕ). x * 2 ^ 1074 / down e) z ∙ zero-div (down e)
+
+class-of-zero : (s : Bool) (m : ℕ) (e : ℤ) → units (fin s m e) ≡ 0 → classOf (fin s m e) ≡ 0
+unfolding classOf
+class-of-zero s m e z = ap classOfBits (bits-by s m e ∙ ap (bitsBy s) z ∙ zero-bits s) ∙ zero-class s
+
+same-class : {x y : Float} → Alike x y → classOf x ≡ classOf y
+unfolding classOf
+same-class nans = refl
+same-class infs = refl
+same-class (fins {s} {m} {e} {t} {n} {d} v (inl g)) =
+    ap classOfBits (bits-by s m e ∙ (λ i. bitsBy (g i) (same-units s m e t n d v i)) ∙ sym (bits-by t n d))
+same-class (fins {s} {m} {e} {t} {n} {d} v (inr z)) =
+    let u = no-units s m e z in
+    class-of-zero s m e u ∙ sym (class-of-zero t n d (sym (same-units s m e t n d v) ∙ u))
+
+-- ---- and doubles of one class are equal
+
+-- the two zeros, by their bits
+zeros-equal : (s t : Bool) → T (equalDoubles (doubleOf (cond s 0x8000_0000_0000_0000 0)) (doubleOf (cond t 0x8000_0000_0000_0000 0)))
+unfolding equalDoubles eq ofBits
+zeros-equal true true = tt
+zeros-equal true false = tt
+zeros-equal false true = tt
+zeros-equal false false = tt
+
+one-truth : (a b : Bool) → (T a → T b) → (T b → T a) → a ≡ b
+one-truth true true f g = refl
+one-truth false false f g = refl
+one-truth true false f g = absurd (f tt)
+one-truth false true f g = absurd (g tt)
+
+module _ (x y : Float) (p : T (fits binary64 x)) (q : T (fits binary64 y)) where
+  both-zero : (s t : Bool) → bitsOf x ≡ cond s 0x8000_0000_0000_0000 0 → bitsOf y ≡ cond t 0x8000_0000_0000_0000 0 → T (equalDoubles x y)
+  both-zero s t e f =
+      let a = ap doubleOf (sym e) ∙ double-back x p in
+      let b = ap doubleOf (sym f) ∙ double-back y q in
+      subst T (λ i. equalDoubles (a i) (b i)) (zeros-equal s t)
+
+  of-same-bits : bitsOf x ≡ bitsOf y → T (equalDoubles x y)
+  of-same-bits e = subst (λ (z : Float). T (equalDoubles x z)) (same-bits x y p q e) (equal-refl x)
+
+  of-same-class : classOf x ≡ classOf y → T (equalDoubles x y)
+  unfolding classOf classOfBits
+  of-same-class = go (eqb (bitsOf x) 0x8000_0000_0000_0000) (eqb (bitsOf y) 0x8000_0000_0000_0000) (eqb→eq (bitsOf x) 0x8000_0000_0000_0000) (eqb→eq (bitsOf y) 0x8000_0000_0000_0000)
+    where
+      go : (a b : Bool) → (T a → bitsOf x ≡ 0x8000_0000_0000_0000) → (T b → bitsOf y ≡ 0x8000_0000_0000_0000) → cond a 0 (bitsOf x) ≡ cond b 0 (bitsOf y) → T (equalDoubles x y)
+      go true true f g e = both-zero true true (f tt) (g tt)
+      go true false f g e = both-zero true false (f tt) (sym e)
+      go false true f g e = both-zero false true e (g tt)
+      go false false f g e = of-same-bits e
+
+  -- the law: two doubles are equal exactly where their class numbers are the same
+  pub equal-is-same-class : equalDoubles x y ≡ eqb (classOf x) (classOf y)
+  equal-is-same-class =
+      one-truth (equalDoubles x y) (eqb (classOf x) (classOf y)) (λ h. eq→eqb (same-class (alike x y h))) (λ h. of-same-class (eqb→eq (classOf x) (classOf y) h))
+
+  pub identical-equal : T (identicalDoubles x y) → T (equalDoubles x y)
+  unfolding identicalDoubles
+  identical-equal h = of-same-bits (eqb→eq (bitsOf x) (bitsOf y) h)

@@ -1,0 +1,158 @@
+-- The zero test of two doubles, by what the code tests: their bits against T's and half of T's, then the squares cut off at T's last
+-- place. Assumes nothing.
+use mathlib.Core.Path.{_≡_, refl, sym, ap, _∙_, subst}
+use mathlib.Core.Bool.{Bool, true, false, _&&_}
+use Prim.Native.Nat.{ℕ, _+_, _-_, _*_, _/_, _%_, _^_, _≤_, _<_}
+use native.Mathlib.Nat.{mod-mod, mul-le-mul, mul-le-mul-left, le-trans, le-add-right, add-comm, lt-of-le-of-lt, lt-of-lt-of-le, le-of-eq, div-le-self}
+use native.Mathlib.Omega.{arith}
+use lib.Dec.{T, ltb, lit<, lit≤}
+use lib.Ieee.{Float, nan, inf, fin, binary64, toBits, ofBits, fits}
+use lib.Ieee.Scale.{finite}
+use lib.Pow.{pow-pos, pow-mono}
+use borrow.Author.Tests.{lt-ltb, le-ltb}
+use Rattle.complex.specs.declared.parts.Part.{Part}
+use Rattle.complex.specs.Bits.{bitsOf}
+use Rattle.complex.specs.Zero.{units, threshold, squaresBelow}
+use Rattle.complex.specs.Parts.{unitsOfFields, unitsOfBits, Scaled}
+use Rattle.complex.proofs.Cut.{cut, cut-significand, square-lt}
+use Rattle.complex.proofs.Magnitude.{units-by-bits, rises, not-below}
+use Rattle.complex.proofs.Scaling.{in-places, lies}
+
+-- ---- T, by its bits
+
+abbrev pub tBits : ℕ
+tBits = 0x3DDB_7CDF_D9D7_BDBB
+
+abbrev pub halfBits : ℕ
+halfBits = 0x3DCB_7CDF_D9D7_BDBB
+
+abbrev pub significand : ℕ
+significand = 0x1B_7CDF_D9D7_BDBB
+
+t-units : units threshold ≡ significand * 2 ^ 988
+unfolding units ofBits
+t-units = refl
+
+t-by-bits : units threshold ≡ unitsOfBits tBits
+unfolding units ofBits unitsOfBits
+t-by-bits = refl
+
+t-by-half : units threshold ≡ 2 * unitsOfBits halfBits
+unfolding units ofBits unitsOfBits
+t-by-half = refl
+
+-- ---- the squares cut off at T's last place
+
+abbrev pub cut-square : Part → ℕ
+cut-square p = p .significand * p .significand / (2 ^ (1041 - p .scale) * 2 ^ (1041 - p .scale))
+
+-- it is far below 2 ^ 127
+pub cut-fits : (A : ℕ) (p : Part) → Scaled A p → cut-square p < 2 ^ 127
+cut-fits A p a =
+    let n = p .significand in
+    lt-of-le-of-lt (div-le-self (n * n) (2 ^ (1041 - p .scale) * 2 ^ (1041 - p .scale))) (lt-of-lt-of-le (square-lt n (2 ^ 53) (a .small)) (lit≤ tt))
+
+-- over T as a variable: its powers of two are computed once, here
+at-t : (t : ℕ) → t ≡ significand * 2 ^ 988 → (A B : ℕ) (p q : Part) → Scaled A p → Scaled B q → A < t → B < t → ltb (A * A + B * B) (t * t) ≡ ltb (cut-square p + cut-square q) (significand * significand)
+at-t t e A B p q a b ha hb =
+    ap (λ (n : ℕ). ltb (A * A + B * B) (n * n)) e
+    ∙ cut (2 ^ 988) significand (2 ^ 1040) (pow-pos 988) (lit≤ tt) A B (lies 988 significand t e (lit< tt) A p a ha) (lies 988 significand t e (lit< tt) B q b hb)
+    ∙ (λ i. ltb (square A p a ha i + square B q b hb i) (significand * significand))
+  where
+    square : (C : ℕ) (r : Part) → Scaled C r → C < t → C * C / (2 ^ 988 * 2 ^ 988) ≡ cut-square r
+    square C r c h = cut-significand C (2 ^ (1041 - r .scale)) (r .significand) (2 ^ 988) (pow-pos (1041 - r .scale)) (pow-pos 988) (in-places 988 significand t e (lit< tt) C r c h)
+
+pub by-cut-squares : (A B : ℕ) (p q : Part) → Scaled A p → Scaled B q → A < units threshold → B < units threshold → squaresBelow A B ≡ ltb (cut-square p + cut-square q) (significand * significand)
+unfolding squaresBelow
+by-cut-squares = at-t (units threshold) t-units
+
+-- ---- by the bits alone
+
+sum-from : (A B t : ℕ) → t ≤ A → t * t ≤ A * A + B * B
+sum-from A B t h = le-trans (mul-le-mul h h) (le-add-right (A * A) (B * B))
+
+too-big : (A B : ℕ) → units threshold ≤ A → squaresBelow A B ≡ false
+unfolding squaresBelow
+too-big A B h = le-ltb (A * A + B * B) (units threshold * units threshold) (sum-from A B (units threshold) h)
+
+too-big-2 : (A B : ℕ) → units threshold ≤ B → squaresBelow A B ≡ false
+unfolding squaresBelow
+too-big-2 A B h =
+    le-ltb (A * A + B * B) (units threshold * units threshold) (le-trans (sum-from B A (units threshold) h) (le-of-eq (add-comm (B * B) (A * A))))
+
+halved : (A B h : ℕ) → A < h → B < h → A * A + B * B < 2 * h * (2 * h)
+halved A B h a b = omega (arith, square-lt A h a, square-lt B h b)
+
+small-enough : (A B : ℕ) → A < unitsOfBits halfBits → B < unitsOfBits halfBits → squaresBelow A B ≡ true
+unfolding squaresBelow
+small-enough A B a b =
+    lt-ltb (A * A + B * B) (units threshold * units threshold) (subst (λ (t : ℕ). A * A + B * B < t * t) (sym t-by-half) (halved A B (unitsOfBits halfBits) a b))
+
+-- ---- the test of two doubles
+
+abbrev zeroTest : Float → Float → Bool
+zeroTest x y = finite x && finite y && squaresBelow (units x) (units y)
+
+no-first : (f g l : Bool) → (T f → l ≡ false) → false ≡ (f && g && l)
+no-first false g l h = refl
+no-first true false l h = refl
+no-first true true l h = sym (h tt)
+
+no-second : (f g l : Bool) → (T g → l ≡ false) → false ≡ (f && g && l)
+no-second false g l h = refl
+no-second true false l h = refl
+no-second true true l h = sym (h tt)
+
+yes-both : (f g l : Bool) → T f → T g → l ≡ (f && g && l)
+yes-both true true l p q = refl
+yes-both true false l p q = absurd q
+yes-both false g l p q = absurd p
+
+-- below T's bits there is no infinity and no NaN
+below-is-finite : (x : Float) → bitsOf x % 2 ^ 63 < tBits → T (finite x)
+unfolding toBits
+below-is-finite nan h = absurd (omega arith)
+below-is-finite (inf true) h = absurd (omega arith)
+below-is-finite (inf false) h = absurd (omega arith)
+below-is-finite (fin s m e) h = tt
+
+from-t : (x : Float) → T (fits binary64 x) → tBits ≤ bitsOf x % 2 ^ 63 → T (finite x) → units threshold ≤ units x
+from-t x f h g = le-trans (le-of-eq t-by-bits) (le-trans (not-below tBits (bitsOf x % 2 ^ 63) h) (le-of-eq (sym (units-by-bits x f g))))
+
+below-t : (b : ℕ) → b < tBits → unitsOfBits b < units threshold
+below-t b h = lt-of-lt-of-le (rises b tBits h) (le-of-eq (sym t-by-bits))
+
+below-half : (x : Float) → T (fits binary64 x) → bitsOf x % 2 ^ 63 < halfBits → units x < unitsOfBits halfBits
+below-half x f h =
+    lt-of-le-of-lt (le-of-eq (units-by-bits x f (below-is-finite x (lt-of-lt-of-le h (lit≤ tt))))) (rises (bitsOf x % 2 ^ 63) halfBits h)
+
+module _ (x y : Float) (f : T (fits binary64 x)) (g : T (fits binary64 y)) (a b : ℕ) (p : a ≡ bitsOf x) (q : b ≡ bitsOf y) where
+  pub first-from-t : tBits ≤ a % 2 ^ 63 → false ≡ zeroTest x y
+  first-from-t h =
+      no-first (finite x) (finite y) (squaresBelow (units x) (units y)) (λ t. too-big (units x) (units y) (from-t x f (subst (λ (n : ℕ). tBits ≤ n % 2 ^ 63) p h) t))
+
+  pub second-from-t : tBits ≤ b % 2 ^ 63 → false ≡ zeroTest x y
+  second-from-t h =
+      no-second (finite x) (finite y) (squaresBelow (units x) (units y)) (λ t. too-big-2 (units x) (units y) (from-t y g (subst (λ (n : ℕ). tBits ≤ n % 2 ^ 63) q h) t))
+
+  pub both-below-half : a % 2 ^ 63 < halfBits → b % 2 ^ 63 < halfBits → true ≡ zeroTest x y
+  both-below-half h k =
+      let hx = subst (λ (n : ℕ). n % 2 ^ 63 < halfBits) p h in
+      let hy = subst (λ (n : ℕ). n % 2 ^ 63 < halfBits) q k in
+      sym (small-enough (units x) (units y) (below-half x f hx) (below-half y g hy))
+      ∙ yes-both (finite x) (finite y) (squaresBelow (units x) (units y)) (below-is-finite x (lt-of-lt-of-le hx (lit≤ tt))) (below-is-finite y (lt-of-lt-of-le hy (lit≤ tt)))
+
+  -- what `squares_below` is handed and says, where both are below T
+  pub by-squares : (r : Bool) → a % 2 ^ 63 < tBits → b % 2 ^ 63 < tBits
+      → (unitsOfBits (a % 2 ^ 63 % 2 ^ 63) < units threshold → unitsOfBits (b % 2 ^ 63 % 2 ^ 63) < units threshold → r ≡ squaresBelow (unitsOfBits (a % 2 ^ 63 % 2 ^ 63)) (unitsOfBits (b % 2 ^ 63 % 2 ^ 63)))
+      → r ≡ zeroTest x y
+  by-squares r h k e =
+      let hx = subst (λ (n : ℕ). n % 2 ^ 63 < tBits) p h in
+      let hy = subst (λ (n : ℕ). n % 2 ^ 63 < tBits) q k in
+      let fx = below-is-finite x hx in
+      let fy = below-is-finite y hy in
+      let u : unitsOfBits (a % 2 ^ 63 % 2 ^ 63) ≡ units x = ap unitsOfBits (mod-mod a (2 ^ 63) ∙ ap (λ (n : ℕ). n % 2 ^ 63) p) ∙ sym (units-by-bits x f fx) in
+      let v : unitsOfBits (b % 2 ^ 63 % 2 ^ 63) ≡ units y = ap unitsOfBits (mod-mod b (2 ^ 63) ∙ ap (λ (n : ℕ). n % 2 ^ 63) q) ∙ sym (units-by-bits y g fy) in
+      e (below-t (a % 2 ^ 63 % 2 ^ 63) (omega (arith, mod-mod a (2 ^ 63)))) (below-t (b % 2 ^ 63 % 2 ^ 63) (omega (arith, mod-mod b (2 ^ 63))))
+      ∙ (λ i. squaresBelow (u i) (v i))
+      ∙ yes-both (finite x) (finite y) (squaresBelow (units x) (units y)) fx fy

@@ -1,0 +1,25 @@
+-- `complex::equality::identical` meets its contract: both parts are. Assumes nothing.
+use borrow.Author.Needs.{needs}
+use Rattle.complex.specs.Equality.{identicalDoubles, identical}
+use Rattle.complex.proofs.Both.{both-yes, first-no}
+use Rattle.complex.proofs.equality.identical.Statement.{statement}
+use Rattle.complex.proofs.equality.identical.Tie as tie
+
+identical-doubles-requires : tie.Need-identical-doubles-requires
+identical-doubles-requires c κs = search needs
+
+identical-doubles-requires-2 : tie.Need-identical-doubles-requires-2
+identical-doubles-requires-2 c κs = search needs
+
+returns : tie.Need-returns
+unfolding identical
+returns c = both-yes (c .before .if1 .taken) (c .before .before .identical-doubles .ensures) (c .identical-doubles2 .ensures)
+
+returns-2 : tie.Need-returns-2
+unfolding identical
+returns-2 c =
+    let s = c .before .before .args in
+    first-no (identicalDoubles (s .x .im) (s .y .im)) (c .if1 .left) (c .before .identical-doubles .ensures)
+
+pub identical-spec : {M : Type 1} → statement M
+identical-spec = tie.close (tie.spec identical-doubles-requires identical-doubles-requires-2 returns returns-2)

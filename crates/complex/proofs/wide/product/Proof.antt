@@ -1,0 +1,50 @@
+-- `complex::wide::product` meets its contract: the columns in base 2 ^ 32, none of which fills 64 bits. Assumes nothing.
+use native.Mathlib.Omega.{arith}
+use borrow.Author.Needs.{needs}
+use Prim.Native.Nat.{_*_, _/_, _%_, _^_}
+use Rattle.complex.proofs.Limbs.{Columns, halves, columns-fit, product-law}
+use Rattle.complex.proofs.wide.product.Statement.{statement}
+use Rattle.complex.proofs.wide.product.Tie as tie
+
+fit : (c : tie.Start) → let a = c .args .a in let b = c .args .b in Columns (a / 2 ^ 32 * (b / 2 ^ 32)) (a / 2 ^ 32 * (b % 2 ^ 32)) (a % 2 ^ 32 * (b / 2 ^ 32)) (a % 2 ^ 32 * (b % 2 ^ 32))
+fit c =
+    let a = c .args .a in
+    let b = c .args .b in
+    columns-fit (a / 2 ^ 32 * (b / 2 ^ 32)) (a / 2 ^ 32 * (b % 2 ^ 32)) (a % 2 ^ 32 * (b / 2 ^ 32)) (a % 2 ^ 32 * (b % 2 ^ 32)) (halves a b (c .fits .a .fits) (c .fits .b .fits))
+
+mul-low : tie.Need-mul-low
+mul-low c = omega (arith, halves (c .args .a) (c .args .b) (c .fits .a .fits) (c .fits .b .fits) .3)
+
+mul-mid : tie.Need-mul-mid
+mul-mid c = omega (arith, halves (c .args .a) (c .args .b) (c .fits .a .fits) (c .fits .b .fits) .1)
+
+add-mid : tie.Need-add-mid
+add-mid c = record { fits = fit c .middle }
+
+mul-top : tie.Need-mul-top
+mul-top c = omega (arith, halves (c .args .a) (c .args .b) (c .fits .a .fits) (c .fits .b .fits) .2)
+
+add-top : tie.Need-add-top
+add-top c = record { fits = fit c .upper }
+
+mul-t10 : tie.Need-mul-t10
+mul-t10 c = omega (arith, halves (c .args .a) (c .args .b) (c .fits .a .fits) (c .fits .b .fits) .0)
+
+add-t12 : tie.Need-add-t12
+add-t12 c = record { fits = fit c .lower }
+
+add-t14 : tie.Need-add-t14
+add-t14 c = record { fits = fit c .high }
+
+mul-t16 : tie.Need-mul-t16
+mul-t16 c = search needs
+
+add-t18 : tie.Need-add-t18
+add-t18 c = search needs
+
+returns : tie.Need-returns
+returns c = product-law (c .args .a) (c .args .b) (c .fits .a .fits) (c .fits .b .fits)
+
+pub product-spec : {M : Type 1} → statement M
+product-spec =
+    tie.close (tie.spec mul-low mul-mid add-mid mul-top add-top mul-t10 add-t12 add-t14 mul-t16 add-t18 returns)
