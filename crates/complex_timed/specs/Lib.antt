@@ -1,0 +1,2 @@
+-- What the contracts of `complex_timed` cite.
+pub mod Pair
