@@ -9,3 +9,4 @@ mod Limbs
 mod Cut
 mod Scaling
 mod Decide
+mod Examples

@@ -1,19 +1,19 @@
 -- Identical and equal complex numbers: two equivalences, the first within the second; and which results are pairs of doubles.
 -- Assumes nothing.
-use mathlib.Core.Path.{_≡_, sym, subst, _∙_}
+use mathlib.Core.Path.{_≡_, sym, _∙_}
 use mathlib.Core.Bool.{Bool, _&&_}
+use Prim.Native.Nat.{ℕ}
 use lib.Dec.{T, eqb, eqb→eq, eqb-refl}
-use lib.Ieee as Ieee
-use lib.Ieee.{Float, binary64, fits, ofBits}
+use lib.Ieee.{Float, binary64}
 use lib.Ieee.Bits.{ofBits-fits}
 use lib.Ieee.Fits.{and-i, and-l, and-r, eq→eqb, add-fits, sub-fits, mul-fits, div-fits, neg-fits}
 use Rattle.complex.specs.declared.Complex.{Complex}
 use Rattle.complex.specs.Arithmetic.{_⊕_, _⊖_, _⊗_, plus, minus, times, over, negated}
-use Rattle.complex.specs.Bits.{bitsOf, Fitting}
+use Rattle.complex.specs.Bits.{bitsOf, Canonical, Fitting}
 use Rattle.complex.specs.Constants.{ofParts}
 use Rattle.complex.specs.Equality.{identicalDoubles, equalDoubles, identical, equal, classOf}
 use Rattle.complex.proofs.Alike as Alike
-use Rattle.complex.proofs.Doubles.{same-bits}
+use Rattle.complex.proofs.Doubles.{bits-back, same-bits}
 use Rattle.complex.proofs.Classes.{equal-is-same-class, identical-equal}
 
 -- ---- a relation of parts, taken part by part
@@ -127,5 +127,9 @@ unfolding negated
 negated-fitting x f = record { re = neg-fits binary64 (x .re) (f .re); im = neg-fits binary64 (x .im) (f .im) }
 
 -- a number read from bits, and so every constant
-pub of-parts-fitting : (a b : _) → Fitting (ofParts a b)
+pub of-parts-fitting : (a b : ℕ) → Fitting (ofParts a b)
 of-parts-fitting a b = record { re = ofBits-fits binary64 a; im = ofBits-fits binary64 b }
+
+-- and its parts have those bits
+pub of-parts-bits : (a b : ℕ) → Canonical a → Canonical b → (bitsOf (ofParts a b .re) ≡ a) × (bitsOf (ofParts a b .im) ≡ b)
+of-parts-bits a b p q = (bits-back a p, bits-back b q)
