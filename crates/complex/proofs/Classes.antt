@@ -1,19 +1,19 @@
 -- Equal doubles, and no others, have the same class number, and identical ones are equal. Assumes nothing.
 use mathlib.Core.Path.{_≡_, refl, sym, ap, _∙_, subst}
 use mathlib.Core.Bool.{Bool, true, false, cond}
-use mathlib.Core.Logic.{_⊎_, inl, inr}
+use mathlib.Core.Logic.{inl, inr}
 use Prim.Native.Nat.{ℕ, _+_, _-_, _*_, _/_, _^_}
-use native.Mathlib.Nat.{mul-right-comm, zero-mul, zero-div}
+use native.Mathlib.Nat.{mul-right-comm, zero-div}
 use lib.Dec.{T, eqb, eqb→eq}
 use lib.IntN.{ℤ}
-use lib.Ieee.{Float, nan, inf, fin, binary64, up, down, hid, top, size, eq, isNan, toBits, ofBits, fits}
+use lib.Ieee.{Float, fin, binary64, up, down, hid, top, size, eq, toBits, ofBits, fits}
 use lib.Ieee.Fits.{down-pos, eq→eqb}
 use lib.Ieee.Nearest.{div-same}
 use Rattle.complex.specs.Bits.{bitsOf, doubleOf}
 use Rattle.complex.specs.Equality.{identicalDoubles, equalDoubles, classOf, classOfBits}
-use Rattle.complex.specs.Zero.{units}
+use Rattle.complex.specs.Zero.{magnitude}
 use Rattle.complex.proofs.Doubles.{double-back, same-bits}
-use Rattle.complex.proofs.Alike.{Alike, nans, infs, fins, alike, equal-of, equal-refl}
+use Rattle.complex.proofs.Alike.{Alike, nans, infs, fins, alike, equal-refl}
 
 -- ---- equal doubles have one class
 
@@ -21,8 +21,8 @@ use Rattle.complex.proofs.Alike.{Alike, nans, infs, fins, alike, equal-
 bitsBy : Bool → ℕ → ℕ
 bitsBy s n = cond s (top binary64) 0 + (size n - 53) * hid binary64 + n / 2 ^ (size n - 53)
 
-bits-by : (s : Bool) (m : ℕ) (e : ℤ) → bitsOf (fin s m e) ≡ bitsBy s (units (fin s m e))
-unfolding toBits bitsBy units
+bits-by : (s : Bool) (m : ℕ) (e : ℤ) → bitsOf (fin s m e) ≡ bitsBy s (magnitude (fin s m e))
+unfolding toBits bitsBy magnitude
 bits-by s m e = refl
 
 zero-bits : (s : Bool) → bitsBy s 0 ≡ cond s 0x8000_0000_0000_0000 0
@@ -35,17 +35,17 @@ unfolding classOfBits
 zero-class true = refl
 zero-class false = refl
 
-same-units : (s : Bool) (m : ℕ) (e : ℤ) (t : Bool) (n : ℕ) (d : ℤ) → m * up e * down d ≡ n * up d * down e → units (fin s m e) ≡ units (fin t n d)
-unfolding units
-same-units s m e t n d v =
+same-magnitude : (s : Bool) (m : ℕ) (e : ℤ) (t : Bool) (n : ℕ) (d : ℤ) → m * up e * down d ≡ n * up d * down e → magnitude (fin s m e) ≡ magnitude (fin t n d)
+unfolding magnitude
+same-magnitude s m e t n d v =
     div-same (m * up e * 2 ^ 1074) (down e) (n * up d * 2 ^ 1074) (down d) (down-pos e) (down-pos d)
     (mul-right-comm (m * up e) (2 ^ 1074) (down d) ∙ ap (λ (x : ℕ). x * 2 ^ 1074) v ∙ mul-right-comm (n * up d) (down e) (2 ^ 1074))
 
-no-units : (s : Bool) (m : ℕ) (e : ℤ) → m * up e ≡ 0 → units (fin s m e) ≡ 0
-unfolding units
-no-units s m e z = ap (λ (x : ℕ). x * 2 ^ 1074 / down e) z ∙ zero-div (down e)
+no-magnitude : (s : Bool) (m : ℕ) (e : ℤ) → m * up e ≡ 0 → magnitude (fin s m e) ≡ 0
+unfolding magnitude
+no-magnitude s m e z = ap (λ (x : ℕ). x * 2 ^ 1074 / down e) z ∙ zero-div (down e)
 
-class-of-zero : (s : Bool) (m : ℕ) (e : ℤ) → units (fin s m e) ≡ 0 → classOf (fin s m e) ≡ 0
+class-of-zero : (s : Bool) (m : ℕ) (e : ℤ) → magnitude (fin s m e) ≡ 0 → classOf (fin s m e) ≡ 0
 unfolding classOf
 class-of-zero s m e z = ap classOfBits (bits-by s m e ∙ ap (bitsBy s) z ∙ zero-bits s) ∙ zero-class s
 
@@ -54,10 +54,10 @@ unfolding classOf
 same-class nans = refl
 same-class infs = refl
 same-class (fins {s} {m} {e} {t} {n} {d} v (inl g)) =
-    ap classOfBits (bits-by s m e ∙ (λ i. bitsBy (g i) (same-units s m e t n d v i)) ∙ sym (bits-by t n d))
+    ap classOfBits (bits-by s m e ∙ (λ i. bitsBy (g i) (same-magnitude s m e t n d v i)) ∙ sym (bits-by t n d))
 same-class (fins {s} {m} {e} {t} {n} {d} v (inr z)) =
-    let u = no-units s m e z in
-    class-of-zero s m e u ∙ sym (class-of-zero t n d (sym (same-units s m e t n d v) ∙ u))
+    let u = no-magnitude s m e z in
+    class-of-zero s m e u ∙ sym (class-of-zero t n d (sym (same-magnitude s m e t n d v) ∙ u))
 
 -- ---- and doubles of one class are equal
 

@@ -1,10 +1,9 @@
--- Why squares cut off at T's last place decide the zero test. All are whole numbers of units: T is n times its last place U, and A and B
--- are the two parts. U, n and h are variables here, so no power of two is ever computed. Assumes nothing.
+-- Why squares cut off at T's last place decide the zero test. All are whole multiples of the least subnormal: T is n times its last place U,
+-- and A and B are the two parts. U, n and h are variables here, so no power of two is ever computed. Assumes nothing.
 use mathlib.Core.Path.{_≡_, sym, ap, _∙_, subst}
-use mathlib.Core.Bool.{Bool}
 use mathlib.Core.Logic.{_⊎_, inl, inr}
 use Prim.Native.Nat.{ℕ, zero-le, _+_, _*_, _/_, _≤_, _<_}
-use native.Mathlib.Nat.{add-comm, mul-pos, mul-div-cancel, mul-add-div-right, div-mul-le-self, div-lt-iff-lt-mul, lt-of-le-of-lt, le-of-lt, mul-le-mul, mul-le-mul-left, mul-lt-mul-of-pos-right, lt-of-mul-lt-mul-right}
+use native.Mathlib.Nat.{add-comm, mul-pos, mul-div-cancel, mul-add-div-right, div-mul-le-self, div-lt-iff-lt-mul, lt-of-le-of-lt, le-of-lt, mul-le-mul-left, mul-lt-mul-of-pos-right, lt-of-mul-lt-mul-right}
 use native.Mathlib.Omega.{arith}
 use lib.Dec.{ltb}
 use lib.Ieee.Nearest.{div-same}

@@ -3,19 +3,19 @@
 use mathlib.Core.Path.{_≡_, refl, sym, ap, _∙_, subst}
 use mathlib.Core.Bool.{Bool, true, false, _&&_}
 use Prim.Native.Nat.{ℕ, _+_, _-_, _*_, _/_, _%_, _^_, _≤_, _<_}
-use native.Mathlib.Nat.{mod-mod, mul-le-mul, mul-le-mul-left, le-trans, le-add-right, add-comm, lt-of-le-of-lt, lt-of-lt-of-le, le-of-eq, div-le-self}
+use native.Mathlib.Nat.{mul-le-mul, le-trans, le-add-right, add-comm, lt-of-le-of-lt, lt-of-lt-of-le, le-of-eq, div-le-self}
 use native.Mathlib.Omega.{arith}
 use lib.Dec.{T, ltb, lit<, lit≤}
 use lib.Ieee.{Float, nan, inf, fin, binary64, toBits, ofBits, fits}
 use lib.Ieee.Scale.{finite}
-use lib.Pow.{pow-pos, pow-mono}
+use lib.Pow.{pow-pos}
 use borrow.Author.Tests.{lt-ltb, le-ltb}
 use Rattle.complex.specs.declared.parts.Part.{Part}
 use Rattle.complex.specs.Bits.{bitsOf}
-use Rattle.complex.specs.Zero.{units, threshold, squaresBelow}
-use Rattle.complex.specs.Parts.{unitsOfFields, unitsOfBits, Scaled}
+use Rattle.complex.specs.Zero.{magnitude, threshold, squaresBelow}
+use Rattle.complex.specs.Parts.{magnitudeOfBits, Scaled}
 use Rattle.complex.proofs.Cut.{cut, cut-significand, square-lt}
-use Rattle.complex.proofs.Magnitude.{units-by-bits, rises, not-below}
+use Rattle.complex.proofs.Magnitude.{magnitude-by-bits, rises, not-below}
 use Rattle.complex.proofs.Scaling.{in-places, lies}
 
 -- ---- T, by its bits
@@ -29,16 +29,16 @@ halfBits = 0x3DCB_7CDF_D9D7_BDBB
 abbrev pub significand : ℕ
 significand = 0x1B_7CDF_D9D7_BDBB
 
-t-units : units threshold ≡ significand * 2 ^ 988
-unfolding units ofBits
-t-units = refl
+t-magnitude : magnitude threshold ≡ significand * 2 ^ 988
+unfolding magnitude ofBits
+t-magnitude = refl
 
-t-by-bits : units threshold ≡ unitsOfBits tBits
-unfolding units ofBits unitsOfBits
+t-by-bits : magnitude threshold ≡ magnitudeOfBits tBits
+unfolding magnitude ofBits magnitudeOfBits
 t-by-bits = refl
 
-t-by-half : units threshold ≡ 2 * unitsOfBits halfBits
-unfolding units ofBits unitsOfBits
+t-by-half : magnitude threshold ≡ 2 * magnitudeOfBits halfBits
+unfolding magnitude ofBits magnitudeOfBits
 t-by-half = refl
 
 -- ---- the squares cut off at T's last place
@@ -62,36 +62,36 @@ at-t t e A B p q a b ha hb =
     square : (C : ℕ) (r : Part) → Scaled C r → C < t → C * C / (2 ^ 988 * 2 ^ 988) ≡ cut-square r
     square C r c h = cut-significand C (2 ^ (1041 - r .scale)) (r .significand) (2 ^ 988) (pow-pos (1041 - r .scale)) (pow-pos 988) (in-places 988 significand t e (lit< tt) C r c h)
 
-pub by-cut-squares : (A B : ℕ) (p q : Part) → Scaled A p → Scaled B q → A < units threshold → B < units threshold → squaresBelow A B ≡ ltb (cut-square p + cut-square q) (significand * significand)
+pub by-cut-squares : (A B : ℕ) (p q : Part) → Scaled A p → Scaled B q → A < magnitude threshold → B < magnitude threshold → squaresBelow A B ≡ ltb (cut-square p + cut-square q) (significand * significand)
 unfolding squaresBelow
-by-cut-squares = at-t (units threshold) t-units
+by-cut-squares = at-t (magnitude threshold) t-magnitude
 
 -- ---- by the bits alone
 
 sum-from : (A B t : ℕ) → t ≤ A → t * t ≤ A * A + B * B
 sum-from A B t h = le-trans (mul-le-mul h h) (le-add-right (A * A) (B * B))
 
-too-big : (A B : ℕ) → units threshold ≤ A → squaresBelow A B ≡ false
+too-big : (A B : ℕ) → magnitude threshold ≤ A → squaresBelow A B ≡ false
 unfolding squaresBelow
-too-big A B h = le-ltb (A * A + B * B) (units threshold * units threshold) (sum-from A B (units threshold) h)
+too-big A B h = le-ltb (A * A + B * B) (magnitude threshold * magnitude threshold) (sum-from A B (magnitude threshold) h)
 
-too-big-2 : (A B : ℕ) → units threshold ≤ B → squaresBelow A B ≡ false
+too-big-2 : (A B : ℕ) → magnitude threshold ≤ B → squaresBelow A B ≡ false
 unfolding squaresBelow
 too-big-2 A B h =
-    le-ltb (A * A + B * B) (units threshold * units threshold) (le-trans (sum-from B A (units threshold) h) (le-of-eq (add-comm (B * B) (A * A))))
+    le-ltb (A * A + B * B) (magnitude threshold * magnitude threshold) (le-trans (sum-from B A (magnitude threshold) h) (le-of-eq (add-comm (B * B) (A * A))))
 
 halved : (A B h : ℕ) → A < h → B < h → A * A + B * B < 2 * h * (2 * h)
 halved A B h a b = omega (arith, square-lt A h a, square-lt B h b)
 
-small-enough : (A B : ℕ) → A < unitsOfBits halfBits → B < unitsOfBits halfBits → squaresBelow A B ≡ true
+small-enough : (A B : ℕ) → A < magnitudeOfBits halfBits → B < magnitudeOfBits halfBits → squaresBelow A B ≡ true
 unfolding squaresBelow
 small-enough A B a b =
-    lt-ltb (A * A + B * B) (units threshold * units threshold) (subst (λ (t : ℕ). A * A + B * B < t * t) (sym t-by-half) (halved A B (unitsOfBits halfBits) a b))
+    lt-ltb (A * A + B * B) (magnitude threshold * magnitude threshold) (subst (λ (t : ℕ). A * A + B * B < t * t) (sym t-by-half) (halved A B (magnitudeOfBits halfBits) a b))
 
 -- ---- the test of two doubles
 
 abbrev zeroTest : Float → Float → Bool
-zeroTest x y = finite x && finite y && squaresBelow (units x) (units y)
+zeroTest x y = finite x && finite y && squaresBelow (magnitude x) (magnitude y)
 
 no-first : (f g l : Bool) → (T f → l ≡ false) → false ≡ (f && g && l)
 no-first false g l h = refl
@@ -116,43 +116,49 @@ below-is-finite (inf true) h = absurd (omega arith)
 below-is-finite (inf false) h = absurd (omega arith)
 below-is-finite (fin s m e) h = tt
 
-from-t : (x : Float) → T (fits binary64 x) → tBits ≤ bitsOf x % 2 ^ 63 → T (finite x) → units threshold ≤ units x
-from-t x f h g = le-trans (le-of-eq t-by-bits) (le-trans (not-below tBits (bitsOf x % 2 ^ 63) h) (le-of-eq (sym (units-by-bits x f g))))
+from-t : (x : Float) → T (fits binary64 x) → tBits ≤ bitsOf x % 2 ^ 63 → T (finite x) → magnitude threshold ≤ magnitude x
+from-t x f h g = le-trans (le-of-eq t-by-bits) (le-trans (not-below tBits (bitsOf x % 2 ^ 63) h) (le-of-eq (sym (magnitude-by-bits x f g))))
 
-below-t : (b : ℕ) → b < tBits → unitsOfBits b < units threshold
+below-t : (b : ℕ) → b < tBits → magnitudeOfBits b < magnitude threshold
 below-t b h = lt-of-lt-of-le (rises b tBits h) (le-of-eq (sym t-by-bits))
 
-below-half : (x : Float) → T (fits binary64 x) → bitsOf x % 2 ^ 63 < halfBits → units x < unitsOfBits halfBits
+below-half : (x : Float) → T (fits binary64 x) → bitsOf x % 2 ^ 63 < halfBits → magnitude x < magnitudeOfBits halfBits
 below-half x f h =
-    lt-of-le-of-lt (le-of-eq (units-by-bits x f (below-is-finite x (lt-of-lt-of-le h (lit≤ tt))))) (rises (bitsOf x % 2 ^ 63) halfBits h)
+    lt-of-le-of-lt (le-of-eq (magnitude-by-bits x f (below-is-finite x (lt-of-lt-of-le h (lit≤ tt))))) (rises (bitsOf x % 2 ^ 63) halfBits h)
 
-module _ (x y : Float) (f : T (fits binary64 x)) (g : T (fits binary64 y)) (a b : ℕ) (p : a ≡ bitsOf x) (q : b ≡ bitsOf y) where
-  pub first-from-t : tBits ≤ a % 2 ^ 63 → false ≡ zeroTest x y
+-- two doubles and their bits without the sign
+pub record Measured (x y : Float) (a b : ℕ) : Type 0 where
+  pub fits-x : T (fits binary64 x)
+  pub fits-y : T (fits binary64 y)
+  pub bits-x : a ≡ bitsOf x % 2 ^ 63
+  pub bits-y : b ≡ bitsOf y % 2 ^ 63
+
+module _ {x y : Float} {a b : ℕ} (m : Measured x y a b) where
+  pub first-from-t : tBits ≤ a → false ≡ zeroTest x y
   first-from-t h =
-      no-first (finite x) (finite y) (squaresBelow (units x) (units y)) (λ t. too-big (units x) (units y) (from-t x f (subst (λ (n : ℕ). tBits ≤ n % 2 ^ 63) p h) t))
+      no-first (finite x) (finite y) (squaresBelow (magnitude x) (magnitude y)) (λ t. too-big (magnitude x) (magnitude y) (from-t x (m .fits-x) (subst (λ (n : ℕ). tBits ≤ n) (m .bits-x) h) t))
 
-  pub second-from-t : tBits ≤ b % 2 ^ 63 → false ≡ zeroTest x y
+  pub second-from-t : tBits ≤ b → false ≡ zeroTest x y
   second-from-t h =
-      no-second (finite x) (finite y) (squaresBelow (units x) (units y)) (λ t. too-big-2 (units x) (units y) (from-t y g (subst (λ (n : ℕ). tBits ≤ n % 2 ^ 63) q h) t))
+      no-second (finite x) (finite y) (squaresBelow (magnitude x) (magnitude y)) (λ t. too-big-2 (magnitude x) (magnitude y) (from-t y (m .fits-y) (subst (λ (n : ℕ). tBits ≤ n) (m .bits-y) h) t))
 
-  pub both-below-half : a % 2 ^ 63 < halfBits → b % 2 ^ 63 < halfBits → true ≡ zeroTest x y
+  pub both-below-half : a < halfBits → b < halfBits → true ≡ zeroTest x y
   both-below-half h k =
-      let hx = subst (λ (n : ℕ). n % 2 ^ 63 < halfBits) p h in
-      let hy = subst (λ (n : ℕ). n % 2 ^ 63 < halfBits) q k in
-      sym (small-enough (units x) (units y) (below-half x f hx) (below-half y g hy))
-      ∙ yes-both (finite x) (finite y) (squaresBelow (units x) (units y)) (below-is-finite x (lt-of-lt-of-le hx (lit≤ tt))) (below-is-finite y (lt-of-lt-of-le hy (lit≤ tt)))
+      let hx = subst (λ (n : ℕ). n < halfBits) (m .bits-x) h in
+      let hy = subst (λ (n : ℕ). n < halfBits) (m .bits-y) k in
+      sym (small-enough (magnitude x) (magnitude y) (below-half x (m .fits-x) hx) (below-half y (m .fits-y) hy))
+      ∙ yes-both (finite x) (finite y) (squaresBelow (magnitude x) (magnitude y)) (below-is-finite x (lt-of-lt-of-le hx (lit≤ tt))) (below-is-finite y (lt-of-lt-of-le hy (lit≤ tt)))
 
   -- what `squares_below` is handed and says, where both are below T
-  pub by-squares : (r : Bool) → a % 2 ^ 63 < tBits → b % 2 ^ 63 < tBits
-      → (unitsOfBits (a % 2 ^ 63 % 2 ^ 63) < units threshold → unitsOfBits (b % 2 ^ 63 % 2 ^ 63) < units threshold → r ≡ squaresBelow (unitsOfBits (a % 2 ^ 63 % 2 ^ 63)) (unitsOfBits (b % 2 ^ 63 % 2 ^ 63)))
+  pub by-squares : (r : Bool) → a < tBits → b < tBits
+      → (magnitudeOfBits (a % 2 ^ 63) < magnitude threshold → magnitudeOfBits (b % 2 ^ 63) < magnitude threshold → r ≡ squaresBelow (magnitudeOfBits (a % 2 ^ 63)) (magnitudeOfBits (b % 2 ^ 63)))
       → r ≡ zeroTest x y
   by-squares r h k e =
-      let hx = subst (λ (n : ℕ). n % 2 ^ 63 < tBits) p h in
-      let hy = subst (λ (n : ℕ). n % 2 ^ 63 < tBits) q k in
-      let fx = below-is-finite x hx in
-      let fy = below-is-finite y hy in
-      let u : unitsOfBits (a % 2 ^ 63 % 2 ^ 63) ≡ units x = ap unitsOfBits (mod-mod a (2 ^ 63) ∙ ap (λ (n : ℕ). n % 2 ^ 63) p) ∙ sym (units-by-bits x f fx) in
-      let v : unitsOfBits (b % 2 ^ 63 % 2 ^ 63) ≡ units y = ap unitsOfBits (mod-mod b (2 ^ 63) ∙ ap (λ (n : ℕ). n % 2 ^ 63) q) ∙ sym (units-by-bits y g fy) in
-      e (below-t (a % 2 ^ 63 % 2 ^ 63) (omega (arith, mod-mod a (2 ^ 63)))) (below-t (b % 2 ^ 63 % 2 ^ 63) (omega (arith, mod-mod b (2 ^ 63))))
-      ∙ (λ i. squaresBelow (u i) (v i))
-      ∙ yes-both (finite x) (finite y) (squaresBelow (units x) (units y)) fx fy
+      let fx = below-is-finite x (subst (λ (n : ℕ). n < tBits) (m .bits-x) h) in
+      let fy = below-is-finite y (subst (λ (n : ℕ). n < tBits) (m .bits-y) k) in
+      let s : a % 2 ^ 63 ≡ a = omega arith in
+      let t : b % 2 ^ 63 ≡ b = omega arith in
+      let u : magnitudeOfBits (a % 2 ^ 63) ≡ magnitude x = ap magnitudeOfBits (s ∙ m .bits-x) ∙ sym (magnitude-by-bits x (m .fits-x) fx) in
+      let v : magnitudeOfBits (b % 2 ^ 63) ≡ magnitude y = ap magnitudeOfBits (t ∙ m .bits-y) ∙ sym (magnitude-by-bits y (m .fits-y) fy) in
+      e (below-t (a % 2 ^ 63) (omega arith)) (below-t (b % 2 ^ 63) (omega arith)) ∙ (λ i. squaresBelow (u i) (v i))
+      ∙ yes-both (finite x) (finite y) (squaresBelow (magnitude x) (magnitude y)) fx fy

@@ -1,16 +1,16 @@
 -- A double and its bits: the one NaN, and there and back. Assumes nothing.
 use mathlib.Core.Path.{_≡_, refl, sym, ap, _∙_, subst}
-use mathlib.Core.Bool.{Bool, true, false, not, _&&_}
-use Prim.Native.Nat.{ℕ, _*_, _%_, _^_, _<_}
-use lib.Dec.{T, T-not, not-T, ltb, eqb, eqb-refl}
-use lib.Ieee.{Float, nan, inf, fin, up, down, isNan, ne, fits, binary64, toBits, ofBits, div}
-use lib.Ieee.Bits.{is-true, is-false, ofBits-toBits, toBits-ofBits, toBits-lt, nanBits-is, nanBits-above}
+use mathlib.Core.Bool.{Bool, true, false, not}
+use Prim.Native.Nat.{ℕ, _%_, _^_, _<_}
+use lib.Dec.{T, ltb}
+use lib.Ieee.{Float, nan, inf, fin, isNan, ne, fits, binary64, toBits, ofBits, div}
+use lib.Ieee.Bits.{ofBits-toBits, toBits-ofBits, toBits-lt, nanBits-is, nanBits-above}
 use lib.Ieee.Compare.{differs-from-itself}
-use Rattle.complex.specs.Bits.{bitsOf, doubleOf, nanBits, Canonical}
+use Rattle.complex.specs.Bits.{bitsOf, doubleOf, nanPattern, Canonical}
 
 -- ---- the NaN
 
-pub bits-of-nan : bitsOf nan ≡ nanBits
+pub bits-of-nan : bitsOf nan ≡ nanPattern
 unfolding toBits
 bits-of-nan = refl
 

@@ -5,13 +5,13 @@ use mathlib.Core.Bool.{Bool, true, false, not, _&&_}
 use mathlib.Core.List.{List, [], _∷_}
 use Prim.Native.Nat.{ℕ, _^_}
 use lib.Dec.{T, eqb}
-use lib.Ieee.{Float, binary64, add, sub, mul, div, neg, round, eq, isNan, toBits, ofBits}
+use lib.Ieee.{binary64, add, sub, mul, div, neg, round, eq, isNan, toBits, ofBits}
 use Rattle.complex.specs.declared.Complex.{Complex}
 use Rattle.complex.specs.Arithmetic.{times, over, negated}
 use Rattle.complex.specs.Bits.{bitsOf, doubleOf}
 use Rattle.complex.specs.Constants.{ofParts, zeroNumber, oneNumber, twoNumber, minusOneNumber, piNumber, nanNumber}
 use Rattle.complex.specs.Equality.{identicalDoubles, equalDoubles, classOf}
-use Rattle.complex.specs.Zero.{units, threshold, squaresBelow, isZero, isOne}
+use Rattle.complex.specs.Zero.{magnitude, threshold, squaresBelow, isZero, isOne}
 
 -- both parts of a number have these bits
 abbrev hasBits : Complex → ℕ → ℕ → Bool
@@ -63,7 +63,7 @@ zeros : T (all
     ∷ not (isZero (ofParts 0 0xFFF0_0000_0000_0000))
     ∷ not (isZero (ofParts 0x7FF8_0000_0000_0000 0))
     ∷ []))
-unfolding all isZero squaresBelow units ofBits
+unfolding all isZero squaresBelow magnitude ofBits
 zeros = tt
 
 ones : T (all
@@ -72,7 +72,7 @@ ones : T (all
     ∷ not (isOne (ofParts 0 0x3FF0_0000_0000_0000))
     ∷ not (isOne (ofParts 0xBFF0_0000_0000_0000 0))
     ∷ []))
-unfolding all isOne isZero squaresBelow units sub ofBits
+unfolding all isOne isZero squaresBelow magnitude sub ofBits
 ones = tt
 
 -- (1+2i)(3+4i) = -5+10i; (-5+10i)/(3+4i) = 1+2i; 1/0 is NaN in both parts

@@ -6,7 +6,7 @@ use Prim.Native.Nat.{ℕ}
 use lib.Dec.{T, eqb, eqb→eq, eqb-refl}
 use lib.Ieee.{Float, binary64}
 use lib.Ieee.Bits.{ofBits-fits}
-use lib.Ieee.Fits.{and-i, and-l, and-r, eq→eqb, add-fits, sub-fits, mul-fits, div-fits, neg-fits}
+use lib.Ieee.Fits.{and-i, and-l, and-r, eq→eqb, add-fits, sub-fits, div-fits, neg-fits}
 use Rattle.complex.specs.declared.Complex.{Complex}
 use Rattle.complex.specs.Arithmetic.{_⊕_, _⊖_, _⊗_, plus, minus, times, over, negated}
 use Rattle.complex.specs.Bits.{bitsOf, Canonical, Fitting}

@@ -1,7 +1,7 @@
 -- Significands and scales: what leading zeros make of a magnitude, that a magnitude has one such form, and where it lies below T.
 -- Assumes nothing.
 use mathlib.Core.Path.{_≡_, refl, sym, ap, _∙_, subst}
-use mathlib.Core.Logic.{_⊎_, inl, inr}
+use mathlib.Core.Logic.{inl, inr}
 use Prim.Native.Nat.{ℕ, zero, suc, min, _+_, _-_, _*_, _/_, _%_, _^_, _≤_, _<_}
 use native.Mathlib.Nat.{add-comm, mul-one, mul-assoc, mul-comm, mul-left-comm, mul-right-comm, pow-suc, lt-trans, lt-of-le-of-lt, lt-of-lt-of-le, lt-of-not-le, not-le-of-lt, le-trans, le-of-eq, mul-le-mul, mul-le-mul-left, mul-le-mul-right, mul-lt-mul-of-pos-right, lt-of-mul-lt-mul-right, eq-of-mul-eq-mul-right, zero-lt-suc}
 use native.Mathlib.Omega.{arith}
@@ -9,7 +9,7 @@ use native.Mathlib.Decide.{decLt}
 use lib.Pow.{pow-pos, pow-add, pow-mono, shl-lt, shl-exact}
 use lib.Count.{leadingZeros, leading-of-zero, leading-top}
 use Rattle.complex.specs.declared.parts.Part.{Part}
-use Rattle.complex.specs.Parts.{unitsOfFields, unitsOfBits, Scaled}
+use Rattle.complex.specs.Parts.{magnitudeOfFields, magnitudeOfBits, Scaled}
 use Rattle.complex.proofs.Cut.{Placed}
 
 -- ---- the highest set bit at bit 52
@@ -66,8 +66,8 @@ scaled (suc m) e h z = some (suc m) e (zero-lt-suc m) h
 -- ---- the fields of a double's bits
 
 -- with the leading digit that is not written
-digits-of : (x t : ℕ) → unitsOfFields x t ≡ (min x 1 * 2 ^ 52 + t) * 2 ^ (x - min x 1)
-unfolding unitsOfFields
+digits-of : (x t : ℕ) → magnitudeOfFields x t ≡ (min x 1 * 2 ^ 52 + t) * 2 ^ (x - min x 1)
+unfolding magnitudeOfFields
 digits-of zero t = let e : t ≡ (min 0 1 * 2 ^ 52 + t) * 1 = omega arith in e
 digits-of (suc x) t =
     let e : min (suc x) 1 ≡ 1 = omega arith in
@@ -75,14 +75,14 @@ digits-of (suc x) t =
     let b : x ≡ suc x - min (suc x) 1 = omega arith in
     λ i. a i * 2 ^ b i
 
-pub scaled-fields : (b h : ℕ) → h ≡ min (b / 2 ^ 52 % 2048) 1 → Scaled (unitsOfBits (b % 2 ^ 63)) (placed (h * 2 ^ 52 + b % 2 ^ 52) (b / 2 ^ 52 % 2048 - h))
-unfolding unitsOfBits
+pub scaled-fields : (b h : ℕ) → h ≡ min (b / 2 ^ 52 % 2048) 1 → Scaled (magnitudeOfBits (b % 2 ^ 63)) (placed (h * 2 ^ 52 + b % 2 ^ 52) (b / 2 ^ 52 % 2048 - h))
+unfolding magnitudeOfBits
 scaled-fields b h e =
     let x = b % 2 ^ 63 / 2 ^ 52 in
     let t = b % 2 ^ 63 % 2 ^ 52 in
     let p : x ≡ b / 2 ^ 52 % 2048 = omega arith in
     let q : t ≡ b % 2 ^ 52 = omega arith in
-    let u : unitsOfFields x t ≡ (h * 2 ^ 52 + b % 2 ^ 52) * 2 ^ (b / 2 ^ 52 % 2048 - h) =
+    let u : magnitudeOfFields x t ≡ (h * 2 ^ 52 + b % 2 ^ 52) * 2 ^ (b / 2 ^ 52 % 2048 - h) =
     digits-of x t ∙ (λ i. (min (p i) 1 * 2 ^ 52 + q i) * 2 ^ (p i - min (p i) 1)) ∙ ap (λ (k : ℕ). (k * 2 ^ 52 + b % 2 ^ 52) * 2 ^ (b / 2 ^ 52 % 2048 - k)) (sym e) in
     subst (λ (n : ℕ). Scaled n (placed (h * 2 ^ 52 + b % 2 ^ 52) (b / 2 ^ 52 % 2048 - h))) (sym u)
     (scaled (h * 2 ^ 52 + b % 2 ^ 52) (b / 2 ^ 52 % 2048 - h) (omega arith) (λ z. omega arith))

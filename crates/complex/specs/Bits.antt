@@ -12,13 +12,13 @@ bitsOf x = toBits binary64 x
 abbrev pub doubleOf : ℕ → Float
 doubleOf b = ofBits binary64 b
 
-abbrev pub nanBits : ℕ
-nanBits = 0x7FF8_0000_0000_0000
+abbrev pub nanPattern : ℕ
+nanPattern = 0x7FF8_0000_0000_0000
 
 -- 64 bits of a double, and of a NaN only the one pattern
 pub record Canonical (b : ℕ) : Type 0 where
   pub wide : b < 2 ^ 64
-  pub oneNan : T (isNan (doubleOf b)) → b ≡ nanBits
+  pub oneNan : T (isNan (doubleOf b)) → b ≡ nanPattern
 
 -- both parts are doubles, as those of every `Complex` that a program holds are
 pub record Fitting (z : Complex) : Type 0 where

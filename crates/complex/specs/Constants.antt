@@ -1,7 +1,7 @@
 -- The constants of the port, by the bits of their parts. Definitions only.
 use Prim.Native.Nat.{ℕ}
 use Rattle.complex.specs.declared.Complex.{Complex}
-use Rattle.complex.specs.Bits.{doubleOf, nanBits}
+use Rattle.complex.specs.Bits.{doubleOf, nanPattern}
 
 -- the complex number with parts of these bits
 abbrev pub ofParts : ℕ → ℕ → Complex
@@ -26,4 +26,4 @@ piNumber = ofParts 0x4009_21FB_5444_2D18 0
 
 -- arm 10: NaN, imaginary 0
 abbrev pub nanNumber : Complex
-nanNumber = ofParts nanBits 0
+nanNumber = ofParts nanPattern 0

@@ -5,14 +5,14 @@ use mathlib.Core.Path.{_≡_}
 use Rattle.complex.specs.declared.parts.Part.{Part}
 
 -- an exponent's field x and a fraction t: a field of 0 has no leading digit, and counts as a field of 1
-unfoldable pub unitsOfFields : ℕ → ℕ → ℕ
-unitsOfFields zero t = t
-unitsOfFields (suc x) t = (2 ^ 52 + t) * 2 ^ x
+unfoldable pub magnitudeOfFields : ℕ → ℕ → ℕ
+magnitudeOfFields zero t = t
+magnitudeOfFields (suc x) t = (2 ^ 52 + t) * 2 ^ x
 
--- the units of the double whose bits without the sign are b
-unfoldable pub unitsOfBits : ℕ → ℕ
-unfolding unitsOfFields
-unitsOfBits b = unitsOfFields (b / 2 ^ 52) (b % 2 ^ 52)
+-- the magnitude of the double whose bits without the sign are b
+unfoldable pub magnitudeOfBits : ℕ → ℕ
+unfolding magnitudeOfFields
+magnitudeOfBits b = magnitudeOfFields (b / 2 ^ 52) (b % 2 ^ 52)
 
 -- n is significand * 2 ^ scale / 2 ^ 53, with bit 52 of the significand as its highest set bit, and p is 0 and 0 if n is 0
 pub record Scaled (n : ℕ) (p : Part) : Type 0 where

@@ -1,6 +1,7 @@
 // A double and its 64 bits, with one pattern for every NaN, so that doubles are stored, written and
 // compared as whole numbers; and one number for each class of equal doubles.
 ghost use mathlib.Core.Path.{_≡_};
+ghost use Prim.Native.Nat.{_%_, _^_};
 ghost use Rattle.complex.specs.Bits.{bitsOf, doubleOf};
 ghost use Rattle.complex.specs.Equality.{classOf, classOfBits};
 
@@ -17,6 +18,13 @@ pub fn to_bits(x: f64) -> u64
         return 0x7FF8_0000_0000_0000;
     }
     f64::to_bits(x)
+}
+
+// The bits of x without the sign: they rise with the magnitude.
+pub fn magnitude_bits(x: f64) -> u64
+    ensures { λ r. ⌜ r ≡ bitsOf x % 2 ^ 63 ⌝ }
+{
+    to_bits(x) % SIGN
 }
 
 // The double with these bits; every NaN pattern gives the NaN.

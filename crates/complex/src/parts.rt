@@ -2,7 +2,7 @@
 // subnormals included.
 ghost use mathlib.Core.Path.{_≡_};
 ghost use Prim.Native.Nat.{min, _%_, _^_};
-ghost use Rattle.complex.specs.Parts.{unitsOfBits, Scaled};
+ghost use Rattle.complex.specs.Parts.{magnitudeOfBits, Scaled};
 
 // The weight of the exponent's field, and of the leading digit that a normal number does not write.
 const HIDDEN: u64 = 0x10_0000_0000_0000;
@@ -22,7 +22,7 @@ fn hidden_digit(field: u64) -> u64
 
 // The magnitude of the double with these bits, the sign left out.
 pub fn part_of(bits: u64) -> Part
-    ensures { λ r. ⌜ Scaled (unitsOfBits (bits % 2 ^ 63)) r ⌝ }
+    ensures { λ r. ⌜ Scaled (magnitudeOfBits (bits % 2 ^ 63)) r ⌝ }
 {
     let field = bits / HIDDEN % 2048;
     let hidden = hidden_digit(field);

@@ -2,8 +2,8 @@
 // to T's last place, and what falls below it cannot change the answer (proofs/Cut.antt says why).
 ghost use mathlib.Core.Path.{_≡_};
 ghost use Prim.Native.Nat.{_-_, _*_, _/_, _%_, _^_, _<_};
-ghost use Rattle.complex.specs.Zero.{units, threshold, squaresBelow};
-ghost use Rattle.complex.specs.Parts.{unitsOfBits};
+ghost use Rattle.complex.specs.Zero.{magnitude, threshold, squaresBelow};
+ghost use Rattle.complex.specs.Parts.{magnitudeOfBits};
 ghost use Rattle.complex.specs.Wide as Limbs;
 use super::parts::Part;
 use super::parts::part_of;
@@ -36,8 +36,8 @@ fn aligned(p: Part) -> Wide
 
 // Of two magnitudes below T, given by their bits. The signs are left out.
 pub fn squares_below(re: u64, im: u64) -> bool
-    ensures { λ r. ⌜ (unitsOfBits (re % 2 ^ 63) < units threshold → unitsOfBits (im % 2 ^ 63) < units threshold
-        → r ≡ squaresBelow (unitsOfBits (re % 2 ^ 63)) (unitsOfBits (im % 2 ^ 63))) ⌝ }
+    ensures { λ r. ⌜ (magnitudeOfBits (re % 2 ^ 63) < magnitude threshold → magnitudeOfBits (im % 2 ^ 63) < magnitude threshold
+        → r ≡ squaresBelow (magnitudeOfBits (re % 2 ^ 63)) (magnitudeOfBits (im % 2 ^ 63))) ⌝ }
 {
     let x = aligned(part_of(re));
     let y = aligned(part_of(im));

@@ -2,10 +2,8 @@
 ghost use mathlib.Core.Path.{_≡_};
 ghost use Rattle.complex.specs.Zero.{isZero, isOne};
 use super::Complex;
-use super::bits::to_bits;
+use super::bits::magnitude_bits;
 use super::squares::squares_below;
-
-const SIGN: u64 = 0x8000_0000_0000_0000;
 
 const T_BITS: u64 = 0x3DDB_7CDF_D9D7_BDBB;
 
@@ -16,8 +14,8 @@ const HALF_T_BITS: u64 = 0x3DCB_7CDF_D9D7_BDBB;
 pub fn is_zero(z: Complex) -> bool
     ensures { λ r. ⌜ r ≡ isZero z ⌝ }
 {
-    let re = to_bits(z.re) % SIGN;
-    let im = to_bits(z.im) % SIGN;
+    let re = magnitude_bits(z.re);
+    let im = magnitude_bits(z.im);
     if T_BITS <= re {
         return false;
     }

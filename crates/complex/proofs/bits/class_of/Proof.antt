@@ -5,15 +5,9 @@ use Rattle.complex.specs.Equality.{classOf, classOfBits}
 use Rattle.complex.proofs.bits.class_of.Statement.{statement}
 use Rattle.complex.proofs.bits.class_of.Tie as tie
 
-to-bits-requires : tie.Need-to-bits-requires
-to-bits-requires c κs = search needs
-
-class-of-bits-requires : tie.Need-class-of-bits-requires
-class-of-bits-requires c κs = search needs
-
 returns : tie.Need-returns
 unfolding classOf
 returns c = c .class-of-bits .ensures ∙ ap classOfBits (c .before .to-bits .ensures)
 
 pub class-of-spec : {M : Type 1} → statement M
-class-of-spec = tie.close (tie.spec to-bits-requires class-of-bits-requires returns)
+class-of-spec = tie.close (tie.spec (λ c κs. search needs) (λ c κs. search needs) returns)

@@ -22,8 +22,5 @@ float-from-bits-result c =
     let b = c .before .args .bits in
     subst (λ (t : Bool). T (not t)) (sym (nanBits-above binary64 b ∙ le-ltb 0x7FF0_0000_0000_0000 (b % 2 ^ 63) (c .if1 .left))) tt
 
-returns-2 : tie.Need-returns-2
-returns-2 c = search needs
-
 pub from-bits-spec : {M : Type 1} → statement M
-from-bits-spec = tie.close (tie.spec returns float-from-bits-result returns-2)
+from-bits-spec = tie.close (tie.spec returns float-from-bits-result (λ c. search needs))

@@ -5,12 +5,6 @@ use Rattle.complex.proofs.Both.{both-yes, first-no}
 use Rattle.complex.proofs.equality.equal.Statement.{statement}
 use Rattle.complex.proofs.equality.equal.Tie as tie
 
-equal-doubles-requires : tie.Need-equal-doubles-requires
-equal-doubles-requires c κs = search needs
-
-equal-doubles-requires-2 : tie.Need-equal-doubles-requires-2
-equal-doubles-requires-2 c κs = search needs
-
 returns : tie.Need-returns
 unfolding equal
 returns c = both-yes (c .before .if1 .taken) (c .before .before .equal-doubles .ensures) (c .equal-doubles2 .ensures)
@@ -22,4 +16,4 @@ returns-2 c =
     first-no (equalDoubles (s .x .im) (s .y .im)) (c .if1 .left) (c .before .equal-doubles .ensures)
 
 pub equal-spec : {M : Type 1} → statement M
-equal-spec = tie.close (tie.spec equal-doubles-requires equal-doubles-requires-2 returns returns-2)
+equal-spec = tie.close (tie.spec (λ c κs. search needs) (λ c κs. search needs) returns returns-2)

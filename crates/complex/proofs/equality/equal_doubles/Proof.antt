@@ -2,16 +2,9 @@
 use borrow.Author.Needs.{needs}
 use mathlib.Core.Path.{sym, _∙_, subst}
 use lib.Dec.{T, eqb}
-use lib.Ieee.{binary64, fits}
 use Rattle.complex.proofs.Classes.{equal-is-same-class}
 use Rattle.complex.proofs.equality.equal_doubles.Statement.{statement}
 use Rattle.complex.proofs.equality.equal_doubles.Tie as tie
-
-class-of-requires : tie.Need-class-of-requires
-class-of-requires c κs = search needs
-
-class-of-requires-2 : tie.Need-class-of-requires-2
-class-of-requires-2 c κs = search needs
 
 returns : tie.Need-returns
 returns c =
@@ -20,4 +13,4 @@ returns c =
     ∙ sym (equal-is-same-class (s .args .x) (s .args .y) (subst T (sym (s .good .0 .1)) tt) (subst T (sym (s .good .1 .0 .1)) tt))
 
 pub equal-doubles-spec : {M : Type 1} → statement M
-equal-doubles-spec = tie.close (tie.spec class-of-requires class-of-requires-2 returns)
+equal-doubles-spec = tie.close (tie.spec (λ c κs. search needs) (λ c κs. search needs) returns)

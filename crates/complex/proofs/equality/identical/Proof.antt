@@ -5,12 +5,6 @@ use Rattle.complex.proofs.Both.{both-yes, first-no}
 use Rattle.complex.proofs.equality.identical.Statement.{statement}
 use Rattle.complex.proofs.equality.identical.Tie as tie
 
-identical-doubles-requires : tie.Need-identical-doubles-requires
-identical-doubles-requires c κs = search needs
-
-identical-doubles-requires-2 : tie.Need-identical-doubles-requires-2
-identical-doubles-requires-2 c κs = search needs
-
 returns : tie.Need-returns
 unfolding identical
 returns c = both-yes (c .before .if1 .taken) (c .before .before .identical-doubles .ensures) (c .identical-doubles2 .ensures)
@@ -22,4 +16,4 @@ returns-2 c =
     first-no (identicalDoubles (s .x .im) (s .y .im)) (c .if1 .left) (c .before .identical-doubles .ensures)
 
 pub identical-spec : {M : Type 1} → statement M
-identical-spec = tie.close (tie.spec identical-doubles-requires identical-doubles-requires-2 returns returns-2)
+identical-spec = tie.close (tie.spec (λ c κs. search needs) (λ c κs. search needs) returns returns-2)

@@ -5,15 +5,9 @@ use Rattle.complex.specs.Equality.{identicalDoubles}
 use Rattle.complex.proofs.equality.identical_doubles.Statement.{statement}
 use Rattle.complex.proofs.equality.identical_doubles.Tie as tie
 
-to-bits-requires : tie.Need-to-bits-requires
-to-bits-requires c κs = search needs
-
-to-bits-requires-2 : tie.Need-to-bits-requires-2
-to-bits-requires-2 c κs = search needs
-
 returns : tie.Need-returns
 unfolding identicalDoubles
 returns c = λ i. eqb (c .before .to-bits .ensures i) (c .to-bits2 .ensures i)
 
 pub identical-doubles-spec : {M : Type 1} → statement M
-identical-doubles-spec = tie.close (tie.spec to-bits-requires to-bits-requires-2 returns)
+identical-doubles-spec = tie.close (tie.spec (λ c κs. search needs) (λ c κs. search needs) returns)

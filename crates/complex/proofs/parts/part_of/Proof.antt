@@ -2,7 +2,7 @@
 -- the highest set bit to bit 52. Assumes nothing.
 use borrow.Author.Needs.{needs}
 use native.Mathlib.Omega.{arith}
-use Prim.Native.Nat.{ℕ, _+_, _*_, _%_, _^_, _≤_, _<_}
+use Prim.Native.Nat.{ℕ, _+_, _*_, _%_, _^_, _≤_}
 use lib.Count.{leadingZeros, leading-le}
 use Rattle.complex.proofs.Scaling.{eleven, scaled-fields}
 use Rattle.complex.proofs.parts.part_of.Statement.{statement}
@@ -14,15 +14,6 @@ digits c = c .hidden-digit .result * 2 ^ 52 + c .before .args .bits % 2 ^ 52
 few : (c : tie.After-hidden-digit) → 11 ≤ leadingZeros 64 (digits c)
 unfolding digits
 few c = eleven (digits c) (let e = c .hidden-digit .ensures in omega arith)
-
-hidden-digit-requires : tie.Need-hidden-digit-requires
-hidden-digit-requires c κs = search needs
-
-mul-digits : tie.Need-mul-digits
-mul-digits c = search needs
-
-add-digits : tie.Need-add-digits
-add-digits c = search needs
 
 sub-t8 : tie.Need-sub-t8
 unfolding digits
@@ -36,18 +27,9 @@ shl-t7 : tie.Need-shl-t7
 unfolding digits
 shl-t7 c = omega (arith, leading-le 64 (digits c))
 
-sub-t9 : tie.Need-sub-t9
-sub-t9 c = search needs
-
 sub-t10 : tie.Need-sub-t10
 unfolding digits
 sub-t10 c = leading-le 64 (digits c)
-
-cast-t11 : tie.Need-cast-t11
-cast-t11 c = search needs
-
-add-t12 : tie.Need-add-t12
-add-t12 c = search needs
 
 returns : tie.Need-returns
 returns c = scaled-fields (c .before .args .bits) (c .hidden-digit .result) (c .hidden-digit .ensures)
@@ -56,14 +38,14 @@ pub part-of-spec : {M : Type 1} → statement M
 part-of-spec =
     tie.close
     (tie.spec
-    hidden-digit-requires
-    mul-digits
-    add-digits
+    (λ c κs. search needs)
+    (λ c. search needs)
+    (λ c. search needs)
     sub-t8
     cast-t6
     shl-t7
-    sub-t9
+    (λ c. search needs)
     sub-t10
-    cast-t11
-    add-t12
+    (λ c. search needs)
+    (λ c. search needs)
     returns)

@@ -14,18 +14,6 @@ use Rattle.complex.proofs.squares.aligned.Tie as tie
 doubled : (k : ℕ) → 2 ^ (2 * k) ≡ 2 ^ k * 2 ^ k
 doubled k = ap (λ (n : ℕ). 2 ^ n) (two-mul k) ∙ pow-add 2 k k
 
-places-below-requires : tie.Need-places-below-requires
-places-below-requires c κs = search needs
-
-product-requires : tie.Need-product-requires
-product-requires c κs = search needs
-
-mul-shifted : tie.Need-mul-shifted
-mul-shifted c = search needs
-
-shifted-requires : tie.Need-shifted-requires
-shifted-requires c κs = search needs
-
 returns : tie.Need-returns
 returns c =
     let s = c .before .before .before in
@@ -37,4 +25,4 @@ returns c =
     ∙ ap (λ (d : ℕ). wide (n * n / d)) (doubled (1041 - s .args .p .scale))
 
 pub aligned-spec : {M : Type 1} → statement M
-aligned-spec = tie.close (tie.spec places-below-requires product-requires mul-shifted shifted-requires returns)
+aligned-spec = tie.close (tie.spec (λ c κs. search needs) (λ c κs. search needs) (λ c. search needs) (λ c κs. search needs) returns)

@@ -4,32 +4,11 @@ use borrow.Author.Needs.{needs}
 use mathlib.Core.Path.{sym, _∙_}
 use Prim.Native.Nat.{_*_, _%_, _^_}
 use lib.Dec.{lit<}
-use Rattle.complex.specs.Parts.{unitsOfBits}
+use Rattle.complex.specs.Parts.{magnitudeOfBits}
 use Rattle.complex.proofs.Decide.{significand, cut-square, cut-fits, by-cut-squares}
 use Rattle.complex.proofs.Limbs.{sum-less}
 use Rattle.complex.proofs.squares.squares_below.Statement.{statement}
 use Rattle.complex.proofs.squares.squares_below.Tie as tie
-
-part-of-requires : tie.Need-part-of-requires
-part-of-requires c κs = search needs
-
-aligned-requires : tie.Need-aligned-requires
-aligned-requires c κs = search needs
-
-part-of-requires-2 : tie.Need-part-of-requires-2
-part-of-requires-2 c κs = search needs
-
-aligned-requires-2 : tie.Need-aligned-requires-2
-aligned-requires-2 c κs = search needs
-
-added-requires : tie.Need-added-requires
-added-requires c κs = search needs
-
-product-requires : tie.Need-product-requires
-product-requires c κs = search needs
-
-less-requires : tie.Need-less-requires
-less-requires c κs = search needs
 
 returns : tie.Need-returns
 returns c = λ re im.
@@ -39,8 +18,8 @@ returns c = λ re im.
     let y = c .before .before .before .aligned2 in
     let p = c .before .before .before .before .before .before .part-of in
     let q = c .before .before .before .before .part-of2 in
-    let A = unitsOfBits (c .before .before .before .before .before .before .before .args .re % 2 ^ 63) in
-    let B = unitsOfBits (c .before .before .before .before .before .before .before .args .im % 2 ^ 63) in
+    let A = magnitudeOfBits (c .before .before .before .before .before .before .before .args .re % 2 ^ 63) in
+    let B = magnitudeOfBits (c .before .before .before .before .before .before .before .args .im % 2 ^ 63) in
     c .less .ensures
     ∙ sum-less (cut-square (p .result)) (cut-square (q .result)) (significand * significand) (x .result) (y .result) (sum .result) (bound .result) (cut-fits A (p .result) (p .ensures)) (cut-fits B (q .result) (q .ensures)) (lit< tt) (x .ensures) (y .ensures) (sum .ensures) (bound .ensures)
     ∙ sym (by-cut-squares A B (p .result) (q .result) (p .ensures) (q .ensures) re im)
@@ -49,11 +28,11 @@ pub squares-below-spec : {M : Type 1} → statement M
 squares-below-spec =
     tie.close
     (tie.spec
-    part-of-requires
-    aligned-requires
-    part-of-requires-2
-    aligned-requires-2
-    added-requires
-    product-requires
-    less-requires
+    (λ c κs. search needs)
+    (λ c κs. search needs)
+    (λ c κs. search needs)
+    (λ c κs. search needs)
+    (λ c κs. search needs)
+    (λ c κs. search needs)
+    (λ c κs. search needs)
     returns)

@@ -1,22 +1,10 @@
 -- `complex::wide::added` meets its contract. Assumes nothing.
 use borrow.Author.Needs.{needs}
-use mathlib.Core.Path.{ap, sym, _∙_}
+use mathlib.Core.Path.{ap, _∙_}
 use Prim.Native.Nat.{ℕ, _+_, _%_, _^_}
 use Rattle.complex.proofs.Limbs.{limbs, sum-law}
 use Rattle.complex.proofs.wide.added.Statement.{statement}
 use Rattle.complex.proofs.wide.added.Tie as tie
-
-wrapping-add-u64-requires : tie.Need-wrapping-add-u64-requires
-wrapping-add-u64-requires c κs = search needs
-
-carry-requires : tie.Need-carry-requires
-carry-requires c κs = search needs
-
-wrapping-add-u64-requires-2 : tie.Need-wrapping-add-u64-requires-2
-wrapping-add-u64-requires-2 c κs = search needs
-
-wrapping-add-u64-requires-3 : tie.Need-wrapping-add-u64-requires-3
-wrapping-add-u64-requires-3 c κs = search needs
 
 returns : tie.Need-returns
 returns c =
@@ -28,4 +16,4 @@ returns c =
     ∙ sum-law (s .x) (s .y) (h .wrapping-add-u64 .result) (k .wrapping-add-u642 .result) (h .wrapping-add-u64 .ensures) (k .wrapping-add-u642 .ensures ∙ ap (λ (n : ℕ). (h .wrapping-add-u64 .result + n) % 2 ^ 64) (r .carry .ensures))
 
 pub added-spec : {M : Type 1} → statement M
-added-spec = tie.close (tie.spec wrapping-add-u64-requires carry-requires wrapping-add-u64-requires-2 wrapping-add-u64-requires-3 returns)
+added-spec = tie.close (tie.spec (λ c κs. search needs) (λ c κs. search needs) (λ c κs. search needs) (λ c κs. search needs) returns)

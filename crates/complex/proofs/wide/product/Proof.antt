@@ -36,15 +36,9 @@ add-t12 c = record { fits = fit c .lower }
 add-t14 : tie.Need-add-t14
 add-t14 c = record { fits = fit c .high }
 
-mul-t16 : tie.Need-mul-t16
-mul-t16 c = search needs
-
-add-t18 : tie.Need-add-t18
-add-t18 c = search needs
-
 returns : tie.Need-returns
 returns c = product-law (c .args .a) (c .args .b) (c .fits .a .fits) (c .fits .b .fits)
 
 pub product-spec : {M : Type 1} → statement M
 product-spec =
-    tie.close (tie.spec mul-low mul-mid add-mid mul-top add-top mul-t10 add-t12 add-t14 mul-t16 add-t18 returns)
+    tie.close (tie.spec mul-low mul-mid add-mid mul-top add-top mul-t10 add-t12 add-t14 (λ c. search needs) (λ c. search needs) returns)

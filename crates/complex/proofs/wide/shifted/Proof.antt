@@ -8,26 +8,11 @@ use Rattle.complex.proofs.wide.shifted.Tie as tie
 returns : tie.Need-returns
 returns c = let s = c .before in shift-none (s .args .w) (omega arith) (omega arith) (s .args .j) (c .if1 .taken)
 
-shr-t6 : tie.Need-shr-t6
-shr-t6 c = search needs
-
-sub-t7 : tie.Need-sub-t7
-sub-t7 c = search needs
-
-shl-t8 : tie.Need-shl-t8
-shl-t8 c = search needs
-
-shr-t9 : tie.Need-shr-t9
-shr-t9 c = search needs
-
 add-t10 : tie.Need-add-t10
 add-t10 c = let s = c .before .before in record { fits = shift-fits (s .args .w) (omega arith) (omega arith) (s .args .j) (c .if2 .taken) }
 
 returns-2 : tie.Need-returns-2
 returns-2 c = let s = c .before .before in shift-some (s .args .w) (omega arith) (omega arith) (s .args .j) (c .if2 .taken)
-
-shr-t12 : tie.Need-shr-t12
-shr-t12 c = search needs
 
 returns-3 : tie.Need-returns-3
 returns-3 c = let s = c .before .before .before in shift-limb (s .args .w) (omega arith) (omega arith) (s .args .j) (c .before .if2 .left)
@@ -36,4 +21,4 @@ returns-4 : tie.Need-returns-4
 returns-4 c = let s = c .before .before .before in shift-all (s .args .w) (omega arith) (omega arith) (s .args .j) (c .if3 .left)
 
 pub shifted-spec : {M : Type 1} → statement M
-shifted-spec = tie.close (tie.spec returns shr-t6 sub-t7 shl-t8 shr-t9 add-t10 returns-2 shr-t12 returns-3 returns-4)
+shifted-spec = tie.close (tie.spec returns (λ c. search needs) (λ c. search needs) (λ c. search needs) (λ c. search needs) add-t10 returns-2 (λ c. search needs) returns-3 returns-4)

@@ -4,12 +4,9 @@ use Rattle.complex.specs.Zero.{isOne}
 use Rattle.complex.proofs.zero.is_one.Statement.{statement}
 use Rattle.complex.proofs.zero.is_one.Tie as tie
 
-is-zero-requires : tie.Need-is-zero-requires
-is-zero-requires c κs = search needs
-
 returns : tie.Need-returns
 unfolding isOne
 returns c = c .is-zero .ensures
 
 pub is-one-spec : {M : Type 1} → statement M
-is-one-spec = tie.close (tie.spec is-zero-requires returns)
+is-one-spec = tie.close (tie.spec (λ c κs. search needs) returns)
