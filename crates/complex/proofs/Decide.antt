@@ -13,7 +13,7 @@ use borrow.Author.Tests.{lt-ltb, le-ltb}
 use Rattle.complex.specs.declared.parts.Part.{Part}
 use Rattle.complex.specs.Bits.{bitsOf}
 use Rattle.complex.specs.Zero.{magnitude, threshold, squaresBelow}
-use Rattle.complex.specs.Parts.{magnitudeOfBits, Scaled}
+use Rattle.complex.specs.Parts.{magnitudeOfFields, magnitudeOfBits, Scaled, cutSquare}
 use Rattle.complex.proofs.Cut.{cut, cut-significand, square-lt}
 use Rattle.complex.proofs.Magnitude.{magnitude-by-bits, rises, not-below}
 use Rattle.complex.proofs.Scaling.{in-places, lies}
@@ -34,37 +34,34 @@ unfolding magnitude ofBits
 t-magnitude = refl
 
 t-by-bits : magnitude threshold ≡ magnitudeOfBits tBits
-unfolding magnitude ofBits magnitudeOfBits
+unfolding magnitude ofBits magnitudeOfBits magnitudeOfFields
 t-by-bits = refl
 
 t-by-half : magnitude threshold ≡ 2 * magnitudeOfBits halfBits
-unfolding magnitude ofBits magnitudeOfBits
+unfolding magnitude ofBits magnitudeOfBits magnitudeOfFields
 t-by-half = refl
 
 -- ---- the squares cut off at T's last place
 
-abbrev pub cut-square : Part → ℕ
-cut-square p = p .significand * p .significand / (2 ^ (1041 - p .scale) * 2 ^ (1041 - p .scale))
-
--- it is far below 2 ^ 127
-pub cut-fits : (A : ℕ) (p : Part) → Scaled A p → cut-square p < 2 ^ 127
+-- a cut square is far below 2 ^ 127
+pub cut-fits : (A : ℕ) (p : Part) → Scaled A p → cutSquare p < 2 ^ 127
 cut-fits A p a =
     let n = p .significand in
     lt-of-le-of-lt (div-le-self (n * n) (2 ^ (1041 - p .scale) * 2 ^ (1041 - p .scale))) (lt-of-lt-of-le (square-lt n (2 ^ 53) (a .small)) (lit≤ tt))
 
 -- over T as a variable: its powers of two are computed once, here
-at-t : (t : ℕ) → t ≡ significand * 2 ^ 988 → (A B : ℕ) (p q : Part) → Scaled A p → Scaled B q → A < t → B < t → ltb (A * A + B * B) (t * t) ≡ ltb (cut-square p + cut-square q) (significand * significand)
+at-t : (t : ℕ) → t ≡ significand * 2 ^ 988 → (A B : ℕ) (p q : Part) → Scaled A p → Scaled B q → A < t → B < t → ltb (A * A + B * B) (t * t) ≡ ltb (cutSquare p + cutSquare q) (significand * significand)
 at-t t e A B p q a b ha hb =
     ap (λ (n : ℕ). ltb (A * A + B * B) (n * n)) e
     ∙ cut (2 ^ 988) significand (2 ^ 1040) (pow-pos 988) (lit≤ tt) A B (lies 988 significand t e (lit< tt) A p a ha) (lies 988 significand t e (lit< tt) B q b hb)
     ∙ (λ i. ltb (square A p a ha i + square B q b hb i) (significand * significand))
   where
-    square : (C : ℕ) (r : Part) → Scaled C r → C < t → C * C / (2 ^ 988 * 2 ^ 988) ≡ cut-square r
+    square : (C : ℕ) (r : Part) → Scaled C r → C < t → C * C / (2 ^ 988 * 2 ^ 988) ≡ cutSquare r
     square C r c h = cut-significand C (2 ^ (1041 - r .scale)) (r .significand) (2 ^ 988) (pow-pos (1041 - r .scale)) (pow-pos 988) (in-places 988 significand t e (lit< tt) C r c h)
 
-pub by-cut-squares : (A B : ℕ) (p q : Part) → Scaled A p → Scaled B q → A < magnitude threshold → B < magnitude threshold → squaresBelow A B ≡ ltb (cut-square p + cut-square q) (significand * significand)
+pub by-cutSquares : (A B : ℕ) (p q : Part) → Scaled A p → Scaled B q → A < magnitude threshold → B < magnitude threshold → squaresBelow A B ≡ ltb (cutSquare p + cutSquare q) (significand * significand)
 unfolding squaresBelow
-by-cut-squares = at-t (magnitude threshold) t-magnitude
+by-cutSquares = at-t (magnitude threshold) t-magnitude
 
 -- ---- by the bits alone
 

@@ -10,7 +10,7 @@ use Rattle.complex.specs.declared.Complex.{Complex}
 use Rattle.complex.specs.Arithmetic.{times, over, negated}
 use Rattle.complex.specs.Bits.{bitsOf, doubleOf}
 use Rattle.complex.specs.Constants.{ofParts, zeroNumber, oneNumber, twoNumber, minusOneNumber, piNumber, nanNumber}
-use Rattle.complex.specs.Equality.{identicalDoubles, equalDoubles, classOf}
+use Rattle.complex.specs.Equality.{identicalDoubles, equalDoubles, classOf, classOfBits}
 use Rattle.complex.specs.Zero.{magnitude, threshold, squaresBelow, isZero, isOne}
 
 -- both parts of a number have these bits
@@ -47,7 +47,7 @@ equalities : T (all
     ∷ not (equalDoubles (doubleOf 0x7FF0_0000_0000_0000) (doubleOf 0xFFF0_0000_0000_0000))
     ∷ eqb (classOf (doubleOf 0x8000_0000_0000_0000)) 0
     ∷ []))
-unfolding all equalDoubles identicalDoubles classOf eq isNan toBits ofBits
+unfolding all equalDoubles identicalDoubles classOf classOfBits eq isNan toBits ofBits
 equalities = tt
 
 -- T itself is not zero in either part, the double below it is, also beside the least subnormal, and so is 1e-11; on the diagonal the

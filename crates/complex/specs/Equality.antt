@@ -27,5 +27,4 @@ unfoldable pub classOfBits : ℕ → ℕ
 classOfBits b = cond (eqb b 0x8000_0000_0000_0000) 0 b
 
 unfoldable pub classOf : Float → ℕ
-unfolding classOfBits
 classOf x = classOfBits (bitsOf x)

@@ -1,9 +1,9 @@
 // Whether a sum of two squares is below T squared, exactly and in 128 bits: both squares are aligned
 // to T's last place, and what falls below it cannot change the answer (proofs/Cut.antt says why).
 ghost use mathlib.Core.Path.{_≡_};
-ghost use Prim.Native.Nat.{_-_, _*_, _/_, _%_, _^_, _<_};
+ghost use Prim.Native.Nat.{_-_, _%_, _^_, _<_};
 ghost use Rattle.complex.specs.Zero.{magnitude, threshold, squaresBelow};
-ghost use Rattle.complex.specs.Parts.{magnitudeOfBits};
+ghost use Rattle.complex.specs.Parts.{magnitudeOfBits, cutSquare};
 ghost use Rattle.complex.specs.Wide as Limbs;
 use super::parts::Part;
 use super::parts::part_of;
@@ -27,7 +27,7 @@ fn places_below(scale: u64) -> u64
 
 // The square of a magnitude, cut off at the square of T's last place.
 fn aligned(p: Part) -> Wide
-    ensures { λ r. ⌜ r ≡ Limbs.wide (p .significand * p .significand / (2 ^ (1041 - p .scale) * 2 ^ (1041 - p .scale))) ⌝ }
+    ensures { λ r. ⌜ r ≡ Limbs.wide (cutSquare p) ⌝ }
 {
     let n = p.significand;
     let k = places_below(p.scale);
