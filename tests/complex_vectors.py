@@ -1,5 +1,5 @@
 #!/usr/bin/env python3
-"""Makes the list that the program complex_vectors runs, with the right answers, in whole numbers alone: no float is used.
+"""Makes the list that the program complex_vectors runs, with the right answers, worked out in whole numbers: no float enters one.
 
     python3 tests/complex_vectors.py            writes crates/complex_vectors/stdin and stdout anew
     python3 tests/complex_vectors.py --check    only says whether they are what it would write

@@ -108,7 +108,8 @@ alike-sym (fins {s} {m} {e} {t} {n} {d} v (inr z)) = fins (sym v) (inr (other-ze
 through : (a b f : ℕ) (c d g : ℤ) → a * down d ≡ b * down c → b * down g ≡ f * down d → a * down g ≡ f * down c
 through a b f c d g p q =
     eq-of-mul-eq-mul-right (down d) (down-pos d) (a * down g) (f * down c)
-    (mul-right-comm a (down g) (down d) ∙ ap (λ (n : ℕ). n * down g) p ∙ mul-right-comm b (down c) (down g) ∙ ap (λ (n : ℕ). n * down c) q ∙ mul-right-comm f (down d) (down c))
+    (mul-right-comm a (down g) (down d) ∙ ap (λ (n : ℕ). n * down g) p
+    ∙ mul-right-comm b (down c) (down g) ∙ ap (λ (n : ℕ). n * down c) q ∙ mul-right-comm f (down d) (down c))
 
 same-sign : {s t u : Bool} (a b : ℕ) (c d : ℤ) → a * down d ≡ b * down c → (s ≡ t) ⊎ (a ≡ 0) → (t ≡ u) ⊎ (b ≡ 0) → (s ≡ u) ⊎ (a ≡ 0)
 same-sign a b c d v (inl p) (inl q) = inl (p ∙ q)

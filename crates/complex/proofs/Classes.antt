@@ -25,12 +25,15 @@ bits-by : (s : Bool) (m : ℕ) (e : ℤ) → bitsOf (fin s m e) ≡ bitsBy s (ma
 unfolding toBits bitsBy magnitude
 bits-by s m e = refl
 
-zero-bits : (s : Bool) → bitsBy s 0 ≡ cond s 0x8000_0000_0000_0000 0
+abbrev minusZero : ℕ
+minusZero = 0x8000_0000_0000_0000
+
+zero-bits : (s : Bool) → bitsBy s 0 ≡ cond s minusZero 0
 unfolding bitsBy size
 zero-bits true = refl
 zero-bits false = refl
 
-zero-class : (s : Bool) → classOfBits (cond s 0x8000_0000_0000_0000 0) ≡ 0
+zero-class : (s : Bool) → classOfBits (cond s minusZero 0) ≡ 0
 unfolding classOfBits
 zero-class true = refl
 zero-class false = refl
@@ -62,7 +65,7 @@ same-class (fins {s} {m} {e} {t} {n} {d} v (inr z)) =
 -- ---- and doubles of one class are equal
 
 -- the two zeros, by their bits
-zeros-equal : (s t : Bool) → T (equalDoubles (doubleOf (cond s 0x8000_0000_0000_0000 0)) (doubleOf (cond t 0x8000_0000_0000_0000 0)))
+zeros-equal : (s t : Bool) → T (equalDoubles (doubleOf (cond s minusZero 0)) (doubleOf (cond t minusZero 0)))
 unfolding equalDoubles eq ofBits
 zeros-equal true true = tt
 zeros-equal true false = tt
@@ -76,7 +79,7 @@ one-truth true false f g = absurd (f tt)
 one-truth false true f g = absurd (g tt)
 
 module _ (x y : Float) (p : T (fits binary64 x)) (q : T (fits binary64 y)) where
-  both-zero : (s t : Bool) → bitsOf x ≡ cond s 0x8000_0000_0000_0000 0 → bitsOf y ≡ cond t 0x8000_0000_0000_0000 0 → T (equalDoubles x y)
+  both-zero : (s t : Bool) → bitsOf x ≡ cond s minusZero 0 → bitsOf y ≡ cond t minusZero 0 → T (equalDoubles x y)
   both-zero s t e f =
       let a = ap doubleOf (sym e) ∙ double-back x p in
       let b = ap doubleOf (sym f) ∙ double-back y q in
@@ -87,9 +90,9 @@ module _ (x y : Float) (p : T (fits binary64 x)) (q : T (fits binary64 y)) where
 
   of-same-class : classOf x ≡ classOf y → T (equalDoubles x y)
   unfolding classOf classOfBits
-  of-same-class = go (eqb (bitsOf x) 0x8000_0000_0000_0000) (eqb (bitsOf y) 0x8000_0000_0000_0000) (eqb→eq (bitsOf x) 0x8000_0000_0000_0000) (eqb→eq (bitsOf y) 0x8000_0000_0000_0000)
+  of-same-class = go (eqb (bitsOf x) minusZero) (eqb (bitsOf y) minusZero) (eqb→eq (bitsOf x) minusZero) (eqb→eq (bitsOf y) minusZero)
     where
-      go : (a b : Bool) → (T a → bitsOf x ≡ 0x8000_0000_0000_0000) → (T b → bitsOf y ≡ 0x8000_0000_0000_0000) → cond a 0 (bitsOf x) ≡ cond b 0 (bitsOf y) → T (equalDoubles x y)
+      go : (a b : Bool) → (T a → bitsOf x ≡ minusZero) → (T b → bitsOf y ≡ minusZero) → cond a 0 (bitsOf x) ≡ cond b 0 (bitsOf y) → T (equalDoubles x y)
       go true true f g e = both-zero true true (f tt) (g tt)
       go true false f g e = both-zero true false (f tt) (sym e)
       go false true f g e = both-zero false true e (g tt)

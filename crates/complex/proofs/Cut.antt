@@ -46,14 +46,17 @@ module _ (U n h : ℕ) (p : 0 < U) (half : 2 * (h * h) ≤ n * U * (n * U)) wher
   small : (A B : ℕ) → A < h → B < h → ltb (A * A + B * B) (n * U * (n * U)) ≡ ltb (cut-square U A + cut-square U B) (n * n)
   small A B a b =
       let s : A * A + B * B < n * U * (n * U) = omega (arith, square-lt A h a, square-lt B h b) in
+      let t : A * A + B * B < n * n * (U * U) = subst (λ (x : ℕ). A * A + B * B < x) (squares n U) s in
       lt-ltb (A * A + B * B) (n * U * (n * U)) s
-      ∙ sym (lt-ltb (A * A / (U * U) + B * B / (U * U)) (n * n) (cut-below (A * A) (B * B) (n * n) (U * U) (mul-pos p p) (subst (λ (x : ℕ). A * A + B * B < x) (squares n U) s)))
+      ∙ sym (lt-ltb (cut-square U A + cut-square U B) (n * n) (cut-below (A * A) (B * B) (n * n) (U * U) (mul-pos p p) t))
 
   -- the law: both squares may be cut off at T's last place
   pub cut : (A B : ℕ) → Placed U h A → Placed U h B → ltb (A * A + B * B) (n * U * (n * U)) ≡ ltb (cut-square U A + cut-square U B) (n * n)
   cut A B (inl a) b = whole A B (a .0) (a .1)
   cut A B (inr a) (inl b) =
-      ap (λ (x : ℕ). ltb x (n * U * (n * U))) (add-comm (A * A) (B * B)) ∙ whole B A (b .0) (b .1) ∙ ap (λ (x : ℕ). ltb x (n * n)) (add-comm (cut-square U B) (cut-square U A))
+      ap (λ (x : ℕ). ltb x (n * U * (n * U))) (add-comm (A * A) (B * B))
+      ∙ whole B A (b .0) (b .1)
+      ∙ ap (λ (x : ℕ). ltb x (n * n)) (add-comm (cut-square U B) (cut-square U A))
   cut A B (inr a) (inr b) = small A B a b
 
 -- a number that is a significand s, K below U, has its square cut off with s's

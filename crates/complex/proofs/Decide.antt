@@ -50,18 +50,22 @@ cut-fits A p a =
     lt-of-le-of-lt (div-le-self (n * n) (2 ^ (1041 - p .scale) * 2 ^ (1041 - p .scale))) (lt-of-lt-of-le (square-lt n (2 ^ 53) (a .small)) (lit≤ tt))
 
 -- over T as a variable: its powers of two are computed once, here
-at-t : (t : ℕ) → t ≡ significand * 2 ^ 988 → (A B : ℕ) (p q : Part) → Scaled A p → Scaled B q → A < t → B < t → ltb (A * A + B * B) (t * t) ≡ ltb (cutSquare p + cutSquare q) (significand * significand)
+at-t : (t : ℕ) → t ≡ significand * 2 ^ 988 → (A B : ℕ) (p q : Part) → Scaled A p → Scaled B q → A < t → B < t
+    → ltb (A * A + B * B) (t * t) ≡ ltb (cutSquare p + cutSquare q) (significand * significand)
 at-t t e A B p q a b ha hb =
     ap (λ (n : ℕ). ltb (A * A + B * B) (n * n)) e
     ∙ cut (2 ^ 988) significand (2 ^ 1040) (pow-pos 988) (lit≤ tt) A B (lies 988 significand t e (lit< tt) A p a ha) (lies 988 significand t e (lit< tt) B q b hb)
     ∙ (λ i. ltb (square A p a ha i + square B q b hb i) (significand * significand))
   where
     square : (C : ℕ) (r : Part) → Scaled C r → C < t → C * C / (2 ^ 988 * 2 ^ 988) ≡ cutSquare r
-    square C r c h = cut-significand C (2 ^ (1041 - r .scale)) (r .significand) (2 ^ 988) (pow-pos (1041 - r .scale)) (pow-pos 988) (in-places 988 significand t e (lit< tt) C r c h)
+    square C r c h =
+        let k = 1041 - r .scale in
+        cut-significand C (2 ^ k) (r .significand) (2 ^ 988) (pow-pos k) (pow-pos 988) (in-places 988 significand t e (lit< tt) C r c h)
 
-pub by-cutSquares : (A B : ℕ) (p q : Part) → Scaled A p → Scaled B q → A < magnitude threshold → B < magnitude threshold → squaresBelow A B ≡ ltb (cutSquare p + cutSquare q) (significand * significand)
+pub by-cut-squares : (A B : ℕ) (p q : Part) → Scaled A p → Scaled B q → A < magnitude threshold → B < magnitude threshold
+    → squaresBelow A B ≡ ltb (cutSquare p + cutSquare q) (significand * significand)
 unfolding squaresBelow
-by-cutSquares = at-t (magnitude threshold) t-magnitude
+by-cut-squares = at-t (magnitude threshold) t-magnitude
 
 -- ---- by the bits alone
 
@@ -83,7 +87,8 @@ halved A B h a b = omega (arith, square-lt A h a, square-lt B h b)
 small-enough : (A B : ℕ) → A < magnitudeOfBits halfBits → B < magnitudeOfBits halfBits → squaresBelow A B ≡ true
 unfolding squaresBelow
 small-enough A B a b =
-    lt-ltb (A * A + B * B) (magnitude threshold * magnitude threshold) (subst (λ (t : ℕ). A * A + B * B < t * t) (sym t-by-half) (halved A B (magnitudeOfBits halfBits) a b))
+    lt-ltb (A * A + B * B) (magnitude threshold * magnitude threshold)
+    (subst (λ (t : ℕ). A * A + B * B < t * t) (sym t-by-half) (halved A B (magnitudeOfBits halfBits) a b))
 
 -- ---- the test of two doubles
 
@@ -133,22 +138,27 @@ pub record Measured (x y : Float) (a b : ℕ) : Type 0 where
 module _ {x y : Float} {a b : ℕ} (m : Measured x y a b) where
   pub first-from-t : tBits ≤ a → false ≡ zeroTest x y
   first-from-t h =
-      no-first (finite x) (finite y) (squaresBelow (magnitude x) (magnitude y)) (λ t. too-big (magnitude x) (magnitude y) (from-t x (m .fits-x) (subst (λ (n : ℕ). tBits ≤ n) (m .bits-x) h) t))
+      let k = subst (λ (n : ℕ). tBits ≤ n) (m .bits-x) h in
+      no-first (finite x) (finite y) (squaresBelow (magnitude x) (magnitude y)) (λ t. too-big (magnitude x) (magnitude y) (from-t x (m .fits-x) k t))
 
   pub second-from-t : tBits ≤ b → false ≡ zeroTest x y
   second-from-t h =
-      no-second (finite x) (finite y) (squaresBelow (magnitude x) (magnitude y)) (λ t. too-big-2 (magnitude x) (magnitude y) (from-t y (m .fits-y) (subst (λ (n : ℕ). tBits ≤ n) (m .bits-y) h) t))
+      let k = subst (λ (n : ℕ). tBits ≤ n) (m .bits-y) h in
+      no-second (finite x) (finite y) (squaresBelow (magnitude x) (magnitude y)) (λ t. too-big-2 (magnitude x) (magnitude y) (from-t y (m .fits-y) k t))
 
   pub both-below-half : a < halfBits → b < halfBits → true ≡ zeroTest x y
   both-below-half h k =
       let hx = subst (λ (n : ℕ). n < halfBits) (m .bits-x) h in
       let hy = subst (λ (n : ℕ). n < halfBits) (m .bits-y) k in
+      let fx = below-is-finite x (lt-of-lt-of-le hx (lit≤ tt)) in
+      let fy = below-is-finite y (lt-of-lt-of-le hy (lit≤ tt)) in
       sym (small-enough (magnitude x) (magnitude y) (below-half x (m .fits-x) hx) (below-half y (m .fits-y) hy))
-      ∙ yes-both (finite x) (finite y) (squaresBelow (magnitude x) (magnitude y)) (below-is-finite x (lt-of-lt-of-le hx (lit≤ tt))) (below-is-finite y (lt-of-lt-of-le hy (lit≤ tt)))
+      ∙ yes-both (finite x) (finite y) (squaresBelow (magnitude x) (magnitude y)) fx fy
 
   -- what `squares_below` is handed and says, where both are below T
   pub by-squares : (r : Bool) → a < tBits → b < tBits
-      → (magnitudeOfBits (a % 2 ^ 63) < magnitude threshold → magnitudeOfBits (b % 2 ^ 63) < magnitude threshold → r ≡ squaresBelow (magnitudeOfBits (a % 2 ^ 63)) (magnitudeOfBits (b % 2 ^ 63)))
+      → (magnitudeOfBits (a % 2 ^ 63) < magnitude threshold → magnitudeOfBits (b % 2 ^ 63) < magnitude threshold
+      → r ≡ squaresBelow (magnitudeOfBits (a % 2 ^ 63)) (magnitudeOfBits (b % 2 ^ 63)))
       → r ≡ zeroTest x y
   by-squares r h k e =
       let fx = below-is-finite x (subst (λ (n : ℕ). n < tBits) (m .bits-x) h) in

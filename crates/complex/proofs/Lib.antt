@@ -1,10 +1,11 @@
--- The laws that the proofs of this crate and of its callers cite.
+-- The laws that the proofs of this crate, and where `pub` of its callers, cite.
+pub mod Answers
 pub mod Doubles
 pub mod Alike
 pub mod Classes
 pub mod Pairs
-mod Both
 pub mod Magnitude
+mod Both
 mod Limbs
 mod Cut
 mod Scaling

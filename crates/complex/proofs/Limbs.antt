@@ -57,7 +57,10 @@ columns h m n l = omega arith
 abbrev most : ℕ
 most = 18446744065119617025
 
-pub halves : (a b : ℕ) → a < 2 ^ 64 → b < 2 ^ 64 → (a / 2 ^ 32 * (b / 2 ^ 32) ≤ most) × (a / 2 ^ 32 * (b % 2 ^ 32) ≤ most) × (a % 2 ^ 32 * (b / 2 ^ 32) ≤ most) × (a % 2 ^ 32 * (b % 2 ^ 32) ≤ most)
+abbrev pub Bounds : ℕ → ℕ → Type 0
+Bounds a b = (a / 2 ^ 32 * (b / 2 ^ 32) ≤ most) × (a / 2 ^ 32 * (b % 2 ^ 32) ≤ most) × (a % 2 ^ 32 * (b / 2 ^ 32) ≤ most) × (a % 2 ^ 32 * (b % 2 ^ 32) ≤ most)
+
+pub halves : (a b : ℕ) → a < 2 ^ 64 → b < 2 ^ 64 → Bounds a b
 halves a b p q =
     let ah : a / 2 ^ 32 ≤ 4294967295 = omega arith in
     let al : a % 2 ^ 32 ≤ 4294967295 = omega arith in
@@ -107,7 +110,8 @@ product-law a b p q =
     at : (h m n l : ℕ) → (h ≤ most) × (m ≤ most) × (n ≤ most) × (l ≤ most) → h * 2 ^ 64 + (m + n) * 2 ^ 32 + l ≡ a * b
         → limbs (h + mid m l / 2 ^ 32 + top n m l / 2 ^ 32) (top n m l % 2 ^ 32 * 2 ^ 32 + l % 2 ^ 32) ≡ wide (a * b)
     at h m n l t e =
-        wide-of (h + mid m l / 2 ^ 32 + top n m l / 2 ^ 32) (top n m l % 2 ^ 32 * 2 ^ 32 + l % 2 ^ 32) (a * b) (columns-fit h m n l t .high) (omega arith) (columns h m n l ∙ e)
+        wide-of (h + mid m l / 2 ^ 32 + top n m l / 2 ^ 32) (top n m l % 2 ^ 32 * 2 ^ 32 + l % 2 ^ 32) (a * b)
+        (columns-fit h m n l t .high) (omega arith) (columns h m n l ∙ e)
 
 -- ---- a shift, over P = 2 ^ j and Q = 2 ^ (64 - j)
 
@@ -158,7 +162,8 @@ module _ (w : Wide) (hb : w .hi < 2 ^ 64) (lb : w .lo < 2 ^ 64) (j : ℕ) where
   shift-some s =
       wide-of (w .hi / 2 ^ j) low (value w / 2 ^ j) (lt-of-le-of-lt (shr-le (w .hi) j) hb) (low-lt s)
       (ap (λ (n : ℕ). w .hi / 2 ^ j * 2 ^ 64 + n) (low-is s)
-      ∙ sym (subst (λ (n : ℕ). (w .hi * n + w .lo) / 2 ^ j ≡ w .hi / 2 ^ j * n + (w .hi % 2 ^ j * 2 ^ (64 - j) + w .lo / 2 ^ j)) (base j s) (shift-limbs (2 ^ j) (2 ^ (64 - j)) (w .hi) (w .lo) (pow-pos j))))
+      ∙ sym (subst (λ (n : ℕ). (w .hi * n + w .lo) / 2 ^ j ≡ w .hi / 2 ^ j * n + (w .hi % 2 ^ j * 2 ^ (64 - j) + w .lo / 2 ^ j)) (base j s)
+      (shift-limbs (2 ^ j) (2 ^ (64 - j)) (w .hi) (w .lo) (pow-pos j))))
 
   -- past the low limb
   pub shift-limb : 64 ≤ j → limbs 0 (w .hi / 2 ^ (j - 64)) ≡ wide (value w / 2 ^ j)
@@ -166,7 +171,8 @@ module _ (w : Wide) (hb : w .hi < 2 ^ 64) (lb : w .lo < 2 ^ 64) (j : ℕ) where
   shift-limb s =
       let e : 64 + (j - 64) ≡ j = omega arith in
       wide-of 0 (w .hi / 2 ^ (j - 64)) (value w / 2 ^ j) (omega arith) (lt-of-le-of-lt (shr-le (w .hi) (j - 64)) hb)
-      (zero-add (w .hi / 2 ^ (j - 64)) ∙ ap (λ (n : ℕ). n / 2 ^ (j - 64)) (sym (digits-div (w .hi) lb)) ∙ shr-shr (value w) 64 (j - 64) ∙ ap (λ (n : ℕ). value w / 2 ^ n) e)
+      (zero-add (w .hi / 2 ^ (j - 64)) ∙ ap (λ (n : ℕ). n / 2 ^ (j - 64)) (sym (digits-div (w .hi) lb))
+      ∙ shr-shr (value w) 64 (j - 64) ∙ ap (λ (n : ℕ). value w / 2 ^ n) e)
 
   -- past both
   pub shift-all : 128 ≤ j → limbs 0 0 ≡ wide (value w / 2 ^ j)
@@ -177,11 +183,13 @@ module _ (w : Wide) (hb : w .hi < 2 ^ 64) (lb : w .lo < 2 ^ 64) (j : ℕ) where
 -- ---- sums and orders
 
 -- the sum of the limbs a, c above and b, d below, given what the machine makes of it
-pub sum-law : (x y : Wide) (h k : ℕ) → h ≡ (x .hi + y .hi) % 2 ^ 64 → k ≡ (h + (x .lo + y .lo) / 2 ^ 64) % 2 ^ 64 → limbs k ((x .lo + y .lo) % 2 ^ 64) ≡ wide (value x + value y)
+pub sum-law : (x y : Wide) (h k : ℕ) → h ≡ (x .hi + y .hi) % 2 ^ 64 → k ≡ (h + (x .lo + y .lo) / 2 ^ 64) % 2 ^ 64
+    → limbs k ((x .lo + y .lo) % 2 ^ 64) ≡ wide (value x + value y)
 unfolding value wide
 sum-law x y h k p q =
     let e : value x + value y ≡ (x .hi + y .hi) * 2 ^ 64 + (x .lo + y .lo) = omega arith in
-    let s : (value x + value y) / 2 ^ 64 ≡ x .hi + y .hi + (x .lo + y .lo) / 2 ^ 64 = ap (λ (n : ℕ). n / 2 ^ 64) e ∙ mul-add-div-right (pow-pos 64) (x .hi + y .hi) (x .lo + y .lo) in
+    let s : (value x + value y) / 2 ^ 64 ≡ x .hi + y .hi + (x .lo + y .lo) / 2 ^ 64 =
+    ap (λ (n : ℕ). n / 2 ^ 64) e ∙ mul-add-div-right (pow-pos 64) (x .hi + y .hi) (x .lo + y .lo) in
     let a : k ≡ (value x + value y) / 2 ^ 64 % 2 ^ 64 = omega arith in
     let b : (x .lo + y .lo) % 2 ^ 64 ≡ (value x + value y) % 2 ^ 64 = omega arith in
     λ i. limbs (a i) (b i)
@@ -196,8 +204,9 @@ module _ (x y : Wide) where
   less-high p q n = same-test (x .hi) (y .hi) (value x) (value y) (λ h. omega arith) (λ h. omega arith)
 
 -- a sum of two wide numbers against a third, given the numbers that they are the limbs of
-pub sum-less : (a b n : ℕ) (x y s t : Wide) → a < 2 ^ 127 → b < 2 ^ 127 → n < 2 ^ 128 → x ≡ wide a → y ≡ wide b → s ≡ wide (value x + value y) → t ≡ wide n → ltb (value s) (value t) ≡ ltb (a + b) n
-sum-less a b n x y s t p q r ex ey es et =
+pub sum-less : (a b n : ℕ) {x y s t : Wide} → a < 2 ^ 127 → b < 2 ^ 127 → n < 2 ^ 128
+    → x ≡ wide a → y ≡ wide b → s ≡ wide (value x + value y) → t ≡ wide n → ltb (value s) (value t) ≡ ltb (a + b) n
+sum-less a b n {x} {y} {s} {t} p q r ex ey es et =
     let va : value x ≡ a = ap value ex ∙ value-wide a (lt-of-lt-of-le p (pow-mono {i = 127} {j = 128} (omega arith))) in
     let vb : value y ≡ b = ap value ey ∙ value-wide b (lt-of-lt-of-le q (pow-mono {i = 127} {j = 128} (omega arith))) in
     let vs : value s ≡ a + b = ap value (es ∙ (λ i. wide (va i + vb i))) ∙ value-wide (a + b) (add-lt-pow {a = a} {b = b} 127 p q) in

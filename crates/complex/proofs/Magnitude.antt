@@ -41,7 +41,8 @@ value-of-bits b h =
     let s = leb (2 ^ 63) b in
     let x = b % 2 ^ 63 / 2 ^ 52 in
     let t = b % 2 ^ 63 % 2 ^ 52 in
-    subst (λ (f : Float). HasValue f s (magnitudeOfFields x t) (2 ^ 1074)) (sym (by-fields b)) (value-of-fields s x t (subst (λ (f : Float). T (finite f)) (by-fields b) h))
+    subst (λ (f : Float). HasValue f s (magnitudeOfFields x t) (2 ^ 1074)) (sym (by-fields b))
+    (value-of-fields s x t (subst (λ (f : Float). T (finite f)) (by-fields b) h))
 
 magnitude-of-value : (x : Float) (s : Bool) (n : ℕ) → HasValue x s n (2 ^ 1074) → magnitude x ≡ n
 unfolding magnitude
@@ -95,7 +96,8 @@ rises p q h = go (decLt (p / 2 ^ 52) (q / 2 ^ 52))
     go (yes l) = field-rises (p / 2 ^ 52) (q / 2 ^ 52) (p % 2 ^ 52) (q % 2 ^ 52) (omega arith) l
     go (no n) =
         let e : p / 2 ^ 52 ≡ q / 2 ^ 52 = omega arith in
-        subst (λ (x : ℕ). magnitudeOfFields (p / 2 ^ 52) (p % 2 ^ 52) < magnitudeOfFields x (q % 2 ^ 52)) e (fraction-rises (p / 2 ^ 52) (p % 2 ^ 52) (q % 2 ^ 52) (omega arith))
+        subst (λ (x : ℕ). magnitudeOfFields (p / 2 ^ 52) (p % 2 ^ 52) < magnitudeOfFields x (q % 2 ^ 52)) e
+        (fraction-rises (p / 2 ^ 52) (p % 2 ^ 52) (q % 2 ^ 52) (omega arith))
 
 pub not-below : (p q : ℕ) → p ≤ q → magnitudeOfBits p ≤ magnitudeOfBits q
 not-below p q h = go (decLt p q)

@@ -26,7 +26,9 @@ parts-refl r f z = and-i (r (z .re) (z .re)) (r (z .im) (z .im)) (f (z .re)) (f 
 
 parts-sym : (r : Float → Float → Bool) → ((x y : Float) → T (r x y) → T (r y x)) → (x y : Complex) → T (parts r x y) → T (parts r y x)
 parts-sym r f x y h =
-    and-i (r (y .re) (x .re)) (r (y .im) (x .im)) (f (x .re) (y .re) (and-l (r (x .re) (y .re)) (r (x .im) (y .im)) h)) (f (x .im) (y .im) (and-r (r (x .re) (y .re)) (r (x .im) (y .im)) h))
+    and-i (r (y .re) (x .re)) (r (y .im) (x .im))
+    (f (x .re) (y .re) (and-l (r (x .re) (y .re)) (r (x .im) (y .im)) h))
+    (f (x .im) (y .im) (and-r (r (x .re) (y .re)) (r (x .im) (y .im)) h))
 
 parts-trans : (r : Float → Float → Bool) → ((x y z : Float) → T (r x y) → T (r y z) → T (r x z)) → (x y z : Complex) → T (parts r x y) → T (parts r y z) → T (parts r x z)
 parts-trans r f x y z g h =
@@ -64,9 +66,11 @@ identical-trans = parts-trans identicalDoubles identical-doubles-trans
 pub identical-same : (x y : Complex) → Fitting x → Fitting y → T (identical x y) → x ≡ y
 unfolding identical identicalDoubles
 identical-same x y p q h =
-    let a = same-bits (x .re) (y .re) (p .re) (q .re) (eqb→eq (bitsOf (x .re)) (bitsOf (y .re)) (and-l (identicalDoubles (x .re) (y .re)) (identicalDoubles (x .im) (y .im)) h)) in
-    let b = same-bits (x .im) (y .im) (p .im) (q .im) (eqb→eq (bitsOf (x .im)) (bitsOf (y .im)) (and-r (identicalDoubles (x .re) (y .re)) (identicalDoubles (x .im) (y .im)) h)) in
-    λ i. record { re = a i; im = b i }
+    let i = identicalDoubles (x .re) (y .re) in
+    let j = identicalDoubles (x .im) (y .im) in
+    let a = same-bits (x .re) (y .re) (p .re) (q .re) (eqb→eq (bitsOf (x .re)) (bitsOf (y .re)) (and-l i j h)) in
+    let b = same-bits (x .im) (y .im) (p .im) (q .im) (eqb→eq (bitsOf (x .im)) (bitsOf (y .im)) (and-r i j h)) in
+    λ k. record { re = a k; im = b k }
 
 -- ---- equal
 
@@ -88,7 +92,9 @@ module _ (x y : Complex) (p : Fitting x) (q : Fitting y) where
   identical-is-equal h =
       let i = identicalDoubles (x .re) (y .re) in
       let j = identicalDoubles (x .im) (y .im) in
-      and-i (equalDoubles (x .re) (y .re)) (equalDoubles (x .im) (y .im)) (identical-equal (x .re) (y .re) (p .re) (q .re) (and-l i j h)) (identical-equal (x .im) (y .im) (p .im) (q .im) (and-r i j h))
+      and-i (equalDoubles (x .re) (y .re)) (equalDoubles (x .im) (y .im))
+      (identical-equal (x .re) (y .re) (p .re) (q .re) (and-l i j h))
+      (identical-equal (x .im) (y .im) (p .im) (q .im) (and-r i j h))
 
   -- equal exactly where both class numbers are the same
   pub equal-by-classes : equal x y ≡ (eqb (classOf (x .re)) (classOf (y .re)) && eqb (classOf (x .im)) (classOf (y .im)))

@@ -46,18 +46,20 @@ some m e p h = at (leadingZeros 64 m) (eleven m h) (leading-top 64 m p (omega ar
         let lj : suc j ≡ l = omega arith in
         let dl : d + l ≡ 53 = omega arith in
         let jd : j + d ≡ 52 = omega arith in
+        let jm : 2 ^ (j + d) ≤ m * 2 ^ d = le-trans (le-of-eq (pow-add 2 j d)) (mul-le-mul-right (2 ^ d) (t .2)) in
         let ml : m < 2 ^ l = subst (λ (n : ℕ). m < 2 ^ n) lj (t .3) in
         let exact : m * 2 ^ d % 2 ^ 64 ≡ m * 2 ^ d = shl-exact {a = m} l d 64 ml (omega arith) in
         record {
           value = value-of m e d l dl ∙ ap (λ (n : ℕ). n * 2 ^ (e + l)) (sym exact);
           small = subst (λ (n : ℕ). n < 2 ^ 53) (sym exact) (subst (λ (n : ℕ). m * 2 ^ d < 2 ^ n) (add-comm l d ∙ dl) (shl-lt {a = m} l d ml));
-          top = λ _. subst (λ (n : ℕ). 2 ^ 52 ≤ n) (sym exact) (subst (λ (n : ℕ). 2 ^ n ≤ m * 2 ^ d) jd (le-trans (le-of-eq (pow-add 2 j d)) (mul-le-mul-right (2 ^ d) (t .2))));
+          top = λ _. subst (λ (n : ℕ). 2 ^ 52 ≤ n) (sym exact) (subst (λ (n : ℕ). 2 ^ n ≤ m * 2 ^ d) jd jm);
         }
 
 none : (e : ℕ) → e ≡ 0 → Scaled (zero * 2 ^ e) (placed zero e)
 none e z =
     subst (λ (k : ℕ). Scaled (zero * 2 ^ k) (placed zero k)) (sym z)
-    (subst (λ (n : ℕ). Scaled 0 (part (zero * 2 ^ (n - 11) % 2 ^ 64) (0 + (64 - n)))) (sym (leading-of-zero 64)) (record { value = refl; small = omega arith; top = λ h. absurd (omega arith) }))
+    (subst (λ (n : ℕ). Scaled 0 (part (zero * 2 ^ (n - 11) % 2 ^ 64) (0 + (64 - n)))) (sym (leading-of-zero 64))
+    (record { value = refl; small = omega arith; top = λ h. absurd (omega arith) }))
 
 scaled : (m e : ℕ) → m < 2 ^ 53 → (m ≡ 0 → e ≡ 0) → Scaled (m * 2 ^ e) (placed m e)
 scaled zero e h z = none e (z refl)
@@ -94,7 +96,8 @@ no-smaller n p q a b h =
     let d = q .scale - suc (p .scale) in
     let e : q .scale ≡ suc d + p .scale = omega arith in
     let c : p .significand * 2 ^ p .scale ≡ q .significand * 2 ^ suc d * 2 ^ p .scale =
-    sym (a .value) ∙ b .value ∙ ap (λ (k : ℕ). q .significand * 2 ^ k) e ∙ ap (λ (x : ℕ). q .significand * x) (pow-add 2 (suc d) (p .scale)) ∙ sym (mul-assoc (q .significand) (2 ^ suc d) (2 ^ p .scale)) in
+    sym (a .value) ∙ b .value ∙ ap (λ (k : ℕ). q .significand * 2 ^ k) e
+    ∙ ap (λ (x : ℕ). q .significand * x) (pow-add 2 (suc d) (p .scale)) ∙ sym (mul-assoc (q .significand) (2 ^ suc d) (2 ^ p .scale)) in
     let s : p .significand ≡ q .significand * 2 ^ suc d = eq-of-mul-eq-mul-right (2 ^ p .scale) (pow-pos (p .scale)) (p .significand) (q .significand * 2 ^ suc d) c in
     let t : 2 ^ 52 * 2 ≤ q .significand * 2 ^ suc d = mul-le-mul (b .top (omega arith)) (pow-mono {i = 1} {j = suc d} (omega arith)) in
     omega (arith, a .small)
@@ -108,7 +111,8 @@ scaled-unique n p q a b = go (decLt (p .scale) (q .scale)) (decLt (q .scale) (p 
     go (no f) (no g) =
         let e : p .scale ≡ q .scale = omega arith in
         let s : p .significand ≡ q .significand =
-        eq-of-mul-eq-mul-right (2 ^ q .scale) (pow-pos (q .scale)) (p .significand) (q .significand) (ap (λ (k : ℕ). p .significand * 2 ^ k) (sym e) ∙ sym (a .value) ∙ b .value) in
+        eq-of-mul-eq-mul-right (2 ^ q .scale) (pow-pos (q .scale)) (p .significand) (q .significand)
+        (ap (λ (k : ℕ). p .significand * 2 ^ k) (sym e) ∙ sym (a .value) ∙ b .value) in
         λ i. part (s i) (e i)
 
 -- ---- where a magnitude A lies that is below T = n * 2 ^ u. T's scale is u + 53.
@@ -126,7 +130,8 @@ module _ (u n T : ℕ) (t : T ≡ n * 2 ^ u) (small : n < 2 ^ 53) (A : ℕ) (p :
       go : Dec (u + 53 < p .scale) → p .scale ≤ u + 53
       go (no f) = omega arith
       go (yes h) =
-          let x : 2 ^ 52 * 2 ^ suc (u + 53) ≤ A * 2 ^ 53 = le-trans (mul-le-mul (a .top (omega arith)) (pow-mono {i = suc (u + 53)} {j = p .scale} h)) (le-of-eq (sym (a .value))) in
+          let x : 2 ^ 52 * 2 ^ suc (u + 53) ≤ A * 2 ^ 53 =
+          le-trans (mul-le-mul (a .top (omega arith)) (pow-mono {i = suc (u + 53)} {j = p .scale} h)) (le-of-eq (sym (a .value))) in
           let y : A * 2 ^ 53 < n * 2 ^ u * 2 ^ 53 = mul-lt-mul-of-pos-right (subst (λ (k : ℕ). A < k) t below) (pow-pos 53) in
           let z : n * 2 ^ u * 2 ^ 53 < 2 ^ 53 * 2 ^ u * 2 ^ 53 = mul-lt-mul-of-pos-right (mul-lt-mul-of-pos-right small (pow-pos u)) (pow-pos 53) in
           absurd (not-le-of-lt (lt-trans y z) (le-trans (le-of-eq (sym (past-scale u))) x))
@@ -148,7 +153,8 @@ module _ (u n T : ℕ) (t : T ≡ n * 2 ^ u) (small : n < 2 ^ 53) (A : ℕ) (p :
       go : Dec (p .scale < u + 53) → Placed (2 ^ u) (2 ^ (u + 52)) A
       go (yes h) =
           let x : A * 2 ^ 53 < 2 ^ 53 * 2 ^ p .scale = lt-of-le-of-lt (le-of-eq (a .value)) (mul-lt-mul-of-pos-right (a .small) (pow-pos (p .scale))) in
-          let y : 2 ^ 53 * 2 ^ p .scale ≤ 2 ^ (u + 52) * 2 ^ 53 = le-trans (mul-le-mul-left (2 ^ 53) (pow-mono {i = p .scale} {j = u + 52} (omega arith))) (le-of-eq (mul-comm (2 ^ 53) (2 ^ (u + 52)))) in
+          let y : 2 ^ 53 * 2 ^ p .scale ≤ 2 ^ (u + 52) * 2 ^ 53 =
+          le-trans (mul-le-mul-left (2 ^ 53) (pow-mono {i = p .scale} {j = u + 52} (omega arith))) (le-of-eq (mul-comm (2 ^ 53) (2 ^ (u + 52)))) in
           inr (lt-of-mul-lt-mul-right (2 ^ 53) (lt-of-lt-of-le x y))
       go (no f) =
           let e : 0 ≡ u + 53 - p .scale = omega arith in

@@ -1,11 +1,11 @@
--- `complex::squares::squares_below` meets its contract: the squares cut off at T's last place decide (`Decide`, `by-cutSquares`).
+-- `complex::squares::squares_below` meets its contract: the squares cut off at T's last place decide (`Decide`, `by-cut-squares`).
 -- Assumes nothing.
 use borrow.Author.Needs.{needs}
 use mathlib.Core.Path.{sym, _∙_}
 use Prim.Native.Nat.{_*_, _%_, _^_}
 use lib.Dec.{lit<}
 use Rattle.complex.specs.Parts.{magnitudeOfBits, cutSquare}
-use Rattle.complex.proofs.Decide.{significand, cut-fits, by-cutSquares}
+use Rattle.complex.proofs.Decide.{significand, cut-fits, by-cut-squares}
 use Rattle.complex.proofs.Limbs.{sum-less}
 use Rattle.complex.proofs.squares.squares_below.Statement.{statement}
 use Rattle.complex.proofs.squares.squares_below.Tie as tie
@@ -21,8 +21,10 @@ returns c = λ re im.
     let A = magnitudeOfBits (c .before .before .before .before .before .before .before .args .re % 2 ^ 63) in
     let B = magnitudeOfBits (c .before .before .before .before .before .before .before .args .im % 2 ^ 63) in
     c .less .ensures
-    ∙ sum-less (cutSquare (p .result)) (cutSquare (q .result)) (significand * significand) (x .result) (y .result) (sum .result) (bound .result) (cut-fits A (p .result) (p .ensures)) (cut-fits B (q .result) (q .ensures)) (lit< tt) (x .ensures) (y .ensures) (sum .ensures) (bound .ensures)
-    ∙ sym (by-cutSquares A B (p .result) (q .result) (p .ensures) (q .ensures) re im)
+    ∙ sum-less (cutSquare (p .result)) (cutSquare (q .result)) (significand * significand)
+    (cut-fits A (p .result) (p .ensures)) (cut-fits B (q .result) (q .ensures)) (lit< tt)
+    (x .ensures) (y .ensures) (sum .ensures) (bound .ensures)
+    ∙ sym (by-cut-squares A B (p .result) (q .result) (p .ensures) (q .ensures) re im)
 
 pub squares-below-spec : {M : Type 1} → statement M
 squares-below-spec =

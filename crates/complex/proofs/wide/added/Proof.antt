@@ -13,7 +13,8 @@ returns c =
     let h = r .before in
     let s = h .before .args in
     ap (limbs (k .wrapping-add-u642 .result)) (c .wrapping-add-u643 .ensures)
-    ∙ sum-law (s .x) (s .y) (h .wrapping-add-u64 .result) (k .wrapping-add-u642 .result) (h .wrapping-add-u64 .ensures) (k .wrapping-add-u642 .ensures ∙ ap (λ (n : ℕ). (h .wrapping-add-u64 .result + n) % 2 ^ 64) (r .carry .ensures))
+    ∙ sum-law (s .x) (s .y) (h .wrapping-add-u64 .result) (k .wrapping-add-u642 .result) (h .wrapping-add-u64 .ensures)
+    (k .wrapping-add-u642 .ensures ∙ ap (λ (n : ℕ). (h .wrapping-add-u64 .result + n) % 2 ^ 64) (r .carry .ensures))
 
 pub added-spec : {M : Type 1} → statement M
 added-spec = tie.close (tie.spec (λ c κs. search needs) (λ c κs. search needs) (λ c κs. search needs) (λ c κs. search needs) returns)

@@ -2,33 +2,36 @@
 use native.Mathlib.Omega.{arith}
 use borrow.Author.Needs.{needs}
 use Prim.Native.Nat.{_*_, _/_, _%_, _^_}
-use Rattle.complex.proofs.Limbs.{Columns, halves, columns-fit, product-law}
+use Rattle.complex.proofs.Limbs.{Bounds, Columns, halves, columns-fit, product-law}
 use Rattle.complex.proofs.wide.product.Statement.{statement}
 use Rattle.complex.proofs.wide.product.Tie as tie
 
-fit : (c : tie.Start) → let a = c .args .a in let b = c .args .b in Columns (a / 2 ^ 32 * (b / 2 ^ 32)) (a / 2 ^ 32 * (b % 2 ^ 32)) (a % 2 ^ 32 * (b / 2 ^ 32)) (a % 2 ^ 32 * (b % 2 ^ 32))
-fit c =
-    let a = c .args .a in
+bounds : (c : tie.Start) → Bounds (c .args .a) (c .args .b)
+bounds c = halves (c .args .a) (c .args .b) (c .fits .a .fits) (c .fits .b .fits)
+
+fit : (c : tie.Start)
+    → let a = c .args .a in
     let b = c .args .b in
-    columns-fit (a / 2 ^ 32 * (b / 2 ^ 32)) (a / 2 ^ 32 * (b % 2 ^ 32)) (a % 2 ^ 32 * (b / 2 ^ 32)) (a % 2 ^ 32 * (b % 2 ^ 32)) (halves a b (c .fits .a .fits) (c .fits .b .fits))
+    Columns (a / 2 ^ 32 * (b / 2 ^ 32)) (a / 2 ^ 32 * (b % 2 ^ 32)) (a % 2 ^ 32 * (b / 2 ^ 32)) (a % 2 ^ 32 * (b % 2 ^ 32))
+fit c = columns-fit _ _ _ _ (bounds c)
 
 mul-low : tie.Need-mul-low
-mul-low c = omega (arith, halves (c .args .a) (c .args .b) (c .fits .a .fits) (c .fits .b .fits) .3)
+mul-low c = omega (arith, bounds c .3)
 
 mul-mid : tie.Need-mul-mid
-mul-mid c = omega (arith, halves (c .args .a) (c .args .b) (c .fits .a .fits) (c .fits .b .fits) .1)
+mul-mid c = omega (arith, bounds c .1)
 
 add-mid : tie.Need-add-mid
 add-mid c = record { fits = fit c .middle }
 
 mul-top : tie.Need-mul-top
-mul-top c = omega (arith, halves (c .args .a) (c .args .b) (c .fits .a .fits) (c .fits .b .fits) .2)
+mul-top c = omega (arith, bounds c .2)
 
 add-top : tie.Need-add-top
 add-top c = record { fits = fit c .upper }
 
 mul-t10 : tie.Need-mul-t10
-mul-t10 c = omega (arith, halves (c .args .a) (c .args .b) (c .fits .a .fits) (c .fits .b .fits) .0)
+mul-t10 c = omega (arith, bounds c .0)
 
 add-t12 : tie.Need-add-t12
 add-t12 c = record { fits = fit c .lower }

@@ -21,4 +21,16 @@ returns-4 : tie.Need-returns-4
 returns-4 c = let s = c .before .before .before in shift-all (s .args .w) (omega arith) (omega arith) (s .args .j) (c .if3 .left)
 
 pub shifted-spec : {M : Type 1} → statement M
-shifted-spec = tie.close (tie.spec returns (λ c. search needs) (λ c. search needs) (λ c. search needs) (λ c. search needs) add-t10 returns-2 (λ c. search needs) returns-3 returns-4)
+shifted-spec =
+    tie.close
+    (tie.spec
+    returns
+    (λ c. search needs)
+    (λ c. search needs)
+    (λ c. search needs)
+    (λ c. search needs)
+    add-t10
+    returns-2
+    (λ c. search needs)
+    returns-3
+    returns-4)

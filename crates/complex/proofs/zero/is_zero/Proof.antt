@@ -8,7 +8,9 @@ use Rattle.complex.proofs.zero.is_zero.Statement.{statement}
 use Rattle.complex.proofs.zero.is_zero.Tie as tie
 
 -- that a struct's float fields fit their format is what owning the struct tells
-measured : (c : tie.After-magnitude-bits2) → let s = c .before .before in Measured (s .args .z .re) (s .args .z .im) (c .before .magnitude-bits .result) (c .magnitude-bits2 .result)
+measured : (c : tie.After-magnitude-bits2)
+    → let s = c .before .before in
+    Measured (s .args .z .re) (s .args .z .im) (c .before .magnitude-bits .result) (c .magnitude-bits2 .result)
 measured c =
     let s = c .before .before in
     record {
@@ -33,7 +35,8 @@ returns-3 c = both-below-half (measured (c .before .before .before .before)) (c 
 returns-4 : tie.Need-returns-4
 unfolding isZero
 returns-4 c =
-    by-squares (measured (c .before .before .before .before)) (c .squares-below .result) (c .before .before .before .if1 .left) (c .before .before .if2 .left) (c .squares-below .ensures)
+    by-squares (measured (c .before .before .before .before)) (c .squares-below .result)
+    (c .before .before .before .if1 .left) (c .before .before .if2 .left) (c .squares-below .ensures)
 
 pub is-zero-spec : {M : Type 1} → statement M
 is-zero-spec =
