@@ -4,7 +4,7 @@ use mathlib.Core.Bool.{Bool, true, false, not}
 use Prim.Native.Nat.{ℕ, _%_, _^_, _<_}
 use lib.Dec.{T, ltb}
 use lib.Ieee.{Float, nan, inf, fin, isNan, ne, fits, binary64, toBits, ofBits, div}
-use lib.Ieee.Bits.{ofBits-toBits, toBits-ofBits, toBits-lt, nanBits-is, nanBits-above}
+use lib.Ieee.Bits.{ofBits-fits, ofBits-toBits, toBits-ofBits, toBits-lt, nanBits-is, nanBits-above}
 use lib.Ieee.Compare.{differs-from-itself}
 use Rattle.complex.specs.Bits.{bitsOf, doubleOf, nanPattern, Canonical}
 
@@ -55,7 +55,11 @@ bits-canonical x f =
       oneNan = λ h. ap bitsOf (sym (is-nan x (subst (λ (y : Float). T (isNan y)) (double-back x f) h))) ∙ bits-of-nan;
     }
 
--- canonical bits are those of what they stand for
+-- whatever bits are read, those of the double that they stand for are canonical
+pub read-canonical : (b : ℕ) → Canonical (bitsOf (doubleOf b))
+read-canonical b = bits-canonical (doubleOf b) (ofBits-fits binary64 b)
+
+-- and canonical bits are those of what they stand for
 pub bits-back : (b : ℕ) → Canonical b → bitsOf (doubleOf b) ≡ b
 bits-back b h = go (isNan (doubleOf b)) refl
   where
