@@ -13,6 +13,7 @@ use Rattle.complex.specs.Bits.{bitsOf, doubleOf}
 use Rattle.complex.specs.Equality.{identicalDoubles, equalDoubles, classOf, classOfBits}
 use Rattle.complex.specs.Zero.{magnitude}
 use Rattle.complex.proofs.Doubles.{double-back, same-bits}
+use Rattle.complex.proofs.Tests.{one-truth}
 use Rattle.complex.proofs.Alike.{Alike, nans, infs, fins, alike, equal-refl}
 
 -- ---- equal doubles have one class
@@ -71,12 +72,6 @@ zeros-equal true true = tt
 zeros-equal true false = tt
 zeros-equal false true = tt
 zeros-equal false false = tt
-
-one-truth : (a b : Bool) → (T a → T b) → (T b → T a) → a ≡ b
-one-truth true true f g = refl
-one-truth false false f g = refl
-one-truth true false f g = absurd (f tt)
-one-truth false true f g = absurd (g tt)
 
 module _ (x y : Float) (p : T (fits binary64 x)) (q : T (fits binary64 y)) where
   both-zero : (s t : Bool) → bitsOf x ≡ cond s minusZero 0 → bitsOf y ≡ cond t minusZero 0 → T (equalDoubles x y)

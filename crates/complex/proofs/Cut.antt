@@ -8,7 +8,7 @@ use native.Mathlib.Omega.{arith}
 use lib.Dec.{ltb}
 use lib.Ieee.Nearest.{div-same}
 use borrow.Author.Tests.{lt-ltb}
-use Rattle.complex.proofs.Limbs.{same-test}
+use Rattle.complex.proofs.Tests.{same-test}
 
 pub square-lt : (a b : ℕ) → a < b → a * a < b * b
 square-lt a b h = lt-of-le-of-lt (mul-le-mul-left a (le-of-lt h)) (mul-lt-mul-of-pos-right h (lt-of-le-of-lt zero-le h))
@@ -23,7 +23,7 @@ cut-test x y z d p =
     (λ h. subst (λ (n : ℕ). n < z) (mul-add-div-right p x y) (div-lt-iff-lt-mul p .1 h))
     (λ h. div-lt-iff-lt-mul p .0 (subst (λ (n : ℕ). n < z) (sym (mul-add-div-right p x y)) h))
 
--- two sums cut off are below what the whole sums are below
+-- two numbers cut off sum to less than a bound that their whole sum is below
 cut-below : (x y z d : ℕ) → 0 < d → x + y < z * d → x / d + y / d < z
 cut-below x y z d p h =
     let s : (x / d + y / d) * d < z * d = omega (arith, div-mul-le-self x d, div-mul-le-self y d) in

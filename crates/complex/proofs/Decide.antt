@@ -14,6 +14,7 @@ use Rattle.complex.specs.declared.parts.Part.{Part}
 use Rattle.complex.specs.Bits.{bitsOf}
 use Rattle.complex.specs.Zero.{magnitude, threshold, squaresBelow}
 use Rattle.complex.specs.Parts.{magnitudeOfFields, magnitudeOfBits, Scaled, cutSquare}
+use Rattle.complex.proofs.Tests.{last-no, last-decides}
 use Rattle.complex.proofs.Cut.{cut, cut-significand, square-lt}
 use Rattle.complex.proofs.Magnitude.{magnitude-by-bits, rises, not-below}
 use Rattle.complex.proofs.Scaling.{in-places, lies}
@@ -76,10 +77,9 @@ too-big : (A B : ℕ) → magnitude threshold ≤ A → squaresBelow A B ≡ fal
 unfolding squaresBelow
 too-big A B h = le-ltb (A * A + B * B) (magnitude threshold * magnitude threshold) (sum-from A B (magnitude threshold) h)
 
-too-big-2 : (A B : ℕ) → magnitude threshold ≤ B → squaresBelow A B ≡ false
+swapped : (A B : ℕ) → squaresBelow A B ≡ squaresBelow B A
 unfolding squaresBelow
-too-big-2 A B h =
-    le-ltb (A * A + B * B) (magnitude threshold * magnitude threshold) (le-trans (sum-from B A (magnitude threshold) h) (le-of-eq (add-comm (B * B) (A * A))))
+swapped A B = ap (λ (n : ℕ). ltb n (magnitude threshold * magnitude threshold)) (add-comm (A * A) (B * B))
 
 halved : (A B h : ℕ) → A < h → B < h → A * A + B * B < 2 * h * (2 * h)
 halved A B h a b = omega (arith, square-lt A h a, square-lt B h b)
@@ -94,21 +94,6 @@ small-enough A B a b =
 
 abbrev zeroTest : Float → Float → Bool
 zeroTest x y = finite x && finite y && squaresBelow (magnitude x) (magnitude y)
-
-no-first : (f g l : Bool) → (T f → l ≡ false) → false ≡ (f && g && l)
-no-first false g l h = refl
-no-first true false l h = refl
-no-first true true l h = sym (h tt)
-
-no-second : (f g l : Bool) → (T g → l ≡ false) → false ≡ (f && g && l)
-no-second false g l h = refl
-no-second true false l h = refl
-no-second true true l h = sym (h tt)
-
-yes-both : (f g l : Bool) → T f → T g → l ≡ (f && g && l)
-yes-both true true l p q = refl
-yes-both true false l p q = absurd q
-yes-both false g l p q = absurd p
 
 -- below T's bits there is no infinity and no NaN
 below-is-finite : (x : Float) → bitsOf x % 2 ^ 63 < tBits → T (finite x)
@@ -139,12 +124,13 @@ module _ {x y : Float} {a b : ℕ} (m : Measured x y a b) where
   pub first-from-t : tBits ≤ a → false ≡ zeroTest x y
   first-from-t h =
       let k = subst (λ (n : ℕ). tBits ≤ n) (m .bits-x) h in
-      no-first (finite x) (finite y) (squaresBelow (magnitude x) (magnitude y)) (λ t. too-big (magnitude x) (magnitude y) (from-t x (m .fits-x) k t))
+      last-no (finite x) (finite y) (squaresBelow (magnitude x) (magnitude y)) (λ t u. too-big (magnitude x) (magnitude y) (from-t x (m .fits-x) k t))
 
   pub second-from-t : tBits ≤ b → false ≡ zeroTest x y
   second-from-t h =
       let k = subst (λ (n : ℕ). tBits ≤ n) (m .bits-y) h in
-      no-second (finite x) (finite y) (squaresBelow (magnitude x) (magnitude y)) (λ t. too-big-2 (magnitude x) (magnitude y) (from-t y (m .fits-y) k t))
+      last-no (finite x) (finite y) (squaresBelow (magnitude x) (magnitude y))
+      (λ t u. swapped (magnitude x) (magnitude y) ∙ too-big (magnitude y) (magnitude x) (from-t y (m .fits-y) k u))
 
   pub both-below-half : a < halfBits → b < halfBits → true ≡ zeroTest x y
   both-below-half h k =
@@ -153,7 +139,7 @@ module _ {x y : Float} {a b : ℕ} (m : Measured x y a b) where
       let fx = below-is-finite x (lt-of-lt-of-le hx (lit≤ tt)) in
       let fy = below-is-finite y (lt-of-lt-of-le hy (lit≤ tt)) in
       sym (small-enough (magnitude x) (magnitude y) (below-half x (m .fits-x) hx) (below-half y (m .fits-y) hy))
-      ∙ yes-both (finite x) (finite y) (squaresBelow (magnitude x) (magnitude y)) fx fy
+      ∙ last-decides (finite x) (finite y) (squaresBelow (magnitude x) (magnitude y)) fx fy
 
   -- what `squares_below` is handed and says, where both are below T
   pub by-squares : (r : Bool) → a < tBits → b < tBits
@@ -168,4 +154,4 @@ module _ {x y : Float} {a b : ℕ} (m : Measured x y a b) where
       let u : magnitudeOfBits (a % 2 ^ 63) ≡ magnitude x = ap magnitudeOfBits (s ∙ m .bits-x) ∙ sym (magnitude-by-bits x (m .fits-x) fx) in
       let v : magnitudeOfBits (b % 2 ^ 63) ≡ magnitude y = ap magnitudeOfBits (t ∙ m .bits-y) ∙ sym (magnitude-by-bits y (m .fits-y) fy) in
       e (below-t (a % 2 ^ 63) (omega arith)) (below-t (b % 2 ^ 63) (omega arith)) ∙ (λ i. squaresBelow (u i) (v i))
-      ∙ yes-both (finite x) (finite y) (squaresBelow (magnitude x) (magnitude y)) fx fy
+      ∙ last-decides (finite x) (finite y) (squaresBelow (magnitude x) (magnitude y)) fx fy

@@ -5,7 +5,7 @@ pub mod Alike
 pub mod Classes
 pub mod Pairs
 pub mod Magnitude
-mod Both
+mod Tests
 mod Limbs
 mod Cut
 mod Scaling

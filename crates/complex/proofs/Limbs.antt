@@ -3,25 +3,15 @@ use mathlib.Core.Path.{_≡_, refl, sym, ap, _∙_, subst}
 use Prim.Native.Nat.{ℕ, _+_, _-_, _*_, _/_, _%_, _^_, _≤_, _<_}
 use native.Mathlib.Nat.{add-assoc, add-mul, mul-assoc, mul-comm, add-zero, zero-add, div-one, div-add-mod', mod-lt, mul-mod-left, mul-div-cancel, mul-add-div-right, div-lt-iff-lt-mul, div-eq-of-lt, lt-of-lt-of-le, lt-of-le-of-lt, le-of-eq, le-add-right, mul-le-mul, mod-eq-of-lt}
 use native.Mathlib.Omega.{arith}
-use native.Mathlib.Decide.{decLt}
 use lib.Arith.{digits-lt, digits-div, digits-mod, mod-mul}
 use lib.Dec.{ltb}
 use lib.Pow.{add-lt-pow, pow-pos, pow-add, pow-mono, shr-lt, shr-le, shr-shr}
-use borrow.Author.Tests.{lt-ltb, le-ltb}
 use Rattle.complex.specs.declared.wide.Wide.{Wide}
 use Rattle.complex.specs.Wide.{value, wide}
+use Rattle.complex.proofs.Tests.{same-test}
 
 abbrev pub limbs : ℕ → ℕ → Wide
 limbs h l = record { hi = h; lo = l }
-
--- two tests that imply each other are one test
-pub same-test : (a b c d : ℕ) → (a < b → c < d) → (c < d → a < b) → ltb a b ≡ ltb c d
-same-test a b c d f g = go (decLt a b) (decLt c d)
-  where
-    go : Dec (a < b) → Dec (c < d) → ltb a b ≡ ltb c d
-    go (yes p) q = lt-ltb a b p ∙ sym (lt-ltb c d (f p))
-    go (no n) (yes q) = absurd (n (g q))
-    go (no n) (no m) = le-ltb a b (omega arith) ∙ sym (le-ltb c d (omega arith))
 
 -- ---- limbs and the number that they make
 

@@ -1,7 +1,7 @@
 -- `complex::equality::equal` meets its contract: both parts are. Assumes nothing.
 use borrow.Author.Needs.{needs}
 use Rattle.complex.specs.Equality.{equalDoubles, equal}
-use Rattle.complex.proofs.Both.{both-yes, first-no}
+use Rattle.complex.proofs.Tests.{both-yes, first-no}
 use Rattle.complex.proofs.equality.equal.Statement.{statement}
 use Rattle.complex.proofs.equality.equal.Tie as tie
 
