@@ -30,19 +30,19 @@ left-or : (b : Bool) → T b → T (b || false)
 left-or true h = tt
 left-or false h = absurd h
 
-signs : (s t : Bool) (a : ℕ) → T (Bool·beq s t || eqb a 0) → (s ≡ t) ⊎ (a ≡ 0)
-signs true true a h = inl refl
-signs false false a h = inl refl
-signs true false a h = inr (eqb→eq a 0 h)
-signs false true a h = inr (eqb→eq a 0 h)
+sign-of-test : (s t : Bool) (a : ℕ) → T (Bool·beq s t || eqb a 0) → (s ≡ t) ⊎ (a ≡ 0)
+sign-of-test true true a h = inl refl
+sign-of-test false false a h = inl refl
+sign-of-test true false a h = inr (eqb→eq a 0 h)
+sign-of-test false true a h = inr (eqb→eq a 0 h)
 
-unsigned : (s t : Bool) (a : ℕ) → (s ≡ t) ⊎ (a ≡ 0) → T (Bool·beq s t || eqb a 0)
-unsigned true true a h = tt
-unsigned false false a h = tt
-unsigned true false a (inl e) = absurd (subst T e tt)
-unsigned true false a (inr z) = eq→eqb z
-unsigned false true a (inl e) = absurd (subst T (sym e) tt)
-unsigned false true a (inr z) = eq→eqb z
+test-of-sign : (s t : Bool) (a : ℕ) → (s ≡ t) ⊎ (a ≡ 0) → T (Bool·beq s t || eqb a 0)
+test-of-sign true true a h = tt
+test-of-sign false false a h = tt
+test-of-sign true false a (inl e) = absurd (subst T e tt)
+test-of-sign true false a (inr z) = eq→eqb z
+test-of-sign false true a (inl e) = absurd (subst T (sym e) tt)
+test-of-sign false true a (inr z) = eq→eqb z
 
 cancelled : {s t : Bool} (a : ℕ) (d : ℤ) → (s ≡ t) ⊎ (a * down d ≡ 0) → (s ≡ t) ⊎ (a ≡ 0)
 cancelled a d (inl e) = inl e
@@ -52,11 +52,11 @@ scaled : {s t : Bool} (a : ℕ) (d : ℤ) → (s ≡ t) ⊎ (a ≡ 0) → (s ≡
 scaled a d (inl e) = inl e
 scaled a d (inr z) = inr (ap (λ (n : ℕ). n * down d) z ∙ zero-mul (down d))
 
-same-inf : (s t : Bool) → T (Bool·beq s t || false) → Alike (inf s) (inf t)
-same-inf true true h = infs
-same-inf false false h = infs
-same-inf true false h = absurd h
-same-inf false true h = absurd h
+inf-of-test : (s t : Bool) → T (Bool·beq s t || false) → Alike (inf s) (inf t)
+inf-of-test true true h = infs
+inf-of-test false false h = infs
+inf-of-test true false h = absurd h
+inf-of-test false true h = absurd h
 
 pub alike : (x y : Float) → T (equalDoubles x y) → Alike x y
 unfolding equalDoubles eq isNan
@@ -64,7 +64,7 @@ alike nan nan h = nans
 alike nan (inf t) h = absurd h
 alike nan (fin t n d) h = absurd h
 alike (inf s) nan h = absurd h
-alike (inf s) (inf t) h = same-inf s t h
+alike (inf s) (inf t) h = inf-of-test s t h
 alike (inf s) (fin t n d) h = absurd h
 alike (fin s m e) nan h = absurd h
 alike (fin s m e) (inf t) h = absurd h
@@ -72,20 +72,20 @@ alike (fin s m e) (fin t n d) h =
     let a = m * up e * down d in
     let b = n * up d * down e in
     let l = or-left (eqb a b && (Bool·beq s t || eqb a 0)) h in
-    fins (eqb→eq a b (and-l (eqb a b) (Bool·beq s t || eqb a 0) l)) (cancelled (m * up e) d (signs s t a (and-r (eqb a b) (Bool·beq s t || eqb a 0) l)))
+    fins (eqb→eq a b (and-l (eqb a b) (Bool·beq s t || eqb a 0) l)) (cancelled (m * up e) d (sign-of-test s t a (and-r (eqb a b) (Bool·beq s t || eqb a 0) l)))
 
-same-inf⁻¹ : (s : Bool) → T (Bool·beq s s || false)
-same-inf⁻¹ true = tt
-same-inf⁻¹ false = tt
+inf-equals-itself : (s : Bool) → T (Bool·beq s s || false)
+inf-equals-itself true = tt
+inf-equals-itself false = tt
 
 pub equal-of : {x y : Float} → Alike x y → T (equalDoubles x y)
 unfolding equalDoubles eq isNan
 equal-of nans = tt
-equal-of (infs {s}) = same-inf⁻¹ s
+equal-of (infs {s}) = inf-equals-itself s
 equal-of (fins {s} {m} {e} {t} {n} {d} v g) =
     let a = m * up e * down d in
     let b = n * up d * down e in
-    left-or (eqb a b && (Bool·beq s t || eqb a 0)) (and-i (eqb a b) (Bool·beq s t || eqb a 0) (eq→eqb v) (unsigned s t a (scaled (m * up e) d g)))
+    left-or (eqb a b && (Bool·beq s t || eqb a 0)) (and-i (eqb a b) (Bool·beq s t || eqb a 0) (eq→eqb v) (test-of-sign s t a (scaled (m * up e) d g)))
 
 -- ---- an equivalence
 
@@ -105,8 +105,8 @@ alike-sym (fins {s} {m} {e} {t} {n} {d} v (inl g)) = fins (sym v) (inl (sym g))
 alike-sym (fins {s} {m} {e} {t} {n} {d} v (inr z)) = fins (sym v) (inr (other-zero (m * up e) (n * up d) e d v z))
 
 -- a / c = b / d and b / d = f / g
-through : (a b f : ℕ) (c d g : ℤ) → a * down d ≡ b * down c → b * down g ≡ f * down d → a * down g ≡ f * down c
-through a b f c d g p q =
+cross-trans : (a b f : ℕ) (c d g : ℤ) → a * down d ≡ b * down c → b * down g ≡ f * down d → a * down g ≡ f * down c
+cross-trans a b f c d g p q =
     eq-of-mul-eq-mul-right (down d) (down-pos d) (a * down g) (f * down c)
     (mul-right-comm a (down g) (down d) ∙ ap (λ (n : ℕ). n * down g) p
     ∙ mul-right-comm b (down c) (down g) ∙ ap (λ (n : ℕ). n * down c) q ∙ mul-right-comm f (down d) (down c))
@@ -120,7 +120,7 @@ alike-trans : {x y z : Float} → Alike x y → Alike y z → Alike x z
 alike-trans nans nans = nans
 alike-trans infs infs = infs
 alike-trans (fins {s} {m} {e} {t} {n} {d} v g) (fins {t = u} {n = k} {d = c} w h) =
-    fins (through (m * up e) (n * up d) (k * up c) e d c v w) (same-sign (m * up e) (n * up d) e d v g h)
+    fins (cross-trans (m * up e) (n * up d) (k * up c) e d c v w) (same-sign (m * up e) (n * up d) e d v g h)
 
 pub equal-refl : (x : Float) → T (equalDoubles x x)
 equal-refl x = equal-of (alike-refl x)

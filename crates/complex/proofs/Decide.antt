@@ -16,8 +16,8 @@ use Rattle.complex.specs.Zero.{magnitude, threshold, squaresBelow}
 use Rattle.complex.specs.Parts.{magnitudeOfFields, magnitudeOfBits, Scaled, cutSquare}
 use Rattle.complex.proofs.Tests.{last-no, last-decides}
 use Rattle.complex.proofs.Cut.{cut, cut-significand, square-lt}
-use Rattle.complex.proofs.Magnitude.{magnitude-by-bits, rises, not-below}
-use Rattle.complex.proofs.Scaling.{in-places, lies}
+use Rattle.complex.proofs.Magnitude.{magnitude-by-bits, rises, rises-le}
+use Rattle.complex.proofs.Scaling.{in-places, placed-below}
 
 -- ---- T, by its bits
 
@@ -55,7 +55,7 @@ at-t : (t : ℕ) → t ≡ significand * 2 ^ 988 → (A B : ℕ) (p q : Part) �
     → ltb (A * A + B * B) (t * t) ≡ ltb (cutSquare p + cutSquare q) (significand * significand)
 at-t t e A B p q a b ha hb =
     ap (λ (n : ℕ). ltb (A * A + B * B) (n * n)) e
-    ∙ cut (2 ^ 988) significand (2 ^ 1040) (pow-pos 988) (lit≤ tt) A B (lies 988 significand t e (lit< tt) A p a ha) (lies 988 significand t e (lit< tt) B q b hb)
+    ∙ cut (2 ^ 988) significand (2 ^ 1040) (pow-pos 988) (lit≤ tt) A B (placed-below 988 significand t e (lit< tt) A p a ha) (placed-below 988 significand t e (lit< tt) B q b hb)
     ∙ (λ i. ltb (square A p a ha i + square B q b hb i) (significand * significand))
   where
     square : (C : ℕ) (r : Part) → Scaled C r → C < t → C * C / (2 ^ 988 * 2 ^ 988) ≡ cutSquare r
@@ -104,7 +104,7 @@ below-is-finite (inf false) h = absurd (omega arith)
 below-is-finite (fin s m e) h = tt
 
 from-t : (x : Float) → T (fits binary64 x) → tBits ≤ bitsOf x % 2 ^ 63 → T (finite x) → magnitude threshold ≤ magnitude x
-from-t x f h g = le-trans (le-of-eq t-by-bits) (le-trans (not-below tBits (bitsOf x % 2 ^ 63) h) (le-of-eq (sym (magnitude-by-bits x f g))))
+from-t x f h g = le-trans (le-of-eq t-by-bits) (le-trans (rises-le tBits (bitsOf x % 2 ^ 63) h) (le-of-eq (sym (magnitude-by-bits x f g))))
 
 below-t : (b : ℕ) → b < tBits → magnitudeOfBits b < magnitude threshold
 below-t b h = lt-of-lt-of-le (rises b tBits h) (le-of-eq (sym t-by-bits))

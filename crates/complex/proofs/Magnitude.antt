@@ -65,17 +65,17 @@ module _ (x : Float) (f : T (fits binary64 x)) (h : T (finite x)) where
 
 -- ---- it rises with the bits
 
-under : (x t : ℕ) → t < 2 ^ 52 → magnitudeOfFields x t < 2 ^ 52 * 2 ^ x
+fields-under : (x t : ℕ) → t < 2 ^ 52 → magnitudeOfFields x t < 2 ^ 52 * 2 ^ x
 unfolding magnitudeOfFields
-under zero t h = h
-under (suc x) t h =
+fields-under zero t h = h
+fields-under (suc x) t h =
     let s : 2 ^ 52 + t < 2 ^ 53 = omega arith in
     let e : 2 ^ 53 * 2 ^ x ≡ 2 ^ 52 * 2 ^ suc x = mul-assoc (2 ^ 52) 2 (2 ^ x) ∙ ap (λ (n : ℕ). 2 ^ 52 * n) (mul-comm 2 (2 ^ x) ∙ sym (pow-suc 2 x)) in
     lt-of-lt-of-le (mul-lt-mul-of-pos-right s (pow-pos x)) (le-of-eq e)
 
-from : (x t : ℕ) → 2 ^ 52 * 2 ^ x ≤ magnitudeOfFields (suc x) t
+fields-from : (x t : ℕ) → 2 ^ 52 * 2 ^ x ≤ magnitudeOfFields (suc x) t
 unfolding magnitudeOfFields
-from x t = mul-le-mul-right (2 ^ x) (le-add-right (2 ^ 52) t)
+fields-from x t = mul-le-mul-right (2 ^ x) (le-add-right (2 ^ 52) t)
 
 fraction-rises : (x t u : ℕ) → t < u → magnitudeOfFields x t < magnitudeOfFields x u
 unfolding magnitudeOfFields
@@ -86,7 +86,7 @@ fraction-rises (suc x) t u h =
 
 field-rises : (x y t u : ℕ) → t < 2 ^ 52 → x < y → magnitudeOfFields x t < magnitudeOfFields y u
 field-rises x zero t u b h = absurd (omega arith)
-field-rises x (suc y) t u b h = lt-of-lt-of-le (under x t b) (le-trans (mul-le-mul-left (2 ^ 52) (pow-mono {i = x} {j = y} (omega arith))) (from y u))
+field-rises x (suc y) t u b h = lt-of-lt-of-le (fields-under x t b) (le-trans (mul-le-mul-left (2 ^ 52) (pow-mono {i = x} {j = y} (omega arith))) (fields-from y u))
 
 pub rises : (p q : ℕ) → p < q → magnitudeOfBits p < magnitudeOfBits q
 unfolding magnitudeOfBits
@@ -99,8 +99,8 @@ rises p q h = go (decLt (p / 2 ^ 52) (q / 2 ^ 52))
         subst (λ (x : ℕ). magnitudeOfFields (p / 2 ^ 52) (p % 2 ^ 52) < magnitudeOfFields x (q % 2 ^ 52)) e
         (fraction-rises (p / 2 ^ 52) (p % 2 ^ 52) (q % 2 ^ 52) (omega arith))
 
-pub not-below : (p q : ℕ) → p ≤ q → magnitudeOfBits p ≤ magnitudeOfBits q
-not-below p q h = go (decLt p q)
+pub rises-le : (p q : ℕ) → p ≤ q → magnitudeOfBits p ≤ magnitudeOfBits q
+rises-le p q h = go (decLt p q)
   where
     go : Dec (p < q) → magnitudeOfBits p ≤ magnitudeOfBits q
     go (yes l) = le-of-lt (rises p q l)

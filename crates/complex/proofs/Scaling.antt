@@ -35,8 +35,8 @@ eleven (suc m) h =
 value-of : (m e d l : ℕ) → d + l ≡ 53 → m * 2 ^ e * 2 ^ 53 ≡ m * 2 ^ d * 2 ^ (e + l)
 value-of m e d l q = subst (λ (n : ℕ). m * 2 ^ e * 2 ^ n ≡ m * 2 ^ d * 2 ^ (e + l)) q (simp (pow-add, mul-assoc, mul-left-comm))
 
-some : (m e : ℕ) → 0 < m → m < 2 ^ 53 → Scaled (m * 2 ^ e) (placed m e)
-some m e p h = at (leadingZeros 64 m) (eleven m h) (leading-top 64 m p (omega arith))
+scaled-nonzero : (m e : ℕ) → 0 < m → m < 2 ^ 53 → Scaled (m * 2 ^ e) (placed m e)
+scaled-nonzero m e p h = at (leadingZeros 64 m) (eleven m h) (leading-top 64 m p (omega arith))
   where
     at : (z : ℕ) → 11 ≤ z → (j : ℕ) × (z + suc j ≡ 64) × (2 ^ j ≤ m) × (m < 2 ^ suc j) → Scaled (m * 2 ^ e) (part (m * 2 ^ (z - 11) % 2 ^ 64) (e + (64 - z)))
     at z g t =
@@ -55,15 +55,15 @@ some m e p h = at (leadingZeros 64 m) (eleven m h) (leading-top 64 m p (omega ar
           top = λ _. subst (λ (n : ℕ). 2 ^ 52 ≤ n) (sym exact) (subst (λ (n : ℕ). 2 ^ n ≤ m * 2 ^ d) jd jm);
         }
 
-none : (e : ℕ) → e ≡ 0 → Scaled (zero * 2 ^ e) (placed zero e)
-none e z =
+scaled-zero : (e : ℕ) → e ≡ 0 → Scaled (zero * 2 ^ e) (placed zero e)
+scaled-zero e z =
     subst (λ (k : ℕ). Scaled (zero * 2 ^ k) (placed zero k)) (sym z)
     (subst (λ (n : ℕ). Scaled 0 (part (zero * 2 ^ (n - 11) % 2 ^ 64) (0 + (64 - n)))) (sym (leading-of-zero 64))
     (record { value = refl; small = omega arith; top = λ h. absurd (omega arith) }))
 
 scaled : (m e : ℕ) → m < 2 ^ 53 → (m ≡ 0 → e ≡ 0) → Scaled (m * 2 ^ e) (placed m e)
-scaled zero e h z = none e (z refl)
-scaled (suc m) e h z = some (suc m) e (zero-lt-suc m) h
+scaled zero e h z = scaled-zero e (z refl)
+scaled (suc m) e h z = scaled-nonzero (suc m) e (zero-lt-suc m) h
 
 -- ---- the fields of a double's bits
 
@@ -147,8 +147,8 @@ module _ (u n T : ℕ) (t : T ≡ n * 2 ^ u) (small : n < 2 ^ 53) (A : ℕ) (p :
       ∙ sym (mul-assoc (p .significand) (2 ^ u) (2 ^ 53)))
 
   -- and it is a whole number of T's last places, or below 2 ^ (u + 52)
-  pub lies : Placed (2 ^ u) (2 ^ (u + 52)) A
-  lies = go (decLt (p .scale) (u + 53))
+  pub placed-below : Placed (2 ^ u) (2 ^ (u + 52)) A
+  placed-below = go (decLt (p .scale) (u + 53))
     where
       go : Dec (p .scale < u + 53) → Placed (2 ^ u) (2 ^ (u + 52)) A
       go (yes h) =

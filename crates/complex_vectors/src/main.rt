@@ -78,7 +78,7 @@ fn constant(k: u64) -> Answer {
     }
 }
 
-// What the port answers to a line.
+// What the port answers to a line. An operation that is none is answered wrong.
 fn answered(line: &[u8; 104]) -> Answer {
     let op = line[0];
     let x = number(line, 0);
@@ -102,7 +102,8 @@ fn answered(line: &[u8; 104]) -> Answer {
             flag(complex::zero::is_zero(x)),
             flag(complex::zero::is_one(x)),
         ),
-        _ => constant(field(line, 0)),
+        b'k' => constant(field(line, 0)),
+        _ => Answer(!field(line, 4), 0),
     }
 }
 
