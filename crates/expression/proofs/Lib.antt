@@ -1,0 +1,5 @@
+-- The laws that the proofs of this crate, and where `pub` of its callers, cite.
+pub mod Numbering
+pub mod Likeness
+pub mod Sizes
+mod Examples

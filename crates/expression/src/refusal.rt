@@ -1,0 +1,79 @@
+// The refusals of 01's table by name, each with its number and what it carries.
+ghost use mathlib.Core.Path.{_≡_};
+ghost use Rattle.expression.specs.Refusals.{numberOf, placeOf};
+use complex::Complex;
+
+// What a row of the sheet gives a value of: the names sin, cos, exp, sqrt and pow.
+pub enum Operation {
+    Sine,
+    Cosine,
+    Exponent,
+    SquareRoot,
+    Power,
+}
+
+pub enum Refusal {
+    BadList(u64),
+    LongList(u64),
+    BadSheet(u64),
+    LongSheet(u64),
+    BadLimit,
+    Big,
+    Deep,
+    Room,
+    Need(Operation, Complex, Complex),
+    Incomplete,
+    NotReal,
+    NotANumber,
+    OutRoom,
+    LongTape,
+    BadTape(u64),
+}
+
+impl Refusal {
+    // 01's number.
+    pub fn number(self) -> u64
+        ensures { λ r. ⌜ r ≡ numberOf self ⌝ }
+    {
+        match self {
+            Refusal::BadList(_) => 1,
+            Refusal::LongList(_) => 2,
+            Refusal::BadSheet(_) => 3,
+            Refusal::LongSheet(_) => 4,
+            Refusal::BadLimit => 5,
+            Refusal::Big => 6,
+            Refusal::Deep => 7,
+            Refusal::Room => 8,
+            Refusal::Need(_, _, _) => 9,
+            Refusal::Incomplete => 10,
+            Refusal::NotReal => 11,
+            Refusal::NotANumber => 12,
+            Refusal::OutRoom => 13,
+            Refusal::LongTape => 14,
+            Refusal::BadTape(_) => 15,
+        }
+    }
+
+    // The line or step that it carries, else 0.
+    pub fn place(self) -> u64
+        ensures { λ r. ⌜ r ≡ placeOf self ⌝ }
+    {
+        match self {
+            Refusal::BadList(line) => line,
+            Refusal::LongList(line) => line,
+            Refusal::BadSheet(line) => line,
+            Refusal::LongSheet(line) => line,
+            Refusal::BadLimit => 0,
+            Refusal::Big => 0,
+            Refusal::Deep => 0,
+            Refusal::Room => 0,
+            Refusal::Need(_, _, _) => 0,
+            Refusal::Incomplete => 0,
+            Refusal::NotReal => 0,
+            Refusal::NotANumber => 0,
+            Refusal::OutRoom => 0,
+            Refusal::LongTape => 0,
+            Refusal::BadTape(step) => step,
+        }
+    }
+}
