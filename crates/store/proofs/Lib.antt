@@ -1,0 +1,15 @@
+-- The laws that the proofs of this crate, and where `pub` of its callers, cite.
+mod Slices
+mod Places
+mod Coding
+pub mod Trees
+mod Keys
+mod Walks
+mod Packing
+pub mod Seeking
+mod Links
+pub mod Building
+mod Growing
+mod Adding
+mod Keeping
+pub mod Stored

@@ -1,0 +1,56 @@
+-- The index by which a node is found: chains of nodes whose keys fall in one bucket, the newest first. Only connecting.
+use Prim.Native.Nat.{ℕ, zero, suc, _+_, _*_, _%_, _/_}
+use mathlib.Core.Bool.{cond}
+use mathlib.Core.List.{List}
+use lib.Dec.{eqb}
+use lib.ListN.{getD, set}
+use Rattle.complex.specs.Equality.{classOfBits}
+use Rattle.store.specs.declared.node.Fields.{Fields}
+use Rattle.store.specs.Words.{withNode, withHead}
+use Rattle.store.specs.Nodes.{fields}
+use Rattle.store.specs.Memory.{Memory, room, fieldsAt, classAt, headOn}
+
+-- the fields of a node with classes in place of operands and of doubles: those of equal trees, and no others, are the same
+unfoldable pub keyAs : (class : ℕ → ℕ) (kind : ℕ) → Fields → Fields
+keyAs class zero f = f
+keyAs class (suc zero) f = fields (f .code) (classOfBits (f .first)) (classOfBits (f .second))
+keyAs class (suc (suc zero)) f = f
+keyAs class (suc (suc (suc zero))) f = f
+keyAs class (suc (suc (suc (suc zero)))) f = f
+keyAs class (suc (suc (suc (suc (suc zero))))) f = fields (f .code) (class (f .first)) (f .second)
+keyAs class (suc (suc (suc (suc (suc (suc zero)))))) f = fields (f .code) (class (f .first)) (f .second)
+keyAs class (suc (suc (suc (suc (suc (suc (suc k))))))) f = fields (f .code) (class (f .first)) (class (f .second))
+
+unfoldable pub keyOf : (class : ℕ → ℕ) → Fields → Fields
+keyOf class f = keyAs class (f .code % 8) f
+
+-- a key as one number of 32 bits; the multipliers only spread the keys
+unfoldable pub hash : Fields → ℕ
+hash f =
+    (f .code % 64 * 640531527
+    + (f .first % 4294967296 * 1013904223 + f .first / 4294967296 * 747796405) % 4294967296
+    + (f .second % 4294967296 * 829304459 + f .second / 4294967296 * 1061234557) % 4294967296) % 4294967296
+
+-- one of twice as many buckets as there are places for nodes, which are fewer than 65536
+unfoldable pub bucketOf : (places : ℕ) → Fields → ℕ
+bucketOf places f = hash f * (places % 65536) / 2147483648
+
+module _ (m : Memory) where
+  unfoldable pub keyAt : ℕ → Fields
+  keyAt k = keyOf (classAt m) (fieldsAt m k)
+
+  unfoldable pub bucketAt : ℕ → ℕ
+  bucketAt k = bucketOf (room m) (keyAt k)
+
+-- of the first n, the last that f sends to b, plus one; or 0
+unfoldable pub latest : (f : ℕ → ℕ) (b n : ℕ) → ℕ
+latest f b zero = 0
+latest f b (suc k) = cond (eqb (f k) b) (suc k) (latest f b k)
+
+-- the links after node n joined a class, and became the head of a bucket
+unfoldable pub withOwn : (link : List ℕ) (n class bucket : ℕ) → List ℕ
+withOwn link n class bucket = set link n (withNode (getD link n 0) class (headOn link bucket))
+
+unfoldable pub joined : (link : List ℕ) (n class bucket : ℕ) → List ℕ
+joined link n class bucket =
+    set (withOwn link n class bucket) (bucket / 2) (withHead bucket (getD (withOwn link n class bucket) (bucket / 2) 0) n)

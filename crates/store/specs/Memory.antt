@@ -1,0 +1,107 @@
+-- What the four slices hold, read as numbered nodes and as trees. Only connecting: no definition on trees rests on this page.
+use Prim.Native.Nat.{ℕ, zero, suc, _/_, min}
+use mathlib.Core.List.{List, [], _∷_, _++_}
+use mathlib.Core.Bool.{Bool, cond}
+use lib.ListN.{length, getD, replicate}
+use lib.Dec.{ltb}
+use Rattle.expression.specs.Trees.{Tree, leaf, pi}
+use Rattle.expression.specs.Alike.{equal}
+use Rattle.store.specs.declared.node.Expression.{Expression}
+use Rattle.store.specs.declared.node.Fields.{Fields}
+use Rattle.store.specs.Words.{codeIn, sizeIn, depthIn, headIn, classIn, keptIn, nextIn}
+use Rattle.store.specs.Nodes.{fields, expressionOf, grown}
+use Rattle.store.specs.Storing.{Kept, nothing, result, State, state}
+
+pub record Memory : Type 0 where
+  pub tag : List ℕ
+  pub first : List ℕ
+  pub second : List ℕ
+  pub link : List ℕ
+
+abbrev pub memory : List ℕ → List ℕ → List ℕ → List ℕ → Memory
+memory tag first second link = record { tag = tag; first = first; second = second; link = link }
+
+-- where a list first has a tree that passes, or the list's length
+unfoldable pub place : (Tree → Bool) → List Tree → ℕ
+place test [] = 0
+place test (t ∷ ts) = cond (test t) 0 (suc (place test ts))
+
+-- the fields of node k, each from the slice that has it
+unfoldable pub fieldsOn : (tag first second : List ℕ) → ℕ → Fields
+fieldsOn tag first second k = fields (codeIn (getD tag k 0)) (getD first k 0) (getD second k 0)
+
+unfoldable pub sizeOn : (tag : List ℕ) → ℕ → ℕ
+sizeOn tag k = sizeIn (getD tag k 0)
+
+unfoldable pub depthOn : (tag : List ℕ) → ℕ → ℕ
+depthOn tag k = depthIn (getD tag k 0)
+
+unfoldable pub headOn : (link : List ℕ) → ℕ → ℕ
+headOn link b = headIn b (getD link (b / 2) 0)
+
+unfoldable pub classOn : (link : List ℕ) → ℕ → ℕ
+classOn link k = classIn (getD link k 0)
+
+unfoldable pub keptOn : (link : List ℕ) → ℕ → ℕ
+keptOn link k = keptIn (getD link k 0)
+
+unfoldable pub nextOn : (link : List ℕ) → ℕ → ℕ
+nextOn link k = nextIn (getD link k 0)
+
+module _ (m : Memory) where
+  -- "The store's capacity is the shortest work slice, at most 4096"
+  unfoldable pub room : ℕ
+  room = min (min (min (length (m .tag)) (length (m .first))) (min (length (m .second)) (length (m .link)))) 4096
+
+  abbrev pub fieldsAt : ℕ → Fields
+  fieldsAt = fieldsOn (m .tag) (m .first) (m .second)
+
+  abbrev pub sizeAt : ℕ → ℕ
+  sizeAt = sizeOn (m .tag)
+
+  abbrev pub depthAt : ℕ → ℕ
+  depthAt = depthOn (m .tag)
+
+  abbrev pub headAt : ℕ → ℕ
+  headAt = headOn (m .link)
+
+  abbrev pub classAt : ℕ → ℕ
+  classAt = classOn (m .link)
+
+  abbrev pub keptAt : ℕ → ℕ
+  keptAt = keptOn (m .link)
+
+  abbrev pub nextAt : ℕ → ℕ
+  nextAt = nextOn (m .link)
+
+  -- node k
+  unfoldable pub expressionAt : ℕ → Expression
+  expressionAt k = expressionOf (fieldsAt k)
+
+  -- the trees of the nodes 0 .. n - 1, in order
+  unfoldable pub trees : ℕ → List Tree
+  trees zero = []
+  trees (suc k) = trees k ++ (grown (λ i. getD (trees k) i (leaf pi)) (expressionAt k) ∷ [])
+
+  unfoldable pub treeAt : ℕ → Tree
+  treeAt k = grown (λ i. getD (trees k) i (leaf pi)) (expressionAt k)
+
+  -- the tree of a node whose operands are among these
+  abbrev pub treeOf : Expression → Tree
+  treeOf e = grown treeAt e
+
+  -- a kept result's number, plus one
+  unfoldable pub linked : ℕ → Kept
+  linked zero = nothing
+  linked (suc k) = result (treeAt k)
+
+  -- the result kept for a tree: it stands with the first node whose tree is equal
+  unfoldable pub keptFor : ℕ → Tree → Kept
+  keptFor n t = cond (ltb (place (equal t) (trees n)) n) (linked (keptAt (place (equal t) (trees n)))) nothing
+
+  abbrev pub stateOf : (n calls : ℕ) → State
+  stateOf n calls = state room (trees n) (keptFor n) calls
+
+-- zero over the whole length of each slice
+abbrev pub cleared : Memory → Memory
+cleared m = memory (replicate (length (m .tag)) 0) (replicate (length (m .first)) 0) (replicate (length (m .second)) 0) (replicate (length (m .link)) 0)

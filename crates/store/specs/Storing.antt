@@ -1,0 +1,56 @@
+-- Storing trees and keeping results, on trees alone: the state of all that builds, and what each step does to it. Definitions only.
+use Prim.Native.Nat.{ℕ}
+use mathlib.Core.List.{List, [], _∷_, _++_}
+use mathlib.Core.Bool.{Bool, false, cond, _||_}
+use lib.ListN.{length}
+use lib.Dec.{ltb}
+use Rattle.expression.specs.declared.refusal.Refusal.{Refusal}
+use Rattle.expression.specs.Trees.{Tree, size, depth}
+use Rattle.expression.specs.Alike.{identical, equal}
+use Rattle.expression.specs.Limits.{largest, deepest}
+
+-- the result that is kept for a tree, if any
+pub data Kept : Type 0 where
+  nothing : Kept
+  result : Tree → Kept
+
+-- how many trees there is room for; the trees that are stored, in the order of their storing; the result kept for each tree; and the
+-- number of simplify calls so far, which storing passes on
+pub data State : Type 0 where
+  state : (room : ℕ) (stored : List Tree) (kept : Tree → Kept) (calls : ℕ) → State
+
+-- an answer: a tree, which is stored then, with the state; or a refusal
+pub data Answer : Type 0 where
+  gives : Tree → State → Answer
+  refused : Refusal → Answer
+
+-- one step after another; a refusal is passed on
+unfoldable pub andThen : Answer → (Tree → State → Answer) → Answer
+andThen (gives t s) next = next t s
+andThen (refused why) next = refused why
+
+-- "A node is new if no stored node has the same kind, operator, children and bits"
+unfoldable pub among : List Tree → Tree → Bool
+among [] t = false
+among (s ∷ ts) t = identical t s || among ts t
+
+-- "6 BIG: a new node of size over 1,000,000", "7 DEEP: a new node of depth over 64", "8 ROOM: a new node, store full"
+unfoldable pub intern : Tree → State → Answer
+intern t (state room stored kept calls) =
+    cond (among stored t) (gives t (state room stored kept calls))
+    (cond (ltb largest (size t)) (refused Refusal.Big)
+    (cond (ltb deepest (depth t)) (refused Refusal.Deep)
+    (cond (ltb (length stored) room) (gives t (state room (stored ++ (t ∷ [])) kept calls))
+    (refused Refusal.Room))))
+
+-- what is kept for a tree
+unfoldable pub recall : Tree → State → Kept
+recall t (state room stored kept calls) = kept t
+
+-- "Results are cached on return": u is kept for all trees equal to t, in place of what was kept before
+unfoldable pub keep : Tree → Tree → State → State
+keep t u (state room stored kept calls) = state room stored (λ v. cond (equal t v) (result u) (kept v)) calls
+
+-- a store in which nothing is stored and nothing kept
+abbrev pub fresh : (room calls : ℕ) → State
+fresh room calls = state room [] (λ t. nothing) calls

@@ -1,0 +1,31 @@
+-- What a walk through a chain of the index finds. Only connecting, and only inside the store.
+use Prim.Native.Nat.{ℕ, _≤_, _<_}
+use mathlib.Core.Path.{_≡_}
+use mathlib.Core.Bool.{Bool, true, false}
+use Rattle.store.specs.declared.index.Meeting.{Meeting}
+use Rattle.store.specs.declared.node.Fields.{Fields}
+use Rattle.store.specs.Memory.{Memory, fieldsAt, classAt}
+use Rattle.store.specs.Index.{keyAt}
+
+-- the class of a node with this key; or n, where none of the nodes from `from` on has it
+pub data Kinship (m : Memory) (n : ℕ) (key : Fields) (from class : ℕ) : Type 0 where
+  kin : (j : ℕ) → j < n → keyAt m j ≡ key → class ≡ classAt m j → Kinship m n key from class
+  stranger : class ≡ n → ((j : ℕ) → from ≤ j → j < n → keyAt m j ≡ key → ⊥) → Kinship m n key from class
+
+-- how node k meets the fields f with this key
+abbrev pub Meets : (m : Memory) (k : ℕ) (f key : Fields) → Meeting → Type 0
+Meets m k f key Meeting.Own = fieldsAt m k ≡ f
+Meets m k f key Meeting.Kin = (keyAt m k ≡ key) × (fieldsAt m k ≡ f → ⊥)
+Meets m k f key Meeting.Stranger = keyAt m k ≡ key → ⊥
+
+-- the walk found the node with the fields f; or n, and then the class of those with this key
+pub record Walked (m : Memory) (n : ℕ) (f key : Fields) (node class : ℕ) : Type 0 where
+  pub inside : node ≤ n
+  pub own : node < n → fieldsAt m node ≡ f
+  pub none : n ≤ node → (j : ℕ) → j < n → fieldsAt m j ≡ f → ⊥
+  pub kinship : n ≤ node → Kinship m n key 0 class
+
+-- a Boolean answer to a question
+abbrev pub Tells : Bool → Type 0 → Type 0
+Tells true A = A
+Tells false A = A → ⊥
