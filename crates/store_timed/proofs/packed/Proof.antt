@@ -1,0 +1,18 @@
+-- `packed` meets its contract: by the two kinds of an answer. Assumes nothing.
+use mathlib.Core.Path.{refl}
+use borrow.Author.Needs.{needs}
+use Rattle.store_timed.proofs.packed.Statement.{statement}
+use Rattle.store_timed.proofs.packed.Tie as tie
+
+pub packed-spec : {M : Type 1} → statement M
+packed-spec =
+    tie.close
+    (tie.spec
+    (λ c. search needs)
+    (λ c. search needs)
+    (λ c. search needs)
+    (λ c. search needs)
+    (λ c κs. search needs)
+    (λ c. search needs)
+    (λ c. rw (c .before .answer .given .1) refl)
+    (λ c. rw (c .before .before .answer2 .given .1, c .number .ensures) refl))

@@ -1,0 +1,2 @@
+-- What the contracts of `store_timed` cite.
+pub mod Packed
