@@ -10,7 +10,7 @@ use Rattle.expression.specs.declared.refusal.Refusal.{Refusal}
 use Rattle.expression.specs.Trees.{size, depth}
 use Rattle.expression.specs.Limits.{largest, deepest}
 use Rattle.store.specs.declared.Added.{Added}
-use Rattle.store.specs.declared.Limit.{Limit}
+use Rattle.store.specs.declared.Verdict.{Verdict}
 use Rattle.store.specs.declared.node.Expression.{Expression}
 use Rattle.store.specs.declared.node.Fields.{Fields}
 use Rattle.store.specs.Words.{tagOf}
@@ -18,10 +18,10 @@ use Rattle.store.specs.Nodes.{fieldsOf, measureFrom, Within, Sound}
 use Rattle.store.specs.Storing.{intern}
 use Rattle.store.specs.Memory.{Memory, memory, room, sizeAt, depthAt, classAt, treeAt, treeOf, stateOf}
 use Rattle.store.specs.Index.{keyOf, bucketOf, joined}
-use Rattle.store.specs.Held.{Holds, Built, firstPassed}
+use Rattle.store.specs.Held.{Holds, Built, judged}
 use Rattle.store.specs.Walk.{Walked}
 use Rattle.store.proofs.Trees.{measure-grown, room-each}
-use Rattle.store.proofs.Growing.{Limits, kept-limits, built-found, built-refused, built-new}
+use Rattle.store.proofs.Growing.{Limits, allowed-limits, built-found, built-refused, built-new}
 
 -- what `add` knows once it has sought the node
 pub record Sought (m : Memory) (n : ℕ) (e : Expression) (f key : Fields) (most bucket node class : ℕ) : Type 0 where
@@ -45,24 +45,24 @@ module _ {m : Memory} {n : ℕ} {e : Expression} {f key : Fields} {most bucket n
   pub adds-found : (calls : ℕ) → node < n → Built (intern (treeOf m e) (stateOf m n calls)) (Added.Node node n calls) n m m
   adds-found calls l = built-found h e (k .sound) w walked calls l
 
-  module _ (o : n ≤ node) {z y : ℕ} (ez : z ≡ measureFrom _+_ (sizeAt m) e) (ey : y ≡ measureFrom max (depthAt m) e) {limit : Limit}
-      (el : limit ≡ firstPassed (ltb largest z) (ltb deepest y) (ltb n most)) where
+  module _ (o : n ≤ node) {z y : ℕ} (ez : z ≡ measureFrom _+_ (sizeAt m) e) (ey : y ≡ measureFrom max (depthAt m) e) {verdict : Verdict}
+      (el : verdict ≡ judged (ltb largest z) (ltb deepest y) (ltb n most)) where
     size-is : z ≡ size (treeOf m e)
     size-is = ez ∙ measure-grown _+_ (treeAt m) (sizeAt m) n e w λ i l. h .each i l .sized
 
     depth-is : y ≡ depth (treeOf m e)
     depth-is = ey ∙ measure-grown max (treeAt m) (depthAt m) n e w λ i l. h .each i l .deep
 
-    limit-is : limit ≡ firstPassed (ltb largest (size (treeOf m e))) (ltb deepest (depth (treeOf m e))) (ltb n (room m))
-    limit-is = el ∙ rw (size-is, depth-is, k .most-is) refl
+    verdict-is : verdict ≡ judged (ltb largest (size (treeOf m e))) (ltb deepest (depth (treeOf m e))) (ltb n (room m))
+    verdict-is = el ∙ rw (size-is, depth-is, k .most-is) refl
 
-    pub adds-refused : (calls : ℕ) {why : Refusal} → limit ≡ Limit.Passed why → Built (intern (treeOf m e) (stateOf m n calls)) (Added.Refused why) n m m
-    adds-refused calls x = built-refused h e (k .sound) w walked calls o (sym x ∙ limit-is)
+    pub adds-refused : (calls : ℕ) {why : Refusal} → verdict ≡ Verdict.Refused why → Built (intern (treeOf m e) (stateOf m n calls)) (Added.Refused why) n m m
+    adds-refused calls x = built-refused h e (k .sound) w walked calls o (sym x ∙ verdict-is)
 
-    limits : limit ≡ Limit.Kept → Limits (ltb largest (size (treeOf m e))) (ltb deepest (depth (treeOf m e))) (ltb n (room m))
-    limits x = kept-limits _ _ _ (sym x ∙ limit-is)
+    limits : verdict ≡ Verdict.Allowed → Limits (ltb largest (size (treeOf m e))) (ltb deepest (depth (treeOf m e))) (ltb n (room m))
+    limits x = allowed-limits _ _ _ (sym x ∙ verdict-is)
 
-    pub adds-new : (calls : ℕ) {v : ℕ} {tag first second link : List ℕ} → limit ≡ Limit.Kept → v ≡ tagOf (f .code) z y → tag ≡ set (m .tag) n v
+    pub adds-new : (calls : ℕ) {v : ℕ} {tag first second link : List ℕ} → verdict ≡ Verdict.Allowed → v ≡ tagOf (f .code) z y → tag ≡ set (m .tag) n v
         → first ≡ set (m .first) n (f .first) → second ≡ set (m .second) n (f .second) → link ≡ joined (m .link) n class bucket
         → Built (intern (treeOf m e) (stateOf m n calls)) (Added.Node n (n + 1) calls) n m (memory tag first second link)
     adds-new calls x ev et ef es el =
@@ -72,8 +72,8 @@ module _ {m : Memory} {n : ℕ} {e : Expression} {f key : Fields} {most bucket n
         bucket (bucket-among ∙ ap (bucketOf (room m)) key-of-e) z y size-is depth-is)
 
 -- a new node's number is small
-pub node-small : (m : Memory) (n z y : ℕ) {most : ℕ} {limit : Limit} → most ≡ room m → limit ≡ firstPassed (ltb largest z) (ltb deepest y) (ltb n most)
-    → limit ≡ Limit.Kept → n < 4096
+pub node-small : (m : Memory) (n z y : ℕ) {most : ℕ} {verdict : Verdict} → most ≡ room m → verdict ≡ judged (ltb largest z) (ltb deepest y) (ltb n most)
+    → verdict ≡ Verdict.Allowed → n < 4096
 node-small m n z y {most} e x k =
-    let l = ltb-true n most (kept-limits (ltb largest z) (ltb deepest y) (ltb n most) (sym k ∙ x) .has-room) in
+    let l = ltb-true n most (allowed-limits (ltb largest z) (ltb deepest y) (ltb n most) (sym k ∙ x) .has-room) in
     omega (arith, e, l, room-each m (room m) (omega arith) .most)

@@ -18,7 +18,7 @@ use Rattle.expression.specs.Alike.{equal}
 use Rattle.expression.specs.Limits.{largest, deepest}
 use Rattle.expression.proofs.Likeness.{equal-refl}
 use Rattle.store.specs.declared.Added.{Added}
-use Rattle.store.specs.declared.Limit.{Limit}
+use Rattle.store.specs.declared.Verdict.{Verdict}
 use Rattle.store.specs.declared.node.Expression.{Expression}
 use Rattle.store.specs.declared.node.Fields.{Fields}
 use Rattle.store.specs.Words.{codeIn, sizeIn, depthIn, tagOf}
@@ -26,7 +26,7 @@ use Rattle.store.specs.Nodes.{fields, fieldsOf, expressionOf, Within, So
 use Rattle.store.specs.Storing.{Answer, among, intern, result, refused}
 use Rattle.store.specs.Memory.{Memory, memory, place, room, fieldsOn, sizeOn, depthOn, fieldsAt, sizeAt, depthAt, headAt, classAt, keptAt, expressionAt, trees, treeAt, treeOf, linked, keptFor, stateOf}
 use Rattle.store.specs.Index.{keyOf, bucketOf, keyAt, bucketAt, latest, joined}
-use Rattle.store.specs.Held.{Right, Holds, Built, firstPassed}
+use Rattle.store.specs.Held.{Right, Holds, Built, judged}
 use Rattle.store.specs.Walk.{Walked}
 use Rattle.store.proofs.Places.{place-within, place-old, place-new, among-yes, among-no, latest-alike}
 use Rattle.store.proofs.Coding.{back, code-small}
@@ -50,25 +50,25 @@ truth false h = absurd h
 
 -- ---- the limits
 
-why-of : Limit → Refusal → Refusal
-why-of Limit.Kept why = why
-why-of (Limit.Passed why) other = why
+why-of : Verdict → Refusal → Refusal
+why-of Verdict.Allowed why = why
+why-of (Verdict.Refused why) other = why
 
-IsKept : Limit → Type 0
-IsKept Limit.Kept = Unit {0}
-IsKept (Limit.Passed why) = ⊥
+IsAllowed : Verdict → Type 0
+IsAllowed Verdict.Allowed = Unit {0}
+IsAllowed (Verdict.Refused why) = ⊥
 
-kept-not-passed : {why : Refusal} → Limit.Kept ≡ Limit.Passed why → ⊥
-unfolding IsKept
-kept-not-passed x = subst IsKept x tt
+allowed-not-refused : {why : Refusal} → Verdict.Allowed ≡ Verdict.Refused why → ⊥
+unfolding IsAllowed
+allowed-not-refused x = subst IsAllowed x tt
 
--- a refusal by a limit is the definition's
-refused-as : (A : Answer) (big deep roomy : Bool) {why : Refusal} → Limit.Passed why ≡ firstPassed big deep roomy
+-- a refusal by a verdict is the definition's
+refused-as : (A : Answer) (big deep roomy : Bool) {why : Refusal} → Verdict.Refused why ≡ judged big deep roomy
     → refused why ≡ cond big (refused Refusal.Big) (cond deep (refused Refusal.Deep) (cond roomy A (refused Refusal.Room)))
 unfolding why-of
 refused-as A true deep roomy {why} x = ap (λ l. refused (why-of l why)) x
 refused-as A false true roomy {why} x = ap (λ l. refused (why-of l why)) x
-refused-as A false false true x = absurd (kept-not-passed (sym x))
+refused-as A false false true x = absurd (allowed-not-refused (sym x))
 refused-as A false false false {why} x = ap (λ l. refused (why-of l why)) x
 
 pub record Limits (big deep roomy : Bool) : Type 0 where
@@ -76,11 +76,11 @@ pub record Limits (big deep roomy : Bool) : Type 0 where
   pub not-deep : deep ≡ false
   pub has-room : roomy ≡ true
 
-pub kept-limits : (big deep roomy : Bool) → Limit.Kept ≡ firstPassed big deep roomy → Limits big deep roomy
-kept-limits true deep roomy x = absurd (kept-not-passed x)
-kept-limits false true roomy x = absurd (kept-not-passed x)
-kept-limits false false true x = record { not-big = refl; not-deep = refl; has-room = refl }
-kept-limits false false false x = absurd (kept-not-passed x)
+pub allowed-limits : (big deep roomy : Bool) → Verdict.Allowed ≡ judged big deep roomy → Limits big deep roomy
+allowed-limits true deep roomy x = absurd (allowed-not-refused x)
+allowed-limits false true roomy x = absurd (allowed-not-refused x)
+allowed-limits false false true x = record { not-big = refl; not-deep = refl; has-room = refl }
+allowed-limits false false false x = absurd (allowed-not-refused x)
 
 latest-here : (f : ℕ → ℕ) (b n : ℕ) → f n ≡ b → latest f b (n + 1) ≡ n + 1
 unfolding latest
@@ -112,7 +112,7 @@ module _ {m : Memory} {n : ℕ} (h : Holds m n) (e : Expression) (s : Sound e) (
 
     -- ---- it is refused
 
-    pub built-refused : {why : Refusal} → Limit.Passed why ≡ firstPassed (ltb largest (size t)) (ltb deepest (depth t)) (ltb n (room m))
+    pub built-refused : {why : Refusal} → Verdict.Refused why ≡ judged (ltb largest (size t)) (ltb deepest (depth t)) (ltb n (room m))
         → Built (intern t (stateOf m n calls)) (Added.Refused why) n m m
     unfolding intern
     built-refused x = refuses (rw (absent, length-trees m n) (refused-as _ (ltb largest (size t)) (ltb deepest (depth t)) (ltb n (room m)) x))

@@ -7,13 +7,14 @@ use Rattle.expression.specs.declared.refusal.Refusal.{Refusal}
 use Rattle.expression.specs.Trees.{size, depth}
 use Rattle.expression.specs.Alike.{equal}
 use Rattle.expression.specs.Limits.{Limited}
+use Rattle.store.specs.declared.node.Expression.{Expression}
 use Rattle.store.specs.declared.Added.{Added}
 use Rattle.store.specs.declared.Kept.{Kept}
-use Rattle.store.specs.declared.Limit.{Limit}
+use Rattle.store.specs.declared.Verdict.{Verdict}
 use Rattle.store.specs.Nodes.{fieldsOf, Within}
 use Rattle.store.specs.Storing as Storing
-use Rattle.store.specs.Storing.{Answer, gives, refused, keep, recall, nothing, result, fresh}
-use Rattle.store.specs.Memory.{Memory, memory, place, room, fieldsAt, sizeAt, depthAt, headAt, classAt, keptAt, nextAt, expressionAt, trees, treeAt, stateOf}
+use Rattle.store.specs.Storing.{Answer, gives, refused, intern, keep, recall, nothing, result, fresh}
+use Rattle.store.specs.Memory.{Memory, memory, place, room, fieldsAt, sizeAt, depthAt, headAt, classAt, keptAt, nextAt, expressionAt, trees, treeAt, treeOf, stateOf}
 use Rattle.store.specs.Index.{bucketAt, latest}
 
 -- what is right of node k, one of n
@@ -56,9 +57,13 @@ pub record Built (want : Answer) (r : Added) (n : ℕ) (m m′ : Memory) : Type 
   pub answer : seen r m′ ≡ want
   pub after : After r n m m′
 
--- the first limit that is passed, in 01's order
-abbrev pub firstPassed : (big deep room : Bool) → Limit
-firstPassed big deep room = cond big (Limit.Passed Refusal.Big) (cond deep (Limit.Passed Refusal.Deep) (cond room Limit.Kept (Limit.Passed Refusal.Room)))
+-- adding a node: where n nodes are a store and the operands are among them, the tree is stored as the definition says
+abbrev pub Adds : (n : ℕ) (e : Expression) (calls : ℕ) (r : Added) (m m′ : Memory) → Type 0
+Adds n e calls r m m′ = Holds m n → Within n e → Built (intern (treeOf m e) (stateOf m n calls)) r n m m′
+
+-- the limits in 01's order
+abbrev pub judged : (big deep room : Bool) → Verdict
+judged big deep room = cond big (Verdict.Refused Refusal.Big) (cond deep (Verdict.Refused Refusal.Deep) (cond room Verdict.Allowed (Verdict.Refused Refusal.Room)))
 
 -- ---- what the functions of `link` alone ensure, whatever the other slices are
 

@@ -1,9 +1,10 @@
 -- How a node stands in the slices: its fields, and the node that fields are. Only connecting.
 use Prim.Native.Nat.{ℕ, zero, suc, _+_, _%_, _/_, _<_}
-use Rattle.complex.specs.Bits.{bitsOf, Fitting}
+use Rattle.complex.specs.Bits.{bitsOf}
 use Rattle.complex.specs.Constants.{ofParts}
 use Rattle.expression.specs.Codes.{infixCode, prefixCode, functionCode, infixOf, prefixOf, functionOf}
 use Rattle.expression.specs.Trees.{Tree, leaf, number, pi, variable, cell, functionCall, prefixed, infixed}
+use Rattle.expression.specs.Limits.{ProperLeaf}
 use Rattle.store.specs.declared.node.Expression.{Expression}
 use Rattle.store.specs.declared.node.Fields.{Fields}
 use Rattle.store.specs.Words.{codeOf}
@@ -56,10 +57,10 @@ Within n (Expression.Infix o a b) = (a < n) × (b < n)
 
 -- its leaf is such as a text can say, as that of every `Expression` that a program holds is
 abbrev pub Sound : Expression → Type 0
-Sound (Expression.Number z) = Fitting z
+Sound (Expression.Number z) = ProperLeaf (number z)
 Sound Expression.PiConstant = Unit {0}
-Sound (Expression.Variable v) = v < 65536
-Sound (Expression.Address region index) = (region < 65536) × (index < 4294967296)
+Sound (Expression.Variable v) = ProperLeaf (variable v)
+Sound (Expression.Address region index) = ProperLeaf (cell region index)
 Sound (Expression.FunctionCall f a) = Unit {0}
 Sound (Expression.Prefix o a) = Unit {0}
 Sound (Expression.Infix o a b) = Unit {0}

@@ -2,10 +2,9 @@
 // every function here is safe; where they hold a store (`Holds`), it does what its definition on trees says.
 ghost use mathlib.Core.Path.{_≡_};
 ghost use Prim.Native.Nat.{_+_, max};
-ghost use Rattle.store.specs.Nodes.{Within, measureFrom};
-ghost use Rattle.store.specs.Storing.{intern};
-ghost use Rattle.store.specs.Memory.{Memory, memory, sizeOn, depthOn, treeOf, stateOf, cleared};
-ghost use Rattle.store.specs.Held.{Holds, Built, firstPassed, Keeps, Recalls, Compares, Starts};
+ghost use Rattle.store.specs.Nodes.{measureFrom};
+ghost use Rattle.store.specs.Memory.{memory, sizeOn, depthOn, cleared};
+ghost use Rattle.store.specs.Held.{Adds, judged, Keeps, Recalls, Compares, Starts};
 use expression::refusal::Refusal;
 use fields::kept_in;
 use fields::tag_of;
@@ -48,10 +47,10 @@ pub enum Kept {
     Result(usize),
 }
 
-// Whether a new node keeps within the limits.
-enum Limit {
-    Kept,
-    Passed(Refusal),
+// Whether a new node is within 01's limits.
+enum Verdict {
+    Allowed,
+    Refused(Refusal),
 }
 
 // The size of the tree of a node.
@@ -92,20 +91,20 @@ fn greater(a: u64, b: u64) -> u64
     if a < b { b } else { a }
 }
 
-// The first limit that a new node passes, in 01's order: 6, 7, 8.
-fn first_passed(big: bool, deep: bool, room: bool) -> Limit
-    ensures { λ r. ⌜ r ≡ firstPassed big deep room ⌝ }
+// The limits in 01's order: 6, 7, 8.
+fn judge(big: bool, deep: bool, room: bool) -> Verdict
+    ensures { λ r. ⌜ r ≡ judged big deep room ⌝ }
 {
     if big {
-        return Limit::Passed(Refusal::Big);
+        return Verdict::Refused(Refusal::Big);
     }
     if deep {
-        return Limit::Passed(Refusal::Deep);
+        return Verdict::Refused(Refusal::Deep);
     }
     if room {
-        return Limit::Kept;
+        return Verdict::Allowed;
     }
-    Limit::Passed(Refusal::Room)
+    Verdict::Refused(Refusal::Room)
 }
 
 // The node of a tree: the one that stands, or a new one within the limits.
@@ -118,9 +117,7 @@ pub fn add(
     e: Expression,
     calls: u64,
 ) -> Added
-    ghost { Memory }
-    requires { λ m. ⌜ memory (now tag) (now first) (now second) (now link) ≡ m ⌝ }
-    ensures { λ m r. ⌜ (Holds m n → Within n e → Built (intern (treeOf m e) (stateOf m n calls)) r n m (memory (now (tag .exit)) (now (first .exit)) (now (second .exit)) (now (link .exit)))) ⌝ }
+    ensures { λ r. ⌜ Adds n e calls r (memory (now (tag .entry)) (now (first .entry)) (now (second .entry)) (now (link .entry))) (memory (now (tag .exit)) (now (first .exit)) (now (second .exit)) (now (link .exit))) ⌝ }
 {
     let f = fields_of(e);
     let most = capacity(tag, first, second, link);
@@ -137,8 +134,8 @@ pub fn add(
     }
     let size = size_of(tag, e);
     let depth = depth_of(tag, e);
-    let limit = first_passed(LARGEST < size, DEEPEST < depth, n < most);
-    if let Limit::Passed(why) = limit {
+    let verdict = judge(LARGEST < size, DEEPEST < depth, n < most);
+    if let Verdict::Refused(why) = verdict {
         return Added::Refused(why);
     }
     put(tag, n, tag_of(f.code, size, depth));
@@ -190,9 +187,7 @@ pub fn start(link: &mut [u64])
 
 // All four slices zero over their whole length.
 pub fn clear(tag: &mut [u64], first: &mut [u64], second: &mut [u64], link: &mut [u64])
-    ghost { Memory }
-    requires { λ m. ⌜ memory (now tag) (now first) (now second) (now link) ≡ m ⌝ }
-    ensures { λ m _. ⌜ memory (now (tag .exit)) (now (first .exit)) (now (second .exit)) (now (link .exit)) ≡ cleared m ⌝ }
+    ensures { λ _. ⌜ memory (now (tag .exit)) (now (first .exit)) (now (second .exit)) (now (link .exit)) ≡ cleared (memory (now (tag .entry)) (now (first .entry)) (now (second .entry)) (now (link .entry))) ⌝ }
 {
     zero(tag);
     zero(first);

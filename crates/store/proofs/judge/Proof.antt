@@ -1,10 +1,10 @@
--- `first_passed` meets its contract: test by test. Assumes nothing.
+-- `judge` meets its contract: test by test. Assumes nothing.
 use mathlib.Core.Path.{refl}
-use Rattle.store.proofs.first_passed.Statement.{statement}
-use Rattle.store.proofs.first_passed.Tie as tie
+use Rattle.store.proofs.judge.Statement.{statement}
+use Rattle.store.proofs.judge.Tie as tie
 
-pub first-passed-spec : {M : Type 1} → statement M
-first-passed-spec =
+pub judge-spec : {M : Type 1} → statement M
+judge-spec =
     tie.close
     (tie.spec
     (λ c. rw (c .if1 .taken) refl)
