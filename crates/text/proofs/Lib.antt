@@ -1,0 +1,5 @@
+pub mod Running
+pub mod Putting
+pub mod RoundTrip
+pub mod Only
+pub mod Lining

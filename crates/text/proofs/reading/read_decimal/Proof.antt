@@ -1,0 +1,38 @@
+-- `read_decimal` meets its contract. The invariant is `Going`; the measure is what is left of the text. Assumes nothing.
+use mathlib.Core.Path.{refl}
+use Prim.Native.Nat.{_-_}
+use native.Mathlib.Omega.{arith}
+use lib.ListN.{length}
+use Rattle.text.proofs.Running.{Going, begins, in-text, goes-on, over, no-digit, zeros, zero-alone, no-zero}
+use borrow.Author.Needs.{needs}
+use Rattle.text.proofs.reading.read_decimal.Statement.{statement}
+use Rattle.text.proofs.reading.read_decimal.Tie as tie
+
+abbrev Inv-loop : tie.InvT-loop
+Inv-loop s at limit first d₀ v₀ i₀ d v i = Going s at limit first d v i
+
+abbrev μ-loop : tie.MeasureT-loop
+μ-loop s at limit first d₀ v₀ i₀ d v i = length s - i
+
+pub read-decimal-spec : {M : Type 1} → statement M
+read-decimal-spec =
+    tie.close
+    (tie.spec
+    Inv-loop
+    μ-loop
+    (λ c κs. search needs)
+    (λ c κs. search needs)
+    (λ c. begins _ _ _ _ (rw (c .digit .ensures, c .before .byte-at .ensures) refl))
+    (λ c. omega arith)
+    (λ c. omega arith)
+    (λ c. over (c .before .before .loop .inv) (c .before .loop-test .taken) (c .if1 .taken))
+    (λ c. omega (arith, in-text (c .before .before .loop .inv) (c .before .loop-test .taken)))
+    (λ c κs. search needs)
+    (λ c κs. search needs)
+    (λ c. omega (arith, in-text (c .before .before .before .before .loop .inv) (c .before .before .before .loop-test .taken)))
+    (λ c. goes-on (c .before .before .before .before .loop .inv) _ (c .before .before .before .loop-test .taken) (c .before .before .if1 .left) (rw (c .digit2 .ensures, c .before .byte-at2 .ensures) refl))
+    (λ c. no-digit (c .before .before .loop .inv) (c .before .loop-test .left) (c .if2 .taken))
+    (λ c. omega (arith, c .before .before .before .loop .inv .from))
+    (λ c. zeros (c .before .before .before .before .loop .inv) (c .before .before .before .loop-test .left) (rw (c .before .before .before .before .before .digit .ensures, c .before .before .before .before .before .before .byte-at .ensures) refl) (c .before .before .if2 .left) (c .before .if3 .taken) (c .if4 .taken))
+    (λ c. zero-alone (c .before .before .before .before .loop .inv) (c .before .before .before .loop-test .left) (rw (c .before .before .before .before .before .digit .ensures, c .before .before .before .before .before .before .byte-at .ensures) refl) (c .before .before .if2 .left) (c .before .if3 .taken) (c .if4 .left))
+    (λ c. no-zero (c .before .before .before .loop .inv) (c .before .before .loop-test .left) (rw (c .before .before .before .before .digit .ensures, c .before .before .before .before .before .byte-at .ensures) refl) (c .before .if2 .left) (c .if3 .left)))

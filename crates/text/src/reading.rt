@@ -1,0 +1,132 @@
+// Numbers, names and fields at a place of a text. Past the end there is no digit, no letter and no end of a field.
+ghost use mathlib.Core.Path.{_≡_};
+ghost use Prim.Native.Nat.{_^_, _<_, _≤_};
+ghost use lib.ListN.{getD, drop};
+ghost use Rattle.text.specs.Reading.{digitOf, decimal, hex, starts, ended, decimalField, hexField};
+ghost use Rattle.text.specs.Seen.{seen};
+
+// What is read at a place: a number and the place after it, or none such.
+pub enum Number {
+    Is(u64, usize),
+    Bad,
+}
+
+// The byte at a place, and 0 past the end.
+pub fn byte_at(s: &[u8], i: usize) -> u8
+    ensures { λ r. ⌜ r ≡ getD (now (s .entry)) i 0 ⌝ }
+{
+    if i < s.len() { s[i] } else { 0 }
+}
+
+// The value of a digit 0-9 or A-F, and 16 for any other byte.
+pub fn digit(b: u8) -> u64
+    ensures { λ r. ⌜ r ≡ digitOf b ⌝ }
+{
+    if b < 48 {
+        return 16;
+    }
+    if b < 58 {
+        return (b as u64) - 48;
+    }
+    if b < 65 {
+        return 16;
+    }
+    if b < 71 {
+        return (b as u64) - 55;
+    }
+    16
+}
+
+// A decimal number below the limit.
+pub fn read_decimal(s: &[u8], at: usize, limit: u64) -> Number
+    requires { ⌜ limit ≤ 2 ^ 33 ⌝ }
+    ensures { λ r. ⌜ seen (now (s .entry)) r ≡ decimal limit (drop at (now (s .entry))) ⌝ }
+{
+    let first = digit(byte_at(s, at));
+    let mut d = first;
+    let mut v: u64 = 0;
+    let mut i = at;
+    while d < 10 {
+        v = v * 10 + d;
+        if v >= limit {
+            return Number::Bad;
+        }
+        i += 1;
+        d = digit(byte_at(s, i));
+    }
+    if i == at {
+        return Number::Bad;
+    }
+    if first == 0 {
+        if 1 < i - at {
+            return Number::Bad;
+        }
+    }
+    Number::Is(v, i)
+}
+
+// 16 hex digits.
+pub fn read_hex(s: &[u8], at: usize) -> Number
+    ensures { λ r. ⌜ seen (now (s .entry)) r ≡ hex (drop at (now (s .entry))) ⌝ }
+{
+    let mut v: u64 = 0;
+    let mut k: usize = 0;
+    let mut i = at;
+    while k < 16 {
+        let d = digit(byte_at(s, i));
+        if 15 < d {
+            return Number::Bad;
+        }
+        v = v * 16 + d;
+        i += 1;
+        k += 1;
+    }
+    Number::Is(v, i)
+}
+
+// The byte that ends a field, after what stood in it.
+pub fn end_field(s: &[u8], n: Number, stop: u8) -> Number
+    requires { ⌜ 0 < stop ⌝ }
+    ensures { λ r. ⌜ seen (now (s .entry)) r ≡ ended stop (seen (now (s .entry)) n) ⌝ }
+{
+    let Number::Is(v, next) = n else {
+        return Number::Bad;
+    };
+    if byte_at(s, next) != stop {
+        return Number::Bad;
+    }
+    Number::Is(v, next + 1)
+}
+
+pub fn decimal_field(s: &[u8], at: usize, stop: u8, limit: u64) -> Number
+    requires { ⌜ (0 < stop) × (limit ≤ 2 ^ 33) ⌝ }
+    ensures { λ r. ⌜ seen (now (s .entry)) r ≡ decimalField stop limit (drop at (now (s .entry))) ⌝ }
+{
+    end_field(s, read_decimal(s, at, limit), stop)
+}
+
+pub fn hex_field(s: &[u8], at: usize, stop: u8) -> Number
+    requires { ⌜ 0 < stop ⌝ }
+    ensures { λ r. ⌜ seen (now (s .entry)) r ≡ hexField stop (drop at (now (s .entry))) ⌝ }
+{
+    end_field(s, read_hex(s, at), stop)
+}
+
+// Whether a word stands at a place.
+pub fn word_at(s: &[u8], at: usize, word: &[u8]) -> bool
+    ensures { λ r. ⌜ r ≡ starts (now (word .entry)) (drop at (now (s .entry))) ⌝ }
+{
+    let mut i = at;
+    let mut k: usize = 0;
+    while k < word.len() {
+        if s.len() <= i {
+            return false;
+        }
+        if s[i] != word[k] {
+            return false;
+        }
+        i += 1;
+        k += 1;
+    }
+    true
+}

@@ -1,0 +1,76 @@
+// Numbers, names and the ends of fields, written at a place of an output that has room for them. Each writer hands
+// back the place after what it wrote.
+ghost use mathlib.Core.Path.{_≡_};
+ghost use mathlib.Core.List.{[], _∷_, _++_};
+ghost use Prim.Native.Nat.{_+_, _<_, _≤_};
+ghost use lib.ListN.{length};
+ghost use Rattle.text.specs.Writing.{byteOf, inDecimal, inHex, Put};
+
+// The byte of a digit.
+pub fn digit_byte(d: u64) -> u8
+    requires { ⌜ d < 16 ⌝ }
+    ensures { λ r. ⌜ r ≡ byteOf d ⌝ }
+{
+    if d < 10 {
+        return (48 + d) as u8;
+    }
+    (55 + d) as u8
+}
+
+// How many bytes n takes in decimal.
+pub fn decimal_length(n: u64) -> usize
+    ensures { λ r. ⌜ (r ≡ length (inDecimal n)) × (r ≤ 20) ⌝ }
+{
+    if n < 10 {
+        return 1;
+    }
+    decimal_length(n / 10) + 1
+}
+
+pub fn write_byte(out: &mut [u8], at: usize, b: u8) -> usize
+    requires { ⌜ at < length (now out) ⌝ }
+    ensures { λ r. ⌜ Put (now (out .entry)) at (b ∷ []) r (now (out .exit)) ⌝ }
+{
+    out[at] = b;
+    at + 1
+}
+
+pub fn write_bytes(out: &mut [u8], at: usize, bytes: &[u8]) -> usize
+    requires { ⌜ at + length (now bytes) ≤ length (now out) ⌝ }
+    ensures { λ r. ⌜ Put (now (out .entry)) at (now (bytes .entry)) r (now (out .exit)) ⌝ }
+{
+    let mut k: usize = 0;
+    while k < bytes.len() {
+        out[at + k] = bytes[k];
+        k += 1;
+    }
+    at + k
+}
+
+pub fn write_decimal(out: &mut [u8], at: usize, n: u64) -> usize
+    requires { ⌜ at + length (inDecimal n) ≤ length (now out) ⌝ }
+    ensures { λ r. ⌜ Put (now (out .entry)) at (inDecimal n) r (now (out .exit)) ⌝ }
+{
+    if n < 10 {
+        out[at] = digit_byte(n);
+        return at + 1;
+    }
+    let p = write_decimal(out, at, n / 10);
+    out[p] = digit_byte(n % 10);
+    p + 1
+}
+
+// From the last digit to the first.
+pub fn write_hex(out: &mut [u8], at: usize, n: u64) -> usize
+    requires { ⌜ at + 16 ≤ length (now out) ⌝ }
+    ensures { λ r. ⌜ Put (now (out .entry)) at (inHex n) r (now (out .exit)) ⌝ }
+{
+    let mut k: usize = 16;
+    let mut rest = n;
+    while 0 < k {
+        k -= 1;
+        out[at + k] = digit_byte(rest % 16);
+        rest /= 16;
+    }
+    at + 16
+}
