@@ -140,7 +140,7 @@ ended-only stop (is y (b ∷ bs)) x rest e = elim (ℕ-discrete b stop) [
 ]
 ended-only stop bad x rest e = never e
 
-starts-only : (w bs : List ℕ) → starts w bs ≡ true → bs ≡ w ++ drop (length w) bs
+pub starts-only : (w bs : List ℕ) → starts w bs ≡ true → bs ≡ w ++ drop (length w) bs
 unfolding starts
 starts-only [] bs e = refl
 starts-only (w ∷ ws) [] e = absurd (omega (arith, ap (λ b. cond {A = ℕ} b 1 0) e))

@@ -1,0 +1,36 @@
+-- `take_node` meets its contract: each return is a law of proofs/Taking. Assumes nothing.
+use native.Mathlib.Omega.{arith}
+use Rattle.listing.proofs.Taking.{node-long, node-late, node-bad, node-next, node-refused}
+use borrow.Author.Needs.{needs}
+use Rattle.listing.proofs.take_node.Statement.{statement}
+use Rattle.listing.proofs.take_node.Tie as tie
+
+pub take-node-spec : {M : Type 1} → statement M
+take-node-spec =
+    tie.close
+    (tie.spec
+    (λ c. omega (arith, c .before .before .before .before .before .before .pre .lines, c .before .before .before .before .before .before .pre .swaps))
+    (λ c. λ l. node-long (c .before .before .before .before .before .before .before .pre) l (c .if1 .taken))
+    (λ c. λ l. node-late (c .before .before .before .before .before .before .before .before .pre) l (c .before .if1 .left) (c .if2 .taken))
+    (λ c κs. (c .before .before .before .before .before .before .before .before .pre .inside, c .before .before .before .before .before .before .before .before .pre .lines))
+    (λ c. search needs)
+    (λ c. search needs)
+    (λ c. λ l. node-bad (c .before .before .before .before .before .before .before .before .before .before .before .pre) l (c .before .before .before .before .if1 .left) (c .before .before .before .if2 .left) (c .before .before .read-node .ensures) (c .enum-told .given .1))
+    (λ c κs. omega arith)
+    (λ c κs. search needs)
+    (λ c. search needs)
+    (λ c κs. search needs)
+    (λ c. omega (arith, c .before .before .before .before .before .before .before .before .before .before .before .before .before .before .before .before .before .before .before .before .before .before .before .before .before .before .before .before .before .before .before .before .before .before .pre .lines))
+    (λ c. search needs)
+    (λ c. search needs)
+    (λ c. search needs)
+    (λ c. search needs)
+    (λ c. search needs)
+    (λ c. search needs)
+    (λ c. λ l. node-next (c .before .before .before .before .before .before .before .before .before .before .before .before .before .before .before .before .before .before .before .before .before .before .before .before .before .before .before .before .before .before .before .before .before .before .pre) l (c .before .before .before .before .before .before .before .before .before .before .before .before .before .before .before .before .before .before .before .before .before .before .before .before .before .before .before .if1 .left) (c .before .before .before .before .before .before .before .before .before .before .before .before .before .before .before .before .before .before .before .before .before .before .before .before .before .before .if2 .left) (c .before .before .before .before .before .before .before .before .before .before .before .before .before .before .before .before .before .before .before .before .before .before .before .before .before .read-node .ensures) (c .before .before .before .before .before .before .before .before .before .before .before .before .before .before .before .before .before .before .before .before .before .before .before .found .given .1) (rw (c .before .before .before .before .before .before .before .before .before .before .before .before .before .before .before .before .moved-by .ensures) at (c .before .before .before .before .before .before .before .before .before .before .before .before .before .before .before .add .ensures)) (c .before .before .before .before .before .added .given .1) (c .before .before .put .ensures))
+    (λ c. search needs)
+    (λ c. search needs)
+    (λ c. search needs)
+    (λ c. search needs)
+    (λ c. search needs)
+    (λ c. λ l. node-refused (c .before .before .before .before .before .before .before .before .before .before .before .before .before .before .before .before .before .before .before .before .before .before .before .before .before .before .before .before .before .before .pre) l (c .before .before .before .before .before .before .before .before .before .before .before .before .before .before .before .before .before .before .before .before .before .before .before .if1 .left) (c .before .before .before .before .before .before .before .before .before .before .before .before .before .before .before .before .before .before .before .before .before .before .if2 .left) (c .before .before .before .before .before .before .before .before .before .before .before .before .before .before .before .before .before .before .before .before .before .read-node .ensures) (c .before .before .before .before .before .before .before .before .before .before .before .before .before .before .before .before .before .before .before .found .given .1) (rw (c .before .before .before .before .before .before .before .before .before .before .before .before .moved-by .ensures) at (c .before .before .before .before .before .before .before .before .before .before .before .add .ensures)) (c .before .added2 .given .1)))

@@ -1,0 +1,2 @@
+pub mod Listings
+pub mod Tables

@@ -1,0 +1,153 @@
+-- What the code's answers and the lent table say, as trees. Only connecting.
+use mathlib.Core.Path.{_≡_}
+use Prim.Native.Nat.{ℕ, zero, suc, _+_, _*_, _≤_, _<_}
+use mathlib.Core.List.{List, [], _∷_, _++_}
+use mathlib.Core.Bool.{Bool, true, false, cond}
+use lib.ListN.{length, getD, drop}
+use lib.Dec.{ltb}
+use Rattle.expression.specs.declared.refusal.Refusal.{Refusal}
+use Rattle.expression.specs.Trees.{Tree, leaf, pi}
+use Rattle.store.specs.declared.node.Expression.{Expression}
+use Rattle.store.specs.Nodes.{grown, Within}
+use Rattle.store.specs.Memory.{Memory, treeAt, stateOf, room}
+use Rattle.store.specs.Storing.{fresh}
+use Rattle.store.specs.Held.{Holds}
+use Rattle.text.specs.Reading.{Read, is, bad}
+use Rattle.text.specs.Lines as Lines
+use Rattle.text.specs.Lines.{goes, stops}
+use Rattle.listing.specs.declared.line.Line.{Line}
+use Rattle.listing.specs.declared.Listing.{Listing}
+use Rattle.listing.specs.declared.Swap.{Swap}
+use Rattle.listing.specs.declared.Progress.{Progress}
+use Rattle.listing.specs.declared.Step.{Step}
+use Rattle.listing.specs.declared.SwapLine.{SwapLine}
+use Rattle.listing.specs.Listings as Spec
+use Rattle.listing.specs.Listings.{Known, known, accepted, swap, names, nothing, above, swapFields, swapLine, listing}
+
+-- the first n values of a function
+unfoldable pub upTo : {A : Type 0} → ℕ → (ℕ → A) → List A
+upTo zero f = []
+upTo (suc n) f = upTo n f ++ (f n ∷ [])
+
+-- what stands in a table for a number, from a place on; 4096 of them do
+unfoldable pub entryAt : List ℕ → (from : ℕ) → ℕ → ℕ
+entryAt table from k = cond (ltb k 4096) (getD table (from + k) 0) 0
+
+-- a node whose operands are numbers of lines, with the numbers that stand for these in a table from a place on
+unfoldable pub moved : List ℕ → ℕ → Expression → Expression
+moved table from (Expression.Number z) = Expression.Number z
+moved table from Expression.PiConstant = Expression.PiConstant
+moved table from (Expression.Variable v) = Expression.Variable v
+moved table from (Expression.Address region index) = Expression.Address region index
+moved table from (Expression.FunctionCall f a) = Expression.FunctionCall f (entryAt table from a)
+moved table from (Expression.Prefix o a) = Expression.Prefix o (entryAt table from a)
+moved table from (Expression.Infix o a b) = Expression.Infix o (entryAt table from a) (entryAt table from b)
+
+-- a line of the code, where its operands are lines with these trees
+abbrev pub lineSeen : (earlier : List Tree) (text : List ℕ) → Line → Read Tree
+lineSeen earlier text (Line.Node e next) = is (grown (λ k. getD earlier k (leaf pi)) e) (drop next text)
+lineSeen earlier text Line.Bad = bad
+
+abbrev pub LineWithin : ℕ → Line → Type 0
+LineWithin n (Line.Node e next) = Within n e
+LineWithin n Line.Bad = Unit {0}
+
+-- a function that reads a node line after `lines` others: it finds what the definition says, and only earlier lines as operands
+pub record Finds (want : List Tree → Read Tree) (text : List ℕ) (lines : ℕ) (r : Line) : Type 0 where
+  pub seen : (earlier : List Tree) → length earlier ≡ lines → lineSeen earlier text r ≡ want earlier
+  pub within : LineWithin lines r
+
+abbrev pub FindsLeaf : (want : Read Tree) (text : List ℕ) (r : Line) → Type 0
+FindsLeaf want text r = (lines : ℕ) → Finds (λ earlier. want) text lines r
+
+-- ---- the table: word i is the node of node line i; the s lines stand from 1024 on, two words each
+
+abbrev pub lineTrees : (m : Memory) (table : List ℕ) → ℕ → List Tree
+lineTrees m table i = upTo i (λ k. treeAt m (getD table k 0))
+
+abbrev pub swapTrees : (m : Memory) (table : List ℕ) → ℕ → List Spec.Swap
+swapTrees m table j = upTo j (λ k. swap (getD table (1024 + 2 * k) 0) (treeAt m (getD table (1025 + 2 * k) 0)))
+
+-- what is known after some lines
+abbrev pub knownAt : (m : Memory) (table : List ℕ) → Progress → Known
+knownAt m table p = known (lineTrees m table (p .lines)) (swapTrees m table (p .swaps)) (stateOf m (p .nodes) 0)
+
+-- the nodes that a table names are among n
+pub record Lists (m : Memory) (table : List ℕ) (n lines swaps : ℕ) : Type 0 where
+  pub holds : Holds m n
+  pub nodes : (k : ℕ) → k < lines → getD table k 0 < n
+  pub named : (k : ℕ) → k < swaps → getD table (1025 + 2 * k) 0 < n
+
+-- ---- one line
+
+-- there is a line at the place, and room for it in the table
+pub record Ready (text table : List ℕ) (p : Progress) : Type 0 where
+  pub inside : p .at < length text
+  pub lines : p .lines ≤ 1024
+  pub swaps : p .swaps ≤ 256
+  pub long : 8192 ≤ length table
+
+-- what a step of the code says, as one on trees
+abbrev pub stepSeen : (text : List ℕ) (m : Memory) (table : List ℕ) → Step → Lines.Line Known Refusal
+stepSeen text m table (Step.Next q) = goes (knownAt m table q) (drop (q .at) text)
+stepSeen text m table (Step.Refused why) = stops why
+
+pub record Advanced (m : Memory) (table : List ℕ) (p q : Progress) : Type 0 where
+  pub lists : Lists m table (q .nodes) (q .lines) (q .swaps)
+  pub count : q .lines + q .swaps ≡ p .lines + p .swaps + 1
+  pub lines : q .lines ≤ 1024
+  pub swaps : q .swaps ≤ 256
+
+abbrev pub StepAfter : (m : Memory) (table : List ℕ) → Progress → Step → Type 0
+StepAfter m table p (Step.Next q) = Advanced m table p q
+StepAfter m table p (Step.Refused why) = Unit {0}
+
+pub record Takes (want : Lines.Line Known Refusal) (text : List ℕ) (p : Progress) (r : Step) (m : Memory) (table : List ℕ) : Type 0 where
+  pub answer : stepSeen text m table r ≡ want
+  pub after : StepAfter m table p r
+
+abbrev pub TakesLine : (want : Known → ℕ → List ℕ → Lines.Line Known Refusal) (text table : List ℕ) (p : Progress) (r : Step) (m m′ : Memory) (table′ : List ℕ) → Type 0
+TakesLine want text table p r m m′ table′ =
+    Lists m table (p .nodes) (p .lines) (p .swaps) → Takes (want (knownAt m table p) (getD text (p .at) 0) (drop (p .at + 1) text)) text p r m′ table′
+
+-- an s line changes the table alone, whatever the slices are
+abbrev pub TakesSwap : (substituting : Bool) (text table : List ℕ) (p : Progress) (r : Step) (table′ : List ℕ) → Type 0
+TakesSwap substituting text table p r table′ = (m : Memory) → TakesLine (swapLine substituting) text table p r m m table′
+
+-- an s line of the code
+abbrev pub swapLineSeen : (nodes : List Tree) (text : List ℕ) → SwapLine → Read Spec.Swap
+swapLineSeen nodes text (SwapLine.Swap v line next) = is (swap v (getD nodes line (leaf pi))) (drop next text)
+swapLineSeen nodes text SwapLine.Bad = bad
+
+abbrev pub SwapWithin : ℕ → SwapLine → Type 0
+SwapWithin lines (SwapLine.Swap v line next) = line < lines
+SwapWithin lines SwapLine.Bad = Unit {0}
+
+pub record FindsSwap (text : List ℕ) (at lines : ℕ) (r : SwapLine) : Type 0 where
+  pub seen : (nodes : List Tree) → length nodes ≡ lines → swapLineSeen nodes text r ≡ swapFields nodes (getD text at 0) (drop (at + 1) text)
+  pub within : SwapWithin lines r
+
+-- whether a variable is above those of the s lines in the table, whatever trees they name
+abbrev pub Above : (table : List ℕ) (swaps variable : ℕ) → Bool → Type 0
+Above table swaps variable r = (m : Memory) (t : Tree) → r ≡ above (swapTrees m table swaps) (swap variable t)
+
+-- ---- a listing
+
+-- an answer of the code, as one on trees
+abbrev pub listingSeen : (m : Memory) (table : List ℕ) → Listing → Spec.Listing
+listingSeen m table (Listing.Read root n swaps) = accepted (treeAt m root) (swapTrees m table swaps) (stateOf m n 0)
+listingSeen m table (Listing.Refused why) = Spec.refused why
+
+abbrev pub ListsAfter : (m : Memory) (table : List ℕ) → Listing → Type 0
+ListsAfter m table (Listing.Read root n swaps) = (root < n) × (swaps ≤ 256) × Lists m table n 0 swaps
+ListsAfter m table (Listing.Refused why) = Unit {0}
+
+-- reading a listing, from the slices m to m′
+pub record Reads (substituting : Bool) (text : List ℕ) (r : Listing) (m m′ : Memory) (table : List ℕ) : Type 0 where
+  pub answer : listingSeen m′ table r ≡ listing substituting text (fresh (room m) 0)
+  pub after : ListsAfter m′ table r
+
+-- the node that an s line names
+abbrev pub swapSeen : Memory → Swap → Spec.Named
+swapSeen m (Swap.Node i) = names (treeAt m i)
+swapSeen m Swap.Nothing = nothing

@@ -1,0 +1,218 @@
+// Listings: read line by line into a store, and written from it.
+ghost use mathlib.Core.Path.{_≡_};
+ghost use Prim.Native.Nat.{ℕ, _≤_, _<_};
+ghost use lib.ListN.{length};
+ghost use Rattle.store.specs.Memory.{memory};
+ghost use Rattle.listing.specs.Listings.{nodeLine, listingLine};
+ghost use Rattle.listing.specs.Tables.{entryAt, moved, Reads, FindsSwap, Above, Ready, TakesSwap, TakesLine};
+use expression::refusal::Refusal;
+use line::LF;
+use line::Line;
+use line::TAB;
+use line::read_node;
+use store::Added;
+use store::add;
+use store::memory::put;
+use store::memory::read;
+use store::node::Expression;
+use store::start;
+use text::reading::Number;
+use text::reading::byte_at;
+use text::reading::decimal_field;
+
+pub mod line;
+
+// What reading a listing answers: the node of the root, how many nodes the store has, how many s lines the table.
+pub enum Listing {
+    Read {
+        root: usize,
+        nodes: usize,
+        swaps: usize,
+    },
+    Refused(Refusal),
+}
+
+// The node that an s line names, if there is one for a variable.
+pub enum Swap {
+    Node(usize),
+    Nothing,
+}
+
+// What stands in the table for a number, from a place on; 4096 of them do.
+fn entry_at(table: &[u64], from: usize, k: usize) -> usize
+    requires { ⌜ from ≤ 4096 ⌝ }
+    ensures { λ r. ⌜ r ≡ entryAt (now (table .entry)) from k ⌝ }
+{
+    if k < 4096 {
+        read(table, from + k) as usize
+    } else {
+        0
+    }
+}
+
+// A node with other numbers for its operands: the node of a line, or the line of a node.
+fn moved_by(table: &[u64], from: usize, e: Expression) -> Expression
+    requires { ⌜ from ≤ 4096 ⌝ }
+    ensures { λ r. ⌜ r ≡ moved (now (table .entry)) from e ⌝ }
+{
+    match e {
+        Expression::FunctionCall(f, child) => {
+            Expression::FunctionCall(f, entry_at(table, from, child))
+        }
+        Expression::Prefix(o, child) => Expression::Prefix(o, entry_at(table, from, child)),
+        Expression::Infix(o, left, right) => Expression::Infix(
+            o,
+            entry_at(table, from, left),
+            entry_at(table, from, right),
+        ),
+        Expression::Number(z) => Expression::Number(z),
+        Expression::PiConstant => Expression::PiConstant,
+        Expression::Variable(number) => Expression::Variable(number),
+        Expression::Address(region, index) => Expression::Address(region, index),
+    }
+}
+
+// How far reading is: the place in the text, how many node lines and s lines are read, how many nodes are stored.
+struct Progress {
+    at: usize,
+    lines: usize,
+    swaps: usize,
+    nodes: usize,
+}
+
+// A line was read, or refused.
+enum Step {
+    Next(Progress),
+    Refused(Refusal),
+}
+
+// An s line: its variable, the line of its node, and the place after it.
+enum SwapLine {
+    Swap(u64, usize, usize),
+    Bad,
+}
+
+fn read_swap(s: &[u8], at: usize, lines: usize) -> SwapLine
+    requires { ⌜ (at < length (now s)) × (lines ≤ 1024) ⌝ }
+    ensures { λ r. ⌜ FindsSwap (now (s .entry)) at lines r ⌝ }
+{
+    if byte_at(s, at + 1) != TAB {
+        return SwapLine::Bad;
+    }
+    let x = decimal_field(s, at + 2, TAB, 65536);
+    let Number::Is(variable, p) = x else {
+        return SwapLine::Bad;
+    };
+    let y = decimal_field(s, p, LF, lines as u64);
+    let Number::Is(line, next) = y else {
+        return SwapLine::Bad;
+    };
+    SwapLine::Swap(variable, line as usize, next)
+}
+
+// An s line: 2, then 1.
+fn take_swap(s: &[u8], substituting: bool, table: &mut [u64], p: Progress) -> Step
+    requires { ⌜ Ready (now s) (now table) p ⌝ }
+    ensures { λ r. ⌜ TakesSwap substituting (now (s .entry)) (now (table .entry)) p r (now (table .exit)) ⌝ }
+{
+    let at = p.at;
+    let lines = p.lines;
+    let swaps = p.swaps;
+    let here = (lines + swaps) as u64;
+    if 256 <= swaps {
+        return Step::Refused(Refusal::LongList(here));
+    }
+    let found = read_swap(s, at, lines);
+    let SwapLine::Swap(variable, line, next) = found else {
+        return Step::Refused(Refusal::BadList(here));
+    };
+    if !substituting {
+        return Step::Refused(Refusal::BadList(here));
+    }
+    if !is_above(table, swaps, variable) {
+        return Step::Refused(Refusal::BadList(here));
+    }
+    let node = read(table, line);
+    put(table, 1024 + 2 * swaps, variable);
+    put(table, 1025 + 2 * swaps, node);
+    Step::Next(Progress {
+        at: next,
+        lines,
+        swaps: swaps + 1,
+        nodes: p.nodes,
+    })
+}
+
+// Whether a variable is above that of the last s line.
+fn is_above(table: &[u64], swaps: usize, variable: u64) -> bool
+    requires { ⌜ swaps ≤ 256 ⌝ }
+    ensures { λ r. ⌜ Above (now (table .entry)) swaps variable r ⌝ }
+{
+    if swaps == 0 {
+        return true;
+    }
+    read(table, 1022 + 2 * swaps) < variable
+}
+
+// A node line: 2, then 1, then 6, 7, 8 as the node is stored.
+fn take_node(
+    s: &[u8],
+    tag: &mut [u64],
+    first: &mut [u64],
+    second: &mut [u64],
+    link: &mut [u64],
+    table: &mut [u64],
+    p: Progress,
+) -> Step
+    requires { ⌜ Ready (now s) (now table) p ⌝ }
+    ensures { λ r. ⌜ TakesLine nodeLine (now (s .entry)) (now (table .entry)) p r (memory (now (tag .entry)) (now (first .entry)) (now (second .entry)) (now (link .entry))) (memory (now (tag .exit)) (now (first .exit)) (now (second .exit)) (now (link .exit))) (now (table .exit)) ⌝ }
+{
+    let at = p.at;
+    let lines = p.lines;
+    let swaps = p.swaps;
+    let here = (lines + swaps) as u64;
+    if 1024 <= lines {
+        return Step::Refused(Refusal::LongList(here));
+    }
+    if 0 < swaps {
+        return Step::Refused(Refusal::BadList(here));
+    }
+    let found = read_node(s, at, lines);
+    let Line::Node(e, next) = found else {
+        return Step::Refused(Refusal::BadList(here));
+    };
+    let added = add(tag, first, second, link, p.nodes, moved_by(table, 0, e), 0);
+    match added {
+        Added::Node { at: node, nodes, calls: _ } => {
+            put(table, lines, node as u64);
+            Step::Next(Progress {
+                at: next,
+                lines: lines + 1,
+                swaps,
+                nodes,
+            })
+        }
+        Added::Refused(why) => Step::Refused(why),
+    }
+}
+
+// The first byte decides which kind of line it is.
+fn take_line(
+    s: &[u8],
+    substituting: bool,
+    tag: &mut [u64],
+    first: &mut [u64],
+    second: &mut [u64],
+    link: &mut [u64],
+    table: &mut [u64],
+    p: Progress,
+) -> Step
+    requires { ⌜ Ready (now s) (now table) p ⌝ }
+    ensures { λ r. ⌜ TakesLine (listingLine substituting) (now (s .entry)) (now (table .entry)) p r (memory (now (tag .entry)) (now (first .entry)) (now (second .entry)) (now (link .entry))) (memory (now (tag .exit)) (now (first .exit)) (now (second .exit)) (now (link .exit))) (now (table .exit)) ⌝ }
+{
+    let at = p.at;
+    if s[at] == b's' {
+        return take_swap(s, substituting, table, p);
+    }
+    take_node(s, tag, first, second, link, table, p)
+}
