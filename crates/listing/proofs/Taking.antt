@@ -291,8 +291,8 @@ module _ (substituting : Bool) {text table : List ℕ} {p : Progress} (ready : R
             let t : above (swapTrees m table (p .swaps)) (swap v named-tree) ≡ true = sym (tests m named-tree) ∙ e in
             record {
               answer = sym (rw (swaps-long ready l, lt-ltb (p .swaps) 256 few, found-swap, asked, t)
-              (ap (λ ts. goes (known ts (swapTrees m table (p .swaps) ++ (swap v named-tree ∷ [])) (stateOf m (p .nodes) 0)) (drop next text)) same-lines
-              ∙ ap (λ ss. goes (known (lineTrees m table′ (p .lines)) ss (stateOf m (p .nodes) 0)) (drop next text)) (sym grows)));
+                  (ap (λ ts. goes (known ts (swapTrees m table (p .swaps) ++ (swap v named-tree ∷ [])) (stateOf m (p .nodes) 0)) (drop next text)) same-lines
+                  ∙ ap (λ ss. goes (known (lineTrees m table′ (p .lines)) ss (stateOf m (p .nodes) 0)) (drop next text)) (sym grows)));
               after = record {
                 lists = record { holds = l .holds; nodes = λ k h. rw (kept k (omega (arith, h, ready .lines))) (l .nodes k h); named = inside };
                 count = omega arith;
@@ -321,8 +321,12 @@ module _ (substituting : Bool) {text table : List ℕ} {p : Progress} (ready : R
             grows : swapTrees m table′ (p .swaps + 1) ≡ swapTrees m table (p .swaps) ++ (swap v (treeAt m (getD table line 0)) ∷ [])
             grows =
                 upTo-more (p .swaps) (λ k. swap (getD table′ (1024 + 2 * k) 0) (treeAt m (getD table′ (1025 + 2 * k) 0)))
-                ∙ rw (upTo-alike (p .swaps) (λ k. swap (getD table′ (1024 + 2 * k) 0) (treeAt m (getD table′ (1025 + 2 * k) 0))) (λ k. swap (getD table (1024 + 2 * k) 0) (treeAt m (getD table (1025 + 2 * k) 0)))
-                (λ k h. rw (kept (1024 + 2 * k) (omega (arith, h)), kept (1025 + 2 * k) (omega (arith, h)))), variable-there, node-there)
+                ∙ rw (
+                  upTo-alike (p .swaps) (λ k. swap (getD table′ (1024 + 2 * k) 0) (treeAt m (getD table′ (1025 + 2 * k) 0))) (λ k. swap (getD table (1024 + 2 * k) 0) (treeAt m (getD table (1025 + 2 * k) 0)))
+                      (λ k h. rw (kept (1024 + 2 * k) (omega (arith, h)), kept (1025 + 2 * k) (omega (arith, h)))),
+                  variable-there,
+                  node-there,
+                )
 
             inside : (k : ℕ) → k < p .swaps + 1 → getD table′ (1025 + 2 * k) 0 < p .nodes
             inside k h = go (decLt k (p .swaps))

@@ -1,10 +1,10 @@
 -- What the code's answers and the lent table say, as trees. Only connecting.
 use mathlib.Core.Path.{_≡_}
-use Prim.Native.Nat.{ℕ, zero, suc, _+_, _*_, _≤_, _<_}
+use Prim.Native.Nat.{ℕ, zero, suc, _+_, _-_, _*_, _≤_, _<_}
 use mathlib.Core.List.{List, [], _∷_, _++_}
 use mathlib.Core.Bool.{Bool, true, false, cond}
 use lib.ListN.{length, getD, drop}
-use lib.Dec.{ltb}
+use lib.Dec.{ltb, eqb}
 use Rattle.expression.specs.declared.refusal.Refusal.{Refusal}
 use Rattle.expression.specs.Trees.{Tree, leaf, pi}
 use Rattle.store.specs.declared.node.Expression.{Expression}
@@ -22,7 +22,7 @@ use Rattle.listing.specs.declared.Progress.{Progress}
 use Rattle.listing.specs.declared.Step.{Step}
 use Rattle.listing.specs.declared.SwapLine.{SwapLine}
 use Rattle.listing.specs.Listings as Spec
-use Rattle.listing.specs.Listings.{Known, known, accepted, swap, names, nothing, above, swapFields, swapLine, listing}
+use Rattle.listing.specs.Listings.{Known, known, accepted, swap, names, nothing, above, swapFields, swapLine, listingLine, mostLines, listing}
 
 -- the first n values of a function
 unfoldable pub upTo : {A : Type 0} → ℕ → (ℕ → A) → List A
@@ -131,6 +131,25 @@ pub record FindsSwap (text : List ℕ) (at lines : ℕ) (r : SwapLine) : Type 0 
 abbrev pub Above : (table : List ℕ) (swaps variable : ℕ) → Bool → Type 0
 Above table swaps variable r = (m : Memory) (t : Tree) → r ≡ above (swapTrees m table swaps) (swap variable t)
 
+-- ---- all lines
+
+abbrev pub linesSeen : (m : Memory) (table : List ℕ) → Step → Lines.Whole Known Refusal
+linesSeen m table (Step.Next q) = Lines.read (knownAt m table q)
+linesSeen m table (Step.Refused why) = Lines.refused why
+
+pub record Ended (m : Memory) (table : List ℕ) (q : Progress) : Type 0 where
+  pub lists : Lists m table (q .nodes) (q .lines) (q .swaps)
+  pub lines : q .lines ≤ 1024
+  pub swaps : q .swaps ≤ 256
+
+abbrev pub LinesAfter : (m : Memory) (table : List ℕ) → Step → Type 0
+LinesAfter m table (Step.Next q) = Ended m table q
+LinesAfter m table (Step.Refused why) = Unit {0}
+
+pub record ReadsLines (substituting : Bool) (text : List ℕ) (r : Step) (m m′ : Memory) (table : List ℕ) : Type 0 where
+  pub answer : linesSeen m′ table r ≡ Lines.lines (listingLine substituting) (suc mostLines) (known [] [] (stateOf m 0 0)) text
+  pub after : LinesAfter m′ table r
+
 -- ---- a listing
 
 -- an answer of the code, as one on trees
@@ -141,6 +160,11 @@ listingSeen m table (Listing.Refused why) = Spec.refused why
 abbrev pub ListsAfter : (m : Memory) (table : List ℕ) → Listing → Type 0
 ListsAfter m table (Listing.Read root n swaps) = (root < n) × (swaps ≤ 256) × Lists m table n 0 swaps
 ListsAfter m table (Listing.Refused why) = Unit {0}
+
+-- the root's node is that of the last line
+unfoldable pub rootOf : (table : List ℕ) → Progress → Listing
+rootOf table p =
+    cond (eqb (p .lines) 0) (Listing.Refused (Refusal.BadList 0)) (Listing.Read (getD table (p .lines - 1) 0) (p .nodes) (p .swaps))
 
 -- reading a listing, from the slices m to m′
 pub record Reads (substituting : Bool) (text : List ℕ) (r : Listing) (m m′ : Memory) (table : List ℕ) : Type 0 where

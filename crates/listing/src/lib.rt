@@ -3,8 +3,9 @@ ghost use mathlib.Core.Path.{_≡_};
 ghost use Prim.Native.Nat.{ℕ, _≤_, _<_};
 ghost use lib.ListN.{length};
 ghost use Rattle.store.specs.Memory.{memory};
+ghost use Rattle.store.specs.Held.{Holds};
 ghost use Rattle.listing.specs.Listings.{nodeLine, listingLine};
-ghost use Rattle.listing.specs.Tables.{entryAt, moved, Reads, FindsSwap, Above, Ready, TakesSwap, TakesLine};
+ghost use Rattle.listing.specs.Tables.{entryAt, moved, Reads, FindsSwap, Above, Ready, TakesSwap, TakesLine, ReadsLines, rootOf};
 use expression::refusal::Refusal;
 use line::LF;
 use line::Line;
@@ -183,7 +184,11 @@ fn take_node(
     };
     let added = add(tag, first, second, link, p.nodes, moved_by(table, 0, e), 0);
     match added {
-        Added::Node { at: node, nodes, calls: _ } => {
+        Added::Node {
+            at: node,
+            nodes,
+            calls: _,
+        } => {
             put(table, lines, node as u64);
             Step::Next(Progress {
                 at: next,
@@ -215,4 +220,72 @@ fn take_line(
         return take_swap(s, substituting, table, p);
     }
     take_node(s, tag, first, second, link, table, p)
+}
+
+// All lines, into a store with no node.
+fn read_lines(
+    s: &[u8],
+    substituting: bool,
+    tag: &mut [u64],
+    first: &mut [u64],
+    second: &mut [u64],
+    link: &mut [u64],
+    table: &mut [u64],
+) -> Step
+    requires { ⌜ 8192 ≤ length (now table) ⌝ }
+    requires { ⌜ Holds (memory (now tag) (now first) (now second) (now link)) 0 ⌝ }
+    ensures { λ r. ⌜ ReadsLines substituting (now (s .entry)) r (memory (now (tag .entry)) (now (first .entry)) (now (second .entry)) (now (link .entry))) (memory (now (tag .exit)) (now (first .exit)) (now (second .exit)) (now (link .exit))) (now (table .exit)) ⌝ }
+{
+    let mut p = Progress {
+        at: 0,
+        lines: 0,
+        swaps: 0,
+        nodes: 0,
+    };
+    let mut at: usize = 0;
+    while at < s.len() {
+        let step = take_line(s, substituting, tag, first, second, link, table, p);
+        let Step::Next(q) = step else {
+            return step;
+        };
+        p = q;
+        at = q.at;
+    }
+    Step::Next(p)
+}
+
+// A listing, read into a new store whatever the slices held; the table has the s lines then.
+pub fn read_listing(
+    text: &[u8],
+    substituting: bool,
+    tag: &mut [u64],
+    first: &mut [u64],
+    second: &mut [u64],
+    link: &mut [u64],
+    table: &mut [u64],
+) -> Listing
+    requires { ⌜ 8192 ≤ length (now table) ⌝ }
+    ensures { λ r. ⌜ Reads substituting (now (text .entry)) r (memory (now (tag .entry)) (now (first .entry)) (now (second .entry)) (now (link .entry))) (memory (now (tag .exit)) (now (first .exit)) (now (second .exit)) (now (link .exit))) (now (table .exit)) ⌝ }
+{
+    start(link);
+    let end = read_lines(text, substituting, tag, first, second, link, table);
+    match end {
+        Step::Next(p) => root_of(table, p),
+        Step::Refused(why) => Listing::Refused(why),
+    }
+}
+
+// "The last node line is the root"; with no node line there is none.
+fn root_of(table: &[u64], p: Progress) -> Listing
+    ensures { λ r. ⌜ r ≡ rootOf (now (table .entry)) p ⌝ }
+{
+    let lines = p.lines;
+    if lines == 0 {
+        return Listing::Refused(Refusal::BadList(0));
+    }
+    Listing::Read {
+        root: read(table, lines - 1) as usize,
+        nodes: p.nodes,
+        swaps: p.swaps,
+    }
 }

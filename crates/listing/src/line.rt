@@ -181,11 +181,7 @@ fn read_infix(s: &[u8], at: usize, lines: usize) -> Line
         return Line::Bad;
     };
     Line::Node(
-        Expression::Infix(
-            InfixOperator::from_code(o),
-            left as usize,
-            right as usize,
-        ),
+        Expression::Infix(InfixOperator::from_code(o), left as usize, right as usize),
         next,
     )
 }

@@ -1,0 +1,143 @@
+-- The loop over the lines of a listing, and its answer. Assumes nothing.
+use mathlib.Core.Path.{_≡_, refl, sym, ap, _∙_}
+use mathlib.Core.List.{List, [], _∷_, _++_}
+use mathlib.Core.Bool.{Bool, true, false, cond}
+use Prim.Native.Nat.{ℕ, zero, suc, _+_, _-_, _*_, _≤_, _<_}
+use native.Mathlib.Omega.{arith}
+use lib.ListN.{length, getD, drop}
+use borrow.Author.Tests.{eq-eqb, ne-eqb}
+use Rattle.expression.specs.declared.refusal.Refusal.{Refusal}
+use Rattle.expression.specs.Trees.{Tree, leaf, pi}
+use Rattle.store.specs.Memory.{Memory, memory, room, treeAt, stateOf}
+use Rattle.store.specs.Storing.{State, fresh}
+use Rattle.store.specs.Held.{Holds, Begun}
+use Rattle.text.specs.Lines as Lines
+use Rattle.text.specs.Lines.{goes, stops}
+use Rattle.text.proofs.Lining.{Left, begins, ends, goes-on, stops-at}
+use Rattle.listing.specs.declared.Listing.{Listing}
+use Rattle.listing.specs.declared.Progress.{Progress}
+use Rattle.listing.specs.declared.Step.{Step}
+use Rattle.listing.specs.Listings as Spec
+use Rattle.listing.specs.Listings.{Known, known, Swap, accepted, last, rooted, whole, listing, listingLine, mostLines}
+use Rattle.listing.specs.Tables.{upTo, lineTrees, swapTrees, knownAt, Lists, Ready, Takes, linesSeen, Ended, ReadsLines, listingSeen, ListsAfter, Reads, rootOf}
+
+-- after some lines
+pub record Going (substituting : Bool) (text : List ℕ) (m₀ : Memory) (m : Memory) (table : List ℕ) (p : Progress) (at : ℕ) : Type 0 where
+  pub here : p .at ≡ at
+  pub lines : p .lines ≤ 1024
+  pub swaps : p .swaps ≤ 256
+  pub long : 8192 ≤ length table
+  pub lists : Lists m table (p .nodes) (p .lines) (p .swaps)
+  pub left : Left (listingLine substituting) (suc mostLines) (p .lines + p .swaps) (knownAt m table p) text at
+      (Lines.lines (listingLine substituting) (suc mostLines) (known [] [] (stateOf m₀ 0 0)) text)
+
+abbrev pub atStart : Progress
+atStart = record { at = 0; lines = 0; swaps = 0; nodes = 0 }
+
+pub going-begins : (substituting : Bool) (text : List ℕ) (m : Memory) (table : List ℕ) → 8192 ≤ length table → Holds m 0 → Going substituting text m m table atStart 0
+unfolding upTo
+going-begins substituting text m table l h = record {
+  here = refl;
+  lines = omega arith;
+  swaps = omega arith;
+  long = l;
+  lists = record { holds = h; nodes = λ k o. absurd (omega arith); named = λ k o. absurd (omega arith) };
+  left = begins (listingLine substituting) (suc mostLines) (known [] [] (stateOf m 0 0)) text;
+}
+
+module _ {substituting : Bool} {text : List ℕ} {m₀ m : Memory} {table : List ℕ} {p : Progress} {at : ℕ} (g : Going substituting text m₀ m table p at) where
+  pub is-ready : at < length text → Ready text table p
+  is-ready h = record { inside = omega (arith, g .here, h); lines = g .lines; swaps = g .swaps; long = g .long }
+
+  pub going-ends : length text ≤ at → ReadsLines substituting text (Step.Next p) m₀ m table
+  going-ends h = record { answer = ends (g .left) h; after = record { lists = g .lists; lines = g .lines; swaps = g .swaps } }
+
+  module _ {r : Step} {m′ : Memory} {table′ : List ℕ} (inside : at < length text)
+      (t : Takes (listingLine substituting (knownAt m table p) (getD text (p .at) 0) (drop (p .at + 1) text)) text p r m′ table′) where
+    at-place : listingLine substituting (knownAt m table p) (getD text (p .at) 0) (drop (p .at + 1) text)
+        ≡ listingLine substituting (knownAt m table p) (getD text at 0) (drop (at + 1) text)
+    at-place = rw (g .here)
+
+    pub going-stops : {why : Refusal} → r ≡ Step.Refused why → ReadsLines substituting text r m₀ m′ table′
+    going-stops {why} e =
+        let a = rw e at (t .answer) in
+        rw e (record { answer = stops-at (g .left) inside (omega (arith, g .lines, g .swaps)) (sym (a ∙ at-place)); after = tt })
+
+    pub going-on : {q : Progress} → r ≡ Step.Next q → length table′ ≡ length table → Going substituting text m₀ m′ table′ q (q .at)
+    going-on {q} e k =
+        let a = rw e at (t .answer) in
+        let f = rw e at (t .after) in
+        let z = goes-on (g .left) inside (omega (arith, g .lines, g .swaps)) (sym (a ∙ at-place)) in
+        record {
+          here = refl;
+          lines = f .lines;
+          swaps = f .swaps;
+          long = omega (arith, g .long, k);
+          lists = f .lists;
+          left = rw (f .count) z;
+        }
+
+    pub less : {q : Progress} → r ≡ Step.Next q → 1281 - (q .lines + q .swaps) < 1281 - (p .lines + p .swaps)
+    less {q} e = let f = rw e at (t .after) in omega (arith, f .count, g .lines, g .swaps)
+
+-- ---- the root
+
+last-snoc : (t u : Tree) (ts : List Tree) → last t (ts ++ (u ∷ [])) ≡ u
+unfolding last
+last-snoc t u [] = refl
+last-snoc t u (v ∷ ts) = last-snoc v u ts
+
+rooted-snoc : (ts : List Tree) (u : Tree) (ss : List Swap) (σ : State) → rooted (ts ++ (u ∷ [])) ss σ ≡ accepted u ss σ
+unfolding rooted last
+rooted-snoc [] u ss σ = refl
+rooted-snoc (t ∷ ts) u ss σ = rw (last-snoc t u ts)
+
+pub root-none : (table : List ℕ) (p : Progress) → p .lines ≡ 0 → Listing.Refused (Refusal.BadList 0) ≡ rootOf table p
+unfolding rootOf
+root-none table p e = rw (eq-eqb (p .lines) 0 e)
+
+pub root-some : (table : List ℕ) (p : Progress) (root : ℕ) → (p .lines ≡ 0 → ⊥) → root ≡ getD table (p .lines - 1) 0 → Listing.Read root (p .nodes) (p .swaps) ≡ rootOf table p
+unfolding rootOf
+root-some table p root e q = rw (ne-eqb (p .lines) 0 e, q)
+
+root-seen : (m : Memory) (table : List ℕ) (p : Progress) (lines : ℕ) → p .lines ≡ lines → listingSeen m table (rootOf table p) ≡ whole (Lines.read (knownAt m table p))
+unfolding whole rooted upTo rootOf
+root-seen m table p zero e = rw e
+root-seen m table p (suc k) e =
+    let z : suc k - 1 ≡ k = omega arith in
+    rw (e, z, ne-eqb (suc k) 0 (λ q. omega (arith, q))) (sym (rooted-snoc (lineTrees m table k) (treeAt m (getD table k 0)) (swapTrees m table (p .swaps)) (stateOf m (p .nodes) 0)))
+
+root-after : (m : Memory) (table : List ℕ) (p : Progress) → Ended m table p → (lines : ℕ) → p .lines ≡ lines → ListsAfter m table (rootOf table p)
+unfolding rootOf
+root-after m table p f zero e = rw e tt
+root-after m table p f (suc k) e =
+    let z : suc k - 1 ≡ k = omega arith in
+    rw (e, z, ne-eqb (suc k) 0 (λ q. omega (arith, q))) (f .lists .nodes k (omega (arith, e)), f .swaps, record { holds = f .lists .holds; nodes = λ j h. absurd (omega arith); named = f .lists .named })
+
+module _ {substituting : Bool} {text : List ℕ} {m₀ m m′ : Memory} {table : List ℕ} {r : Step} (b : Begun m₀ m) (t : ReadsLines substituting text r m m′ table) where
+  from-fresh : whole (linesSeen m′ table r) ≡ listing substituting text (fresh (room m₀) 0)
+  unfolding listing
+  from-fresh = ap whole (t .answer) ∙ rw (b .begins 0)
+
+  pub reads-refused : {why : Refusal} → r ≡ Step.Refused why → Reads substituting text (Listing.Refused why) m₀ m′ table
+  unfolding whole
+  reads-refused e = record { answer = rw e at from-fresh; after = tt }
+
+  pub reads-root : {p : Progress} {a : Listing} → r ≡ Step.Next p → a ≡ rootOf table p → Reads substituting text a m₀ m′ table
+  reads-root {p} {a} e q =
+      rw q (record { answer = root-seen m′ table p (p .lines) refl ∙ (rw e at from-fresh); after = root-after m′ table p (rw e at (t .after)) (p .lines) refl })
+
+-- ---- the slices keep their lengths
+
+pub record Same (m₀ : Memory) (t₀ : List ℕ) (m : Memory) (t : List ℕ) : Type 0 where
+  pub tag : length (m .tag) ≡ length (m₀ .tag)
+  pub first : length (m .first) ≡ length (m₀ .first)
+  pub second : length (m .second) ≡ length (m₀ .second)
+  pub link : length (m .link) ≡ length (m₀ .link)
+  pub table : length t ≡ length t₀
+
+pub same-begins : (m : Memory) (table : List ℕ) → Same m table m table
+same-begins m table = record { tag = refl; first = refl; second = refl; link = refl; table = refl }
+
+pub same-on : {m₀ m m′ : Memory} {table₀ table table′ : List ℕ} → Same m₀ table₀ m table → Same m table m′ table′ → Same m₀ table₀ m′ table′
+same-on a b = record { tag = b .tag ∙ a .tag; first = b .first ∙ a .first; second = b .second ∙ a .second; link = b .link ∙ a .link; table = b .table ∙ a .table }
