@@ -1,3 +1,5 @@
 pub mod Numbers
 pub mod Taking
 pub mod Whole
+pub mod Orders
+pub mod Visiting

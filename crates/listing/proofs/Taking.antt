@@ -71,7 +71,7 @@ none-upTo n f h = go (upTo n f) (length-upTo n f)
 
 -- ---- operands by the table
 
-entry-is : (table : List ℕ) (from k : ℕ) → k < 4096 → entryAt table from k ≡ getD table (from + k) 0
+pub entry-is : (table : List ℕ) (from k : ℕ) → k < 4096 → entryAt table from k ≡ getD table (from + k) 0
 unfolding entryAt
 entry-is table from k h = rw (lt-ltb k 4096 h)
 

@@ -1,2 +1,4 @@
 pub mod Listings
+pub mod Order
 pub mod Tables
+pub mod Ordering

@@ -22,6 +22,8 @@ use text::reading::byte_at;
 use text::reading::decimal_field;
 
 pub mod line;
+mod order;
+pub mod writing;
 
 // What reading a listing answers: the node of the root, how many nodes the store has, how many s lines the table.
 pub enum Listing {

@@ -23,8 +23,8 @@ use Rattle.store.specs.declared.node.Expression.{Expression}
 use Rattle.store.specs.declared.node.Fields.{Fields}
 use Rattle.store.specs.Words.{codeIn, sizeIn, depthIn, tagOf}
 use Rattle.store.specs.Nodes.{fields, fieldsOf, expressionOf, Within, Sound}
-use Rattle.store.specs.Storing.{Answer, among, intern, result, refused}
-use Rattle.store.specs.Memory.{Memory, memory, place, room, fieldsOn, sizeOn, depthOn, fieldsAt, sizeAt, depthAt, headAt, classAt, keptAt, expressionAt, trees, treeAt, treeOf, linked, keptFor, stateOf}
+use Rattle.store.specs.Storing.{Answer, among, intern, result, refused, place}
+use Rattle.store.specs.Memory.{Memory, memory, room, fieldsOn, sizeOn, depthOn, fieldsAt, sizeAt, depthAt, headAt, classAt, keptAt, expressionAt, trees, treeAt, treeOf, linked, keptFor, stateOf}
 use Rattle.store.specs.Index.{keyOf, bucketOf, keyAt, bucketAt, latest, joined}
 use Rattle.store.specs.Held.{Right, Holds, Built, judged}
 use Rattle.store.specs.Walk.{Walked}

@@ -16,8 +16,8 @@ use Rattle.expression.proofs.Likeness.{equal-sym, equal-trans}
 use Rattle.store.specs.declared.Added.{Added}
 use Rattle.store.specs.declared.Kept.{Kept}
 use Rattle.store.specs.Words.{headIn, withKept}
-use Rattle.store.specs.Storing.{gives, keep, recall, result}
-use Rattle.store.specs.Memory.{Memory, memory, place, room, headOn, classOn, keptOn, classAt, keptAt, expressionAt, trees, treeAt, linked, keptFor, stateOf}
+use Rattle.store.specs.Storing.{gives, keep, recall, result, place}
+use Rattle.store.specs.Memory.{Memory, memory, room, headOn, classOn, keptOn, classAt, keptAt, expressionAt, trees, treeAt, linked, keptFor, stateOf}
 use Rattle.store.specs.Index.{keyAt, bucketAt, latest}
 use Rattle.store.specs.Held.{Holds, Built, Recalls, Compares, Starts}
 use Rattle.store.proofs.Slices.{getD-zeros}

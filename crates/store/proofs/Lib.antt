@@ -1,6 +1,6 @@
 -- The laws that the proofs of this crate, and where `pub` of its callers, cite.
 mod Slices
-mod Places
+pub mod Places
 mod Coding
 pub mod Trees
 mod Keys

@@ -10,8 +10,7 @@ use lib.Dec.{T, eqb, eqb→eq, eqb-refl}
 use lib.ListN.{length, getD}
 use Rattle.expression.specs.Trees.{Tree, leaf, pi}
 use Rattle.expression.specs.Alike.{identical}
-use Rattle.store.specs.Storing.{among}
-use Rattle.store.specs.Memory.{place}
+use Rattle.store.specs.Storing.{among, place}
 use Rattle.store.specs.Index.{latest}
 
 -- ---- the first place

@@ -10,7 +10,8 @@ use Rattle.expression.specs.Alike.{identical, equal}
 use Rattle.expression.proofs.Likeness.{identical-same, same-identical, equal-sym, equal-trans, equal-tests, same-equal}
 use Rattle.store.specs.declared.node.Expression.{Expression}
 use Rattle.store.specs.Nodes.{fieldsOf, expressionOf, Within, Sound}
-use Rattle.store.specs.Memory.{Memory, place, fieldsAt, classAt, expressionAt, trees, treeAt, treeOf}
+use Rattle.store.specs.Storing.{place}
+use Rattle.store.specs.Memory.{Memory, fieldsAt, classAt, expressionAt, trees, treeAt, treeOf}
 use Rattle.store.specs.Index.{keyOf, keyAt}
 use Rattle.store.specs.Held.{Holds}
 use Rattle.store.specs.Walk.{Kinship, kin, stranger, Walked}

@@ -16,8 +16,8 @@ use Rattle.expression.proofs.Likeness.{identical-same}
 use Rattle.store.specs.declared.Added.{Added}
 use Rattle.store.specs.declared.node.Expression.{Expression}
 use Rattle.store.specs.Nodes.{fieldsOf, expressionOf, Within, Sound}
-use Rattle.store.specs.Storing.{State, state, Answer, gives, refused, among}
-use Rattle.store.specs.Memory.{Memory, place, fieldsAt, sizeAt, depthAt, classAt, expressionAt, trees, treeAt, treeOf, stateOf}
+use Rattle.store.specs.Storing.{State, state, Answer, gives, refused, among, place}
+use Rattle.store.specs.Memory.{Memory, fieldsAt, sizeAt, depthAt, classAt, expressionAt, trees, treeAt, treeOf, stateOf}
 use Rattle.store.specs.Index.{keyOf}
 use Rattle.store.specs.Held.{Holds, Built}
 use Rattle.store.specs.Walk.{Walked}

@@ -13,8 +13,8 @@ use Rattle.store.specs.declared.Kept.{Kept}
 use Rattle.store.specs.declared.Verdict.{Verdict}
 use Rattle.store.specs.Nodes.{fieldsOf, Within}
 use Rattle.store.specs.Storing as Storing
-use Rattle.store.specs.Storing.{Answer, gives, refused, intern, keep, recall, nothing, result, fresh}
-use Rattle.store.specs.Memory.{Memory, memory, place, room, fieldsAt, sizeAt, depthAt, headAt, classAt, keptAt, nextAt, expressionAt, trees, treeAt, treeOf, stateOf}
+use Rattle.store.specs.Storing.{Answer, gives, refused, intern, keep, recall, nothing, result, fresh, place}
+use Rattle.store.specs.Memory.{Memory, memory, room, fieldsAt, sizeAt, depthAt, headAt, classAt, keptAt, nextAt, expressionAt, trees, treeAt, treeOf, stateOf}
 use Rattle.store.specs.Index.{bucketAt, latest}
 
 -- what is right of node k, one of n

@@ -10,7 +10,7 @@ use Rattle.store.specs.declared.node.Expression.{Expression}
 use Rattle.store.specs.declared.node.Fields.{Fields}
 use Rattle.store.specs.Words.{codeIn, sizeIn, depthIn, headIn, classIn, keptIn, nextIn}
 use Rattle.store.specs.Nodes.{fields, expressionOf, grown}
-use Rattle.store.specs.Storing.{Kept, nothing, result, State, state}
+use Rattle.store.specs.Storing.{Kept, nothing, result, State, state, place}
 
 pub record Memory : Type 0 where
   pub tag : List ℕ
@@ -20,11 +20,6 @@ pub record Memory : Type 0 where
 
 abbrev pub memory : List ℕ → List ℕ → List ℕ → List ℕ → Memory
 memory tag first second link = record { tag = tag; first = first; second = second; link = link }
-
--- where a list first has a tree that passes, or the list's length
-unfoldable pub place : (Tree → Bool) → List Tree → ℕ
-place test [] = 0
-place test (t ∷ ts) = cond (test t) 0 (suc (place test ts))
 
 -- the fields of node k, each from the slice that has it
 unfoldable pub fieldsOn : (tag first second : List ℕ) → ℕ → Fields

@@ -1,5 +1,5 @@
 -- Storing trees and keeping results, on trees alone: the state of all that builds, and what each step does to it. Definitions only.
-use Prim.Native.Nat.{ℕ}
+use Prim.Native.Nat.{ℕ, suc}
 use mathlib.Core.List.{List, [], _∷_, _++_}
 use mathlib.Core.Bool.{Bool, false, cond, _||_}
 use lib.ListN.{length}
@@ -33,6 +33,11 @@ andThen (refused why) next = refused why
 unfoldable pub among : List Tree → Tree → Bool
 among [] t = false
 among (s ∷ ts) t = identical t s || among ts t
+
+-- where a list first has a tree that passes, or the list's length
+unfoldable pub place : (Tree → Bool) → List Tree → ℕ
+place test [] = 0
+place test (t ∷ ts) = cond (test t) 0 (suc (place test ts))
 
 -- "6 BIG: a new node of size over 1,000,000", "7 DEEP: a new node of depth over 64", "8 ROOM: a new node, store full"
 unfoldable pub intern : Tree → State → Answer

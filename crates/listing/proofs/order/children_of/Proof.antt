@@ -1,0 +1,25 @@
+-- `children_of` meets its contract. Assumes nothing.
+use Rattle.listing.specs.Ordering.{childrenOf}
+use borrow.Author.Needs.{needs}
+use Rattle.listing.proofs.order.children_of.Statement.{statement}
+use Rattle.listing.proofs.order.children_of.Tie as tie
+
+pub children-of-spec : {M : Type 1} → statement M
+unfolding childrenOf
+children-of-spec =
+    tie.close
+    (tie.spec
+    (λ c. search needs)
+    (λ c. search needs)
+    (λ c. search needs)
+    (λ c. search needs)
+    (λ c. search needs)
+    (λ c. search needs)
+    (λ c. search needs)
+    (λ c. rw (c .before .e .given .1))
+    (λ c. rw (c .before .e2 .given .1))
+    (λ c. rw (c .before .e3 .given .1))
+    (λ c. rw (c .enum-told .given .1))
+    (λ c. rw (c .enum-told2 .given .1))
+    (λ c. rw (c .enum-told3 .given .1))
+    (λ c. rw (c .enum-told4 .given .1)))

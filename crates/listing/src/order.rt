@@ -1,0 +1,101 @@
+// The written order of a tree: a table of its nodes, each once, in the order in which evaluation first finishes them.
+// Word i of the table is the node of line i; word 4096 + k is the line of node k, if that line's node is k.
+ghost use mathlib.Core.Path.{_≡_};
+ghost use Prim.Native.Nat.{_≤_};
+ghost use Rattle.listing.specs.Ordering.{childrenOf, Tells, Visits, Enters};
+use super::entry_at;
+use store::memory::put;
+use store::memory::read;
+use store::node::Expression;
+use store::reading::expression_at;
+
+// Above all nodes: where there is no child.
+const NONE: usize = 0xFFFF_FFFF_FFFF_FFFF;
+
+pub struct Children {
+    pub left: usize,
+    pub right: usize,
+}
+
+fn children_of(e: Expression) -> Children
+    ensures { λ r. ⌜ r ≡ childrenOf e ⌝ }
+{
+    match e {
+        Expression::FunctionCall(_, child) => Children {
+            left: child,
+            right: NONE,
+        },
+        Expression::Prefix(_, child) => Children {
+            left: child,
+            right: NONE,
+        },
+        Expression::Infix(_, left, right) => Children { left, right },
+        Expression::Number(_) => Children {
+            left: NONE,
+            right: NONE,
+        },
+        Expression::PiConstant => Children {
+            left: NONE,
+            right: NONE,
+        },
+        Expression::Variable(_) => Children {
+            left: NONE,
+            right: NONE,
+        },
+        Expression::Address(_, _) => Children {
+            left: NONE,
+            right: NONE,
+        },
+    }
+}
+
+// Whether a node is among the first `count` of the table.
+fn is_listed(table: &[u64], node: usize, count: usize) -> bool
+    ensures { λ r. ⌜ Tells (now (table .entry)) node count r ⌝ }
+{
+    let line = entry_at(table, 4096, node);
+    if line < count {
+        read(table, line) == node as u64
+    } else {
+        false
+    }
+}
+
+// A node after the first `count`; there is room for 4096.
+fn enter(table: &mut [u64], node: usize, count: usize) -> usize
+    ensures { λ r. ⌜ Enters (now (table .entry)) node count r (now (table .exit)) ⌝ }
+{
+    if 4096 <= count {
+        return count;
+    }
+    if 4096 <= node {
+        return count;
+    }
+    put(table, count, node as u64);
+    put(table, 4096 + node, count as u64);
+    count + 1
+}
+
+// The nodes below `node` and then itself, as far as they are not in the table; a node that is not below `below` is none.
+pub fn visit(
+    tag: &[u64],
+    first: &[u64],
+    second: &[u64],
+    table: &mut [u64],
+    node: usize,
+    below: usize,
+    count: usize,
+) -> usize
+    ensures { λ r. ⌜ Visits (now (tag .entry)) (now (first .entry)) (now (second .entry)) (now (table .entry)) node below count r (now (table .exit)) ⌝ }
+{
+    if below <= node {
+        return count;
+    }
+    if is_listed(table, node, count) {
+        return count;
+    }
+    let c = children_of(expression_at(tag, first, second, node));
+    let left = visit(tag, first, second, table, c.left, node, count);
+    let right = visit(tag, first, second, table, c.right, node, left);
+    enter(table, node, right)
+}
