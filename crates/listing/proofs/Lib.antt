@@ -3,3 +3,5 @@ pub mod Taking
 pub mod Whole
 pub mod Orders
 pub mod Visiting
+pub mod LineTexts
+pub mod Texts

@@ -131,17 +131,17 @@ module _ (m : Memory) (node : ℕ) (small : node < 4096) where
 
 -- ---- the returns
 
-room-small : {m : Memory} {n : ℕ} → Holds m n → n ≤ 4096
+pub room-small : {m : Memory} {n : ℕ} → Holds m n → n ≤ 4096
 room-small {m} {n} h = room-each m n (h .fits) .most
 
-module _ {m : Memory} {n : ℕ} (h : Holds m n) {table : List ℕ} {node below count : ℕ} (in-range : below ≤ n) (l : Listed m n table count) where
+module _ {m : Memory} {n : ℕ} (h : Holds m n) {table : List ℕ} {node below count : ℕ} (in-range : node < below → node < n) (l : Listed m n table count) where
   pub visit-none : below ≤ node → Visited m n table node below count count table
   unfolding visited
   visit-none o = record { listed = l; done = rw (le-ltb node below o) }
 
   module _ (o : node < below) where
     node-small : node < 4096
-    node-small = omega (arith, o, in-range, room-small h)
+    node-small = omega (arith, in-range o, room-small h)
 
     mark : entryAt table 4096 node ≡ getD table (4096 + node) 0
     mark = entry-is table 4096 node node-small
@@ -176,7 +176,7 @@ module _ {m : Memory} {n : ℕ} (h : Holds m n) {table : List ℕ} {node below c
       module _ {e : Expression} {c : Children} {left right r′ : ℕ} {table₁ table₂ table₃ : List ℕ} (new : r ≡ false) (e-is : e ≡ expressionOf (fieldsAt m node)) (c-is : c ≡ childrenOf e)
           (v₁ : Visited m n table (c .left) node count left table₁) (v₂ : Visited m n table₁ (c .right) node left right table₂) (enters : Enters table₂ node right r′ table₃) where
         inside : node < n
-        inside = omega (arith, o, in-range)
+        inside = in-range o
 
         tree : Tree
         tree = treeAt m node

@@ -1,19 +1,24 @@
 -- What the table says while the nodes of a tree are put in order. Only connecting.
 use mathlib.Core.Path.{_≡_}
-use Prim.Native.Nat.{ℕ, _+_, _≤_, _<_}
+use Prim.Native.Nat.{ℕ, zero, suc, _+_, _≤_, _<_}
 use mathlib.Core.List.{List, [], _∷_, _++_}
 use mathlib.Core.Bool.{Bool, true, false, cond, _&&_}
 use lib.ListN.{length, getD, set}
 use lib.Dec.{ltb, leb, eqb}
-use Rattle.expression.specs.Trees.{Tree, leaf, functionCall, prefixed, infixed}
+use Rattle.expression.specs.Codes.{infixCode, prefixCode, functionCode}
+use Rattle.expression.specs.Trees.{Tree, leaf, number, pi, variable, cell, functionCall, prefixed, infixed}
 use Rattle.expression.specs.Limits.{Limited, Proper}
 use Rattle.store.specs.Storing.{among}
 use Rattle.store.specs.declared.node.Expression.{Expression}
-use Rattle.store.specs.Memory.{Memory, memory, treeAt}
+use Rattle.store.specs.Nodes.{expressionOf}
+use Rattle.store.specs.Memory.{Memory, memory, fieldsOn, treeAt}
 use Rattle.store.specs.Held.{Holds}
 use Rattle.listing.specs.declared.order.Children.{Children}
-use Rattle.listing.specs.Order.{finished}
-use Rattle.listing.specs.Tables.{upTo, lineTrees, entryAt}
+use Rattle.listing.specs.declared.writing.Written.{Written}
+use Rattle.listing.specs.Order.{finished, named, leafFields, written}
+use Rattle.listing.specs.Listings.{functionNames, prefixNames, infixNames}
+use Rattle.text.specs.Writing.{inDecimal, line}
+use Rattle.listing.specs.Tables.{upTo, lineTrees, entryAt, moved}
 
 -- ---- lists of trees
 
@@ -79,7 +84,36 @@ pub record Visited (m : Memory) (n : ℕ) (table : List ℕ) (node below count r
 
 abbrev pub VisitsFrom : (m : Memory) (table : List ℕ) (node below count r : ℕ) (table′ : List ℕ) → Type 0
 VisitsFrom m table node below count r table′ =
-    (n : ℕ) → Holds m n → below ≤ n → Listed m n table count → Visited m n table node below count r table′
+    (n : ℕ) → Holds m n → (node < below → node < n) → Listed m n table count → Visited m n table node below count r table′
 
 abbrev pub Visits : (tag first second table : List ℕ) (node below count r : ℕ) (table′ : List ℕ) → Type 0
 Visits tag first second table node below count r table′ = (link : List ℕ) → VisitsFrom (memory tag first second link) table node below count r table′
+
+-- ---- a line whose operands are numbers of lines
+
+unfoldable pub textFields : Expression → List (List ℕ)
+textFields (Expression.Number z) = leafFields (number z)
+textFields Expression.PiConstant = leafFields pi
+textFields (Expression.Variable v) = leafFields (variable v)
+textFields (Expression.Address region index) = leafFields (cell region index)
+textFields (Expression.FunctionCall f a) = (102 ∷ []) ∷ named functionNames (functionCode f) ∷ inDecimal a ∷ []
+textFields (Expression.Prefix o a) = (117 ∷ []) ∷ named prefixNames (prefixCode o) ∷ inDecimal a ∷ []
+textFields (Expression.Infix o a b) = (98 ∷ []) ∷ named infixNames (infixCode o) ∷ inDecimal a ∷ inDecimal b ∷ []
+
+unfoldable pub lineText : Expression → List ℕ
+lineText e = line (textFields e)
+
+-- line i of the order in a table
+unfoldable pub lineAt : (tag first second table : List ℕ) → ℕ → Expression
+lineAt tag first second table i = moved table 4096 (expressionOf (fieldsOn tag first second (getD table i 0)))
+
+unfoldable pub linesText : (tag first second table : List ℕ) → ℕ → List ℕ
+linesText tag first second table zero = []
+linesText tag first second table (suc i) = linesText tag first second table i ++ lineText (lineAt tag first second table i)
+
+-- the tree of a node is written as the definition says, and a refusal leaves the output as it was
+abbrev pub WritesFrom : (m : Memory) (root : ℕ) (r : Written) (out out′ : List ℕ) → Type 0
+WritesFrom m root r out out′ = (n : ℕ) → Holds m n → root < n → (r, out′) ≡ written (treeAt m root) out
+
+abbrev pub Writes : (tag first second : List ℕ) (root : ℕ) (r : Written) (out out′ : List ℕ) → Type 0
+Writes tag first second root r out out′ = (link : List ℕ) → WritesFrom (memory tag first second link) root r out out′

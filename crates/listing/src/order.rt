@@ -10,7 +10,7 @@ use store::node::Expression;
 use store::reading::expression_at;
 
 // Above all nodes: where there is no child.
-const NONE: usize = 0xFFFF_FFFF_FFFF_FFFF;
+pub const NONE: usize = 0xFFFF_FFFF_FFFF_FFFF;
 
 pub struct Children {
     pub left: usize,

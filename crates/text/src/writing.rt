@@ -74,3 +74,20 @@ pub fn write_hex(out: &mut [u8], at: usize, n: u64) -> usize
     }
     at + 16
 }
+
+// A decimal number and the byte that ends its field.
+pub fn write_decimal_field(out: &mut [u8], at: usize, n: u64, stop: u8) -> usize
+    requires { ⌜ at + length (inDecimal n ++ (stop ∷ [])) ≤ length (now out) ⌝ }
+    ensures { λ r. ⌜ Put (now (out .entry)) at (inDecimal n ++ (stop ∷ [])) r (now (out .exit)) ⌝ }
+{
+    let next = write_decimal(out, at, n);
+    write_byte(out, next, stop)
+}
+
+pub fn write_hex_field(out: &mut [u8], at: usize, n: u64, stop: u8) -> usize
+    requires { ⌜ at + 17 ≤ length (now out) ⌝ }
+    ensures { λ r. ⌜ Put (now (out .entry)) at (inHex n ++ (stop ∷ [])) r (now (out .exit)) ⌝ }
+{
+    let next = write_hex(out, at, n);
+    write_byte(out, next, stop)
+}

@@ -55,7 +55,7 @@ visit-same-length-2 : (t : ℕ) → visit-lts.Need-same-length-2 (is-listed-read
 visit-same-length-2 t c = search needs
 
 visit-returns-3 : (t : ℕ) → visit-lts.Need-returns-3 (is-listed-reads.Asked, is-listed-reads.Learnt, expression-at-reads.Asked, expression-at-reads.Learnt, children-of-reads.Asked, children-of-reads.Learnt, visit-below t, visit.Post, enter-reads.Asked, enter-reads.Learnt) (visit-at t) visit.Post
-visit-returns-3 t c = λ link n h b l. let v = c .before .before .before .before .before .before .before .before .before .before .visit .ensures link n h (omega (arith, b, c .before .before .before .before .before .before .before .before .before .before .before .before .before .before .before .before .before .if1 .left)) l in let w = c .before .before .before .before .before .before .visit2 .ensures link n h (omega (arith, b, c .before .before .before .before .before .before .before .before .before .before .before .before .before .before .before .before .before .if1 .left)) (v .listed) in visit-entered h b l (c .before .before .before .before .before .before .before .before .before .before .before .before .before .before .before .before .before .if1 .left) (c .before .before .before .before .before .before .before .before .before .before .before .before .before .before .before .is-listed .ensures) (c .before .before .before .before .before .before .before .before .before .before .before .before .before .before .if2 .left) (c .before .before .before .before .before .before .before .before .before .before .before .before .before .expression-at .ensures) (c .before .before .before .before .before .before .before .before .before .before .before .before .children-of .ensures) v w (c .before .before .enter .ensures)
+visit-returns-3 t c = λ link n h b l. let v = c .before .before .before .before .before .before .before .before .before .before .visit .ensures link n h (λ q. omega (arith, q, b (c .before .before .before .before .before .before .before .before .before .before .before .before .before .before .before .before .before .if1 .left))) l in let w = c .before .before .before .before .before .before .visit2 .ensures link n h (λ q. omega (arith, q, b (c .before .before .before .before .before .before .before .before .before .before .before .before .before .before .before .before .before .if1 .left))) (v .listed) in visit-entered h b l (c .before .before .before .before .before .before .before .before .before .before .before .before .before .before .before .before .before .if1 .left) (c .before .before .before .before .before .before .before .before .before .before .before .before .before .before .before .is-listed .ensures) (c .before .before .before .before .before .before .before .before .before .before .before .before .before .before .if2 .left) (c .before .before .before .before .before .before .before .before .before .before .before .before .before .expression-at .ensures) (c .before .before .before .before .before .before .before .before .before .before .before .before .children-of .ensures) v w (c .before .before .enter .ensures)
 
 pub +visit-spec : {M : Type 1} → statement M
 +visit-spec = close μ-visit λ t. visit-lts.spec (is-listed-reads.Asked, is-listed-reads.Learnt, expression-at-reads.Asked, expression-at-reads.Learnt, children-of-reads.Asked, children-of-reads.Learnt, visit-below t, visit.Post, enter-reads.Asked, enter-reads.Learnt) (visit-at t) visit.Post
