@@ -5,3 +5,4 @@ pub mod Orders
 pub mod Visiting
 pub mod LineTexts
 pub mod Texts
+pub mod ReadBack

@@ -1,0 +1,226 @@
+-- A row more in the table: it reads back as what was put, and all other rows are as they were. Assumes nothing.
+use mathlib.Core.Path.{_≡_, _∙_}
+use mathlib.Core.List.{List}
+use Prim.Native.Nat.{ℕ, _+_, _*_, _/_, _%_, _≤_, _<_}
+use native.Mathlib.Omega.{arith}
+use native.Mathlib.Decide.{ℕ-discrete}
+use lib.ListN.{length, getD, set, length-set}
+use lib.Seq.{getD-set-same, getD-set-other}
+use lib.Ieee.{binary64}
+use lib.Ieee.Bits.{ofBits-fits}
+use Rattle.complex.specs.Bits.{bitsOf, doubleOf, Canonical}
+use Rattle.complex.proofs.Doubles.{double-back, read-canonical}
+use Rattle.sheet.specs.declared.fields.Words.{Words}
+use Rattle.sheet.specs.Seen.{numberOf}
+use Rattle.sheet.specs.Rows.{variable, cell, row, operationOf}
+use Rattle.sheet.specs.Table.{numberAt, variableAt, cellAt, rowAt, Comparable, withNumber, withVariable, withCell, withRow}
+
+-- from t to t′ only the words from `low` to below `high` may differ
+pub record Outside (t t′ : List ℕ) (low high : ℕ) : Type 0 where
+  pub below : (i : ℕ) → i < low → getD t′ i 0 ≡ getD t i 0
+  pub beyond : (i : ℕ) → high ≤ i → getD t′ i 0 ≡ getD t i 0
+
+set-outside : (t : List ℕ) (k v low high : ℕ) → low ≤ k → k < high → Outside t (set t k v) low high
+set-outside t k v low high l h = record {
+  below = λ i m. getD-set-other t k i v 0 λ q. omega arith;
+  beyond = λ i m. getD-set-other t k i v 0 λ q. omega arith;
+}
+
+then-outside : {t t′ t″ : List ℕ} {low high : ℕ} → Outside t t′ low high → Outside t′ t″ low high → Outside t t″ low high
+then-outside p q = record { below = λ i m. q .below i m ∙ p .below i m; beyond = λ i m. q .beyond i m ∙ p .beyond i m }
+
+-- ---- a number
+
+canonical-back : (b : ℕ) → doubleOf (bitsOf (doubleOf b)) ≡ doubleOf b
+canonical-back b = double-back (doubleOf b) (ofBits-fits binary64 b)
+
+module _ (t : List ℕ) (i : ℕ) (w : Words) where
+  pub number-length : length (withNumber t i w) ≡ length t
+  unfolding withNumber
+  number-length = rw (length-set, length-set)
+
+  pub number-outside : (low high : ℕ) → low ≤ i → i + 1 < high → Outside t (withNumber t i w) low high
+  unfolding withNumber
+  number-outside low high l h = then-outside (set-outside t i _ low high l (omega arith)) (set-outside _ (i + 1) _ low high (omega arith) h)
+
+  module _ (h : i + 1 < length t) where
+    pub number-first : getD (withNumber t i w) i 0 ≡ bitsOf (doubleOf (w .re))
+    unfolding withNumber
+    number-first = getD-set-other (set t i (bitsOf (doubleOf (w .re)))) (i + 1) i (bitsOf (doubleOf (w .im))) 0 (λ q. omega arith) ∙ getD-set-same t i (bitsOf (doubleOf (w .re))) 0 (omega arith)
+
+    pub number-second : getD (withNumber t i w) (i + 1) 0 ≡ bitsOf (doubleOf (w .im))
+    unfolding withNumber
+    number-second = getD-set-same (set t i (bitsOf (doubleOf (w .re)))) (i + 1) (bitsOf (doubleOf (w .im))) 0 (rw (length-set) h)
+
+    pub number-there : numberAt (withNumber t i w) i ≡ numberOf w
+    number-there = rw (number-first, number-second, canonical-back (w .re), canonical-back (w .im))
+
+-- ---- rows that stand apart from what changed
+
+module _ {t t′ : List ℕ} {low high : ℕ} (o : Outside t t′ low high) where
+  same-number : (i : ℕ) → i + 1 < low → numberAt t′ i ≡ numberAt t i
+  same-number i l = rw (o .below i (omega arith), o .below (i + 1) l)
+
+  same-number-beyond : (i : ℕ) → high ≤ i → numberAt t′ i ≡ numberAt t i
+  same-number-beyond i l = rw (o .beyond i l, o .beyond (i + 1) (omega arith))
+
+  pub same-variable : (j : ℕ) → 3 * j + 2 < low → variableAt t′ j ≡ variableAt t j
+  same-variable j l = rw (o .below (3 * j) (omega arith), same-number (3 * j + 1) (omega arith))
+
+  pub same-cell : (j : ℕ) → 2 * j + 768 + 1 < low → cellAt t′ j ≡ cellAt t j
+  same-cell j l = rw (o .below (2 * j + 768) (omega arith), o .below (2 * j + 768 + 1) (omega arith))
+
+  pub same-cell-beyond : (j : ℕ) → high ≤ 2 * j + 768 → cellAt t′ j ≡ cellAt t j
+  same-cell-beyond j l = rw (o .beyond (2 * j + 768) (omega arith), o .beyond (2 * j + 768 + 1) (omega arith))
+
+  pub same-row : (j : ℕ) → 7 * j + 2816 + 6 < low → rowAt t′ j ≡ rowAt t j
+  same-row j l =
+      rw (o .below (7 * j + 2816) (omega arith), same-number (7 * j + 2816 + 1) (omega arith), same-number (7 * j + 2816 + 3) (omega arith), same-number (7 * j + 2816 + 5) (omega arith))
+
+  pub same-row-beyond : (j : ℕ) → high ≤ 7 * j + 2816 → rowAt t′ j ≡ rowAt t j
+  same-row-beyond j l =
+      rw (o .beyond (7 * j + 2816) (omega arith), same-number-beyond (7 * j + 2816 + 1) (omega arith), same-number-beyond (7 * j + 2816 + 3) (omega arith), same-number-beyond (7 * j + 2816 + 5) (omega arith))
+
+  pub same-comparable : (j : ℕ) → 7 * j + 2816 + 6 < low → Comparable t j → Comparable t′ j
+  same-comparable j l c = record {
+    named = rw (o .below (7 * j + 2816) (omega arith)) (c .named);
+    operands = λ i m k. rw (o .below i (omega arith)) (c .operands i m k);
+  }
+
+  pub same-comparable-beyond : (j : ℕ) → high ≤ 7 * j + 2816 → Comparable t j → Comparable t′ j
+  same-comparable-beyond j l c = record {
+    named = rw (o .beyond (7 * j + 2816) (omega arith)) (c .named);
+    operands = λ i m k. rw (o .beyond i (omega arith)) (c .operands i m k);
+  }
+
+-- ---- a variable more
+
+module _ (t : List ℕ) (n k : ℕ) (w : Words) where
+  pub variable-outside : Outside t (withVariable t n k w) (3 * n) (3 * n + 3)
+  unfolding withVariable
+  variable-outside =
+      then-outside (set-outside t (3 * n) k (3 * n) (3 * n + 3) (omega arith) (omega arith)) (number-outside _ (3 * n + 1) w (3 * n) (3 * n + 3) (omega arith) (omega arith))
+
+  module _ (h : 3 * n + 2 < length t) where
+    pub variable-key : getD (withVariable t n k w) (3 * n) 0 ≡ k
+    unfolding withVariable
+    variable-key = number-outside (set t (3 * n) k) (3 * n + 1) w (3 * n + 1) (3 * n + 3) (omega arith) (omega arith) .below (3 * n) (omega arith) ∙ getD-set-same t (3 * n) k 0 (omega arith)
+
+    pub variable-there : variableAt (withVariable t n k w) n ≡ variable k (numberOf w)
+    unfolding withVariable
+    variable-there =
+        let q : numberAt (withVariable t n k w) (3 * n + 1) ≡ numberOf w = number-there (set t (3 * n) k) (3 * n + 1) w (rw length-set (omega arith)) in
+        rw (variable-key, q)
+
+-- ---- a cell more
+
+module _ (t : List ℕ) (n k real : ℕ) where
+  pub cell-outside : Outside t (withCell t n k real) (2 * n + 768) (2 * n + 768 + 2)
+  unfolding withCell
+  cell-outside = then-outside (set-outside t (2 * n + 768) k _ _ (omega arith) (omega arith)) (set-outside _ (2 * n + 768 + 1) _ (2 * n + 768) (2 * n + 768 + 2) (omega arith) (omega arith))
+
+  module _ (h : 2 * n + 768 + 1 < length t) where
+    pub cell-key : getD (withCell t n k real) (2 * n + 768) 0 ≡ k
+    unfolding withCell
+    cell-key = getD-set-other (set t (2 * n + 768) k) (2 * n + 768 + 1) (2 * n + 768) (bitsOf (doubleOf real)) 0 (λ q. omega arith) ∙ getD-set-same t (2 * n + 768) k 0 (omega arith)
+
+    cell-real : getD (withCell t n k real) (2 * n + 768 + 1) 0 ≡ bitsOf (doubleOf real)
+    unfolding withCell
+    cell-real = getD-set-same (set t (2 * n + 768) k) (2 * n + 768 + 1) (bitsOf (doubleOf real)) 0 (rw length-set h)
+
+    pub cell-there : (region index : ℕ) → k ≡ region * 4294967296 + index → index < 4294967296 → cellAt (withCell t n k real) n ≡ cell region index (doubleOf real)
+    cell-there region index e l =
+        let q : k / 4294967296 ≡ region = omega arith in
+        let r : k % 4294967296 ≡ index = omega arith in
+        rw (cell-key, cell-real, q, r, canonical-back real)
+
+-- ---- a function value more
+
+module _ (t : List ℕ) (n k : ℕ) (x y z : Words) where
+  named : List ℕ
+  named = set t (7 * n + 2816) k
+
+  firstly : List ℕ
+  firstly = withNumber named (7 * n + 2816 + 1) x
+
+  secondly : List ℕ
+  secondly = withNumber firstly (7 * n + 2816 + 3) y
+
+  pub row-outside : Outside t (withRow t n k x y z) (7 * n + 2816) (7 * n + 2816 + 7)
+  unfolding withRow named firstly secondly
+  row-outside =
+      then-outside (set-outside t (7 * n + 2816) k (7 * n + 2816) (7 * n + 2816 + 7) (omega arith) (omega arith))
+      (then-outside (number-outside named (7 * n + 2816 + 1) x (7 * n + 2816) (7 * n + 2816 + 7) (omega arith) (omega arith))
+      (then-outside (number-outside firstly (7 * n + 2816 + 3) y (7 * n + 2816) (7 * n + 2816 + 7) (omega arith) (omega arith))
+      (number-outside secondly (7 * n + 2816 + 5) z (7 * n + 2816) (7 * n + 2816 + 7) (omega arith) (omega arith))))
+
+  -- after each step what came before stays
+  after-name : Outside named (withRow t n k x y z) (7 * n + 2816 + 1) (7 * n + 2816 + 7)
+  unfolding withRow named firstly secondly
+  after-name =
+      then-outside (number-outside named (7 * n + 2816 + 1) x (7 * n + 2816 + 1) (7 * n + 2816 + 7) (omega arith) (omega arith))
+      (then-outside (number-outside firstly (7 * n + 2816 + 3) y (7 * n + 2816 + 1) (7 * n + 2816 + 7) (omega arith) (omega arith))
+      (number-outside secondly (7 * n + 2816 + 5) z (7 * n + 2816 + 1) (7 * n + 2816 + 7) (omega arith) (omega arith)))
+
+  after-first : Outside firstly (withRow t n k x y z) (7 * n + 2816 + 3) (7 * n + 2816 + 7)
+  unfolding withRow named firstly secondly
+  after-first =
+      then-outside (number-outside firstly (7 * n + 2816 + 3) y (7 * n + 2816 + 3) (7 * n + 2816 + 7) (omega arith) (omega arith))
+      (number-outside secondly (7 * n + 2816 + 5) z (7 * n + 2816 + 3) (7 * n + 2816 + 7) (omega arith) (omega arith))
+
+  after-second : Outside secondly (withRow t n k x y z) (7 * n + 2816 + 5) (7 * n + 2816 + 7)
+  unfolding withRow named firstly secondly
+  after-second = number-outside secondly (7 * n + 2816 + 5) z (7 * n + 2816 + 5) (7 * n + 2816 + 7) (omega arith) (omega arith)
+
+  named-length : length named ≡ length t
+  unfolding named
+  named-length = length-set t (7 * n + 2816) k
+
+  firstly-length : length firstly ≡ length t
+  unfolding firstly
+  firstly-length = number-length named (7 * n + 2816 + 1) x ∙ named-length
+
+  secondly-length : length secondly ≡ length t
+  unfolding secondly
+  secondly-length = number-length firstly (7 * n + 2816 + 3) y ∙ firstly-length
+
+  module _ (h : 7 * n + 2816 + 6 < length t) where
+    pub row-name : getD (withRow t n k x y z) (7 * n + 2816) 0 ≡ k
+    unfolding named
+    row-name = after-name .below (7 * n + 2816) (omega arith) ∙ getD-set-same t (7 * n + 2816) k 0 (omega arith)
+
+    row-x : numberAt (withRow t n k x y z) (7 * n + 2816 + 1) ≡ numberOf x
+    unfolding firstly
+    row-x = same-number after-first (7 * n + 2816 + 1) (omega arith) ∙ number-there named (7 * n + 2816 + 1) x (omega (arith, named-length))
+
+    row-y : numberAt (withRow t n k x y z) (7 * n + 2816 + 3) ≡ numberOf y
+    unfolding secondly
+    row-y = same-number after-second (7 * n + 2816 + 3) (omega arith) ∙ number-there firstly (7 * n + 2816 + 3) y (omega (arith, firstly-length))
+
+    row-value : numberAt (withRow t n k x y z) (7 * n + 2816 + 5) ≡ numberOf z
+    unfolding withRow named firstly secondly
+    row-value = number-there secondly (7 * n + 2816 + 5) z (omega (arith, secondly-length))
+
+    pub row-there : rowAt (withRow t n k x y z) n ≡ row (operationOf k) (numberOf x) (numberOf y) (numberOf z)
+    row-there = rw (row-name, row-x, row-y, row-value)
+
+    operand : (i b : ℕ) → getD (withRow t n k x y z) i 0 ≡ bitsOf (doubleOf b) → Canonical (getD (withRow t n k x y z) i 0)
+    operand i b e = rw e (read-canonical b)
+
+    pub row-comparable : 0 < k → k < 6 → Comparable (withRow t n k x y z) n
+    unfolding firstly secondly
+    row-comparable p l = record {
+      named = rw row-name (p, l);
+      operands = λ i m u. elim (ℕ-discrete i (7 * n + 2816 + 1)) [
+        | yes e ↦ rw e (operand (7 * n + 2816 + 1) (x .re) (after-first .below (7 * n + 2816 + 1) (omega arith) ∙ number-first named (7 * n + 2816 + 1) x (omega (arith, named-length))))
+        | no a ↦ elim (ℕ-discrete i (7 * n + 2816 + 1 + 1)) [
+          | yes e ↦ rw e (operand (7 * n + 2816 + 1 + 1) (x .im) (after-first .below (7 * n + 2816 + 1 + 1) (omega arith) ∙ number-second named (7 * n + 2816 + 1) x (omega (arith, named-length))))
+          | no b ↦ elim (ℕ-discrete i (7 * n + 2816 + 3)) [
+            | yes e ↦ rw e (operand (7 * n + 2816 + 3) (y .re) (after-second .below (7 * n + 2816 + 3) (omega arith) ∙ number-first firstly (7 * n + 2816 + 3) y (omega (arith, firstly-length))))
+            | no d ↦
+                let e : i ≡ 7 * n + 2816 + 3 + 1 = omega arith in
+                rw e (operand (7 * n + 2816 + 3 + 1) (y .im) (after-second .below (7 * n + 2816 + 3 + 1) (omega arith) ∙ number-second firstly (7 * n + 2816 + 3) y (omega (arith, firstly-length))))
+          ]
+        ]
+      ];
+    }

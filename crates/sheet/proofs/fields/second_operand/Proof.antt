@@ -1,0 +1,26 @@
+-- `second_operand` meets its contract: the fields that were read, put into the definition. Assumes nothing.
+use mathlib.Core.Path.{sym}
+use borrow.Author.Tests.{eq-eqb, ne-eqb}
+use Rattle.text.specs.Reading.{then}
+use Rattle.sheet.specs.Rows.{secondOperand}
+use borrow.Author.Needs.{needs}
+use Rattle.sheet.proofs.fields.second_operand.Statement.{statement}
+use Rattle.sheet.proofs.fields.second_operand.Tie as tie
+
+pub second-operand-spec : {M : Type 1} → statement M
+unfolding secondOperand then
+second-operand-spec =
+    tie.close
+    (tie.spec
+    (λ c κs. search needs)
+    (λ c. search needs)
+    (λ c. search needs)
+    (λ c. rw (sym (rw (c .enum-told .given .1) at (c .before .before .hex-field .ensures))))
+    (λ c κs. search needs)
+    (λ c. search needs)
+    (λ c. search needs)
+    (λ c. rw (sym (rw (c .before .before .before .before .first .given .1) at (c .before .before .before .before .before .before .hex-field .ensures)), sym (rw (c .enum-told2 .given .1) at (c .before .before .hex-field2 .ensures))))
+    (λ c. rw (sym (rw (c .before .before .before .before .before .before .first .given .1) at (c .before .before .before .before .before .before .before .before .hex-field .ensures)), sym (rw (c .before .before .last .given .1) at (c .before .before .before .before .hex-field2 .ensures)), eq-eqb _ _ (c .if1 .taken)))
+    (λ c. rw (sym (rw (c .before .before .before .before .before .before .before .first .given .1) at (c .before .before .before .before .before .before .before .before .before .hex-field .ensures)), sym (rw (c .before .before .before .last .given .1) at (c .before .before .before .before .before .hex-field2 .ensures)), ne-eqb _ _ (c .before .if1 .left), ne-eqb _ _ (c .if2 .taken)))
+    (λ c. rw (sym (rw (c .before .before .before .before .before .before .before .before .first .given .1) at (c .before .before .before .before .before .before .before .before .before .before .hex-field .ensures)), sym (rw (c .before .before .before .before .last .given .1) at (c .before .before .before .before .before .before .hex-field2 .ensures)), ne-eqb _ _ (c .before .before .if1 .left), eq-eqb _ _ (c .before .if2 .left), ne-eqb _ _ (c .if3 .taken)))
+    (λ c. rw (sym (rw (c .before .before .before .before .before .before .before .before .first .given .1) at (c .before .before .before .before .before .before .before .before .before .before .hex-field .ensures)), sym (rw (c .before .before .before .before .last .given .1) at (c .before .before .before .before .before .before .hex-field2 .ensures)), ne-eqb _ _ (c .before .before .if1 .left), eq-eqb _ _ (c .before .if2 .left), eq-eqb _ _ (c .if3 .left))))

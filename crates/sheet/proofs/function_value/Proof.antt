@@ -1,0 +1,21 @@
+-- `function_value` meets its contract: the first row that matches as words is the first that matches. Assumes nothing.
+use native.Mathlib.Omega.{arith}
+use Rattle.sheet.proofs.Finding.{row-found, row-missing}
+use borrow.Author.Needs.{needs}
+use Rattle.sheet.proofs.function_value.Statement.{statement}
+use Rattle.sheet.proofs.function_value.Tie as tie
+
+pub function-value-spec : {M : Type 1} → statement M
+function-value-spec =
+    tie.close
+    (tie.spec
+    (λ c κs. search needs)
+    (λ c κs. search needs)
+    (λ c κs. search needs)
+    (λ c κs. search needs)
+    (λ c. λ h. row-missing (c .before .before .before .before .before .before .args .table .now) (c .before .before .before .before .before .before .args .rows) h _ (c .before .before .before .before .before .before .args .operation) (c .before .before .before .before .before .before .args .x) (c .before .before .before .before .before .before .args .y) (rw (c .before .before .before .before .operation-number .ensures, c .before .before .before .words-of .ensures, c .before .before .words-of2 .ensures) at (c .before .find-row .ensures .1 (h .functions))) (c .if1 .taken))
+    (λ c. omega (arith, c .before .find-row .ensures .0 (c .if1 .left)))
+    (λ c. omega (arith, c .before .find-row .ensures .0 (c .if1 .left)))
+    (λ c. omega (arith, c .before .find-row .ensures .0 (c .if1 .left)))
+    (λ c κs. omega (arith, c .before .find-row .ensures .0 (c .if1 .left)))
+    (λ c. λ h. rw (c .number-at .ensures) (row-found (c .before .before .before .before .before .before .before .args .table .now) (c .before .before .before .before .before .before .before .args .rows) h _ (c .before .before .before .before .before .before .before .args .operation) (c .before .before .before .before .before .before .before .args .x) (c .before .before .before .before .before .before .before .args .y) (rw (c .before .before .before .before .before .operation-number .ensures, c .before .before .before .before .words-of .ensures, c .before .before .before .words-of2 .ensures) at (c .before .before .find-row .ensures .1 (h .functions))) (c .before .if1 .left))))

@@ -1,0 +1,148 @@
+-- What a table of words holds, read as the rows of a sheet, when it is one, and how a row is added. Only connecting.
+use Prim.Native.Nat.{ℕ, zero, suc, _+_, _*_, _/_, _%_, _≤_, _<_}
+use mathlib.Core.Path.{_≡_}
+use mathlib.Core.List.{List, [], _∷_}
+use mathlib.Core.Bool.{Bool, true, false, _&&_}
+use lib.ListN.{getD, set, drop}
+use lib.Dec.{ltb, eqb}
+use Rattle.complex.specs.declared.Complex.{Complex}
+use Rattle.complex.specs.Bits.{bitsOf, doubleOf, Canonical}
+use Rattle.complex.specs.Constants.{ofParts}
+use Rattle.expression.specs.declared.refusal.Refusal.{Refusal}
+use Rattle.text.specs.Lines.{Line, goes, stops, Whole, read, refused}
+use Rattle.sheet.specs.declared.Rows.{Rows as Counts}
+use Rattle.sheet.specs.declared.Sheet.{Sheet}
+use Rattle.sheet.specs.declared.Found.{Found}
+use Rattle.sheet.specs.declared.fields.Words.{Words}
+use Rattle.sheet.specs.declared.lines.Step.{Step}
+use Rattle.sheet.specs.Rows.{Variable, variable, Cell, cell, Row, row, Rows, rows, operationOf, mostVariables, mostCells, mostFunctions, Lookup, found, missing}
+
+-- ---- the rows of a table
+
+-- the first n of some things
+unfoldable pub listed : {A : Type 0} → (ℕ → A) → ℕ → List A
+listed f zero = []
+listed f (suc n) = f zero ∷ listed (λ j. f (suc j)) n
+
+abbrev pub numberAt : List ℕ → ℕ → Complex
+numberAt t i = ofParts (getD t i 0) (getD t (i + 1) 0)
+
+-- row j of each kind: 3 words from 0 on, 2 from 768 on, 7 from 2816 on
+abbrev pub variableAt : List ℕ → ℕ → Variable
+variableAt t j = variable (getD t (3 * j) 0) (numberAt t (3 * j + 1))
+
+-- region and index in one word
+abbrev pub cellAt : List ℕ → ℕ → Cell
+cellAt t j = cell (getD t (2 * j + 768) 0 / 4294967296) (getD t (2 * j + 768) 0 % 4294967296) (doubleOf (getD t (2 * j + 768 + 1) 0))
+
+abbrev pub rowAt : List ℕ → ℕ → Row
+rowAt t j = row (operationOf (getD t (7 * j + 2816) 0)) (numberAt t (7 * j + 2816 + 1)) (numberAt t (7 * j + 2816 + 3)) (numberAt t (7 * j + 2816 + 5))
+
+abbrev pub rowsOf : List ℕ → Counts → Rows
+rowsOf t n = rows (listed (variableAt t) (n .variables)) (listed (cellAt t) (n .cells)) (listed (rowAt t) (n .functions))
+
+-- the line that comes next
+abbrev pub lineOf : Counts → ℕ
+lineOf n = n .variables + (n .cells + n .functions)
+
+-- ---- when a table holds a sheet
+
+abbrev pub keyAt : List ℕ → (from step : ℕ) → ℕ → ℕ
+keyAt t from step j = getD t (step * j + from) 0
+
+abbrev pub numberKey : List ℕ → ℕ → ℕ
+numberKey t j = getD t (3 * j) 0
+
+abbrev pub pairKey : List ℕ → ℕ → ℕ
+pairKey t j = getD t (2 * j + 768) 0
+
+pub record Ascends (key : ℕ → ℕ) (n : ℕ) : Type 0 where
+  pub each : (j : ℕ) → j + 1 < n → key j < key (j + 1)
+
+-- a row's name is one of the five, and its operands' words are canonical
+pub record Comparable (t : List ℕ) (j : ℕ) : Type 0 where
+  pub named : (0 < getD t (7 * j + 2816) 0) × (getD t (7 * j + 2816) 0 < 6)
+  pub operands : (i : ℕ) → 7 * j + 2816 < i → i < 7 * j + 2816 + 5 → Canonical (getD t i 0)
+
+pub record Held (t : List ℕ) (n : Counts) : Type 0 where
+  pub variables : n .variables ≤ mostVariables
+  pub cells : n .cells ≤ mostCells
+  pub functions : n .functions ≤ mostFunctions
+  pub numbers : Ascends (numberKey t) (n .variables)
+  pub pairs : Ascends (pairKey t) (n .cells)
+  pub operands : (j : ℕ) → j < n .functions → Comparable t j
+
+-- ---- the answer of the reader
+
+abbrev pub seen : List ℕ → Sheet → Whole Rows Refusal
+seen t (Sheet.Read n) = read (rowsOf t n)
+seen t (Sheet.Refused why) = refused why
+
+-- a sheet that was read stands in the table
+abbrev pub heldBy : List ℕ → Sheet → Type 0
+heldBy t (Sheet.Read n) = Held t n
+heldBy t (Sheet.Refused why) = Unit {0}
+
+-- the same of one line
+abbrev pub seenStep : (text t : List ℕ) → Step → Line Rows Refusal
+seenStep text t (Step.Next n next) = goes (rowsOf t n) (drop next text)
+seenStep text t (Step.Stop why) = stops why
+
+abbrev pub heldAfter : List ℕ → (line : ℕ) → Step → Type 0
+heldAfter t line (Step.Next n next) = Held t n × (lineOf n ≡ line + 1)
+heldAfter t line (Step.Stop why) = Unit {0}
+
+pub record Takes (text t : List ℕ) (n : Counts) (line : Line Rows Refusal) (r : Step) : Type 0 where
+  pub answer : seenStep text t r ≡ line
+  pub held : heldAfter t (lineOf n) r
+
+-- ---- a row more
+
+unfoldable pub withNumber : List ℕ → ℕ → Words → List ℕ
+withNumber t i w = set (set t i (bitsOf (doubleOf (w .re)))) (i + 1) (bitsOf (doubleOf (w .im)))
+
+unfoldable pub withVariable : List ℕ → (count number : ℕ) → Words → List ℕ
+withVariable t count number value = withNumber (set t (3 * count) number) (3 * count + 1) value
+
+unfoldable pub withCell : List ℕ → (count key real : ℕ) → List ℕ
+withCell t count key real = set (set t (2 * count + 768) key) (2 * count + 768 + 1) (bitsOf (doubleOf real))
+
+unfoldable pub withRow : List ℕ → (count name : ℕ) → (x y value : Words) → List ℕ
+withRow t count name x y value =
+    withNumber (withNumber (withNumber (set t (7 * count + 2816) name) (7 * count + 2816 + 1) x) (7 * count + 2816 + 3) y) (7 * count + 2816 + 5) value
+
+-- whether it may follow the last
+unfoldable pub above : (ℕ → ℕ) → (count key : ℕ) → Bool
+above keys zero key = true
+above keys (suc k) key = ltb (keys k) key
+
+abbrev pub variableMay : List ℕ → Counts → ℕ → Bool
+variableMay t n number = eqb (n .cells) 0 && (eqb (n .functions) 0 && above (numberKey t) (n .variables) number)
+
+abbrev pub cellMay : List ℕ → Counts → ℕ → Bool
+cellMay t n key = eqb (n .functions) 0 && above (pairKey t) (n .cells) key
+
+-- ---- what is found
+
+abbrev pub seenFound : Found → Lookup
+seenFound (Found.Value z) = found z
+seenFound Found.Nothing = missing
+
+-- r is the first of `count` that passes, or `count`
+pub record First (test : ℕ → Bool) (count r : ℕ) : Type 0 where
+  pub within : r ≤ count
+  pub hit : r < count → test r ≡ true
+  pub before : (j : ℕ) → j < r → test j ≡ false
+
+abbrev pub holds : (ℕ → ℕ) → ℕ → ℕ → Bool
+holds keys key j = eqb key (keys j)
+
+abbrev pub wordsOf : Complex → Words
+wordsOf x = record { re = bitsOf (x .re); im = bitsOf (x .im) }
+
+abbrev pub pairMatches : List ℕ → ℕ → Words → Bool
+pairMatches t i w = eqb (w .re) (getD t i 0) && eqb (w .im) (getD t (i + 1) 0)
+
+abbrev pub rowMatches : List ℕ → (name : ℕ) → (x y : Words) → ℕ → Bool
+rowMatches t name x y j =
+    eqb name (getD t (7 * j + 2816) 0) && (pairMatches t (7 * j + 2816 + 1) x && pairMatches t (7 * j + 2816 + 3) y)

@@ -1,0 +1,130 @@
+// One line of the sheet: its count, then its form and order, then its row into the table.
+ghost use mathlib.Core.Path.{_≡_};
+ghost use Prim.Native.Nat.{_+_, _<_, _≤_};
+ghost use lib.ListN.{length, getD, drop};
+ghost use Rattle.sheet.specs.Rows.{sheetLine, variableLine, cellLine, functionLine};
+ghost use Rattle.sheet.specs.Table.{rowsOf, lineOf, Held, Takes};
+use super::Rows;
+use super::fields::CellFields;
+use super::fields::RowFields;
+use super::fields::VariableFields;
+use super::fields::read_cell;
+use super::fields::read_row;
+use super::fields::read_variable;
+use super::table::cell_may;
+use super::table::put_cell;
+use super::table::put_row;
+use super::table::put_variable;
+use super::table::variable_may;
+use expression::refusal::Refusal;
+
+// 01's counts.
+const MOST_VARIABLES: usize = 256;
+
+const MOST_CELLS: usize = 1024;
+
+const MOST_FUNCTIONS: usize = 256;
+
+// After a line: the rows with the place of the next line, or why it is refused.
+pub enum Step {
+    Next(Rows, usize),
+    Stop(Refusal),
+}
+
+fn line_number(rows: Rows) -> u64
+    requires { ⌜ lineOf rows ≤ 1536 ⌝ }
+    ensures { λ r. ⌜ r ≡ lineOf rows ⌝ }
+{
+    (rows.variables + (rows.cells + rows.functions)) as u64
+}
+
+fn take_variable(text: &[u8], at: usize, table: &mut [u64], rows: Rows) -> Step
+    requires { ⌜ (8192 ≤ length (now table)) × Held (now table) rows ⌝ }
+    ensures { λ r. ⌜ Takes (now (text .entry)) (now (table .exit)) rows (variableLine (rowsOf (now (table .entry)) rows) 118 (drop at (now (text .entry)))) r ⌝ }
+{
+    let count = rows.variables;
+    let line = line_number(rows);
+    if MOST_VARIABLES <= count {
+        return Step::Stop(Refusal::LongSheet(line));
+    }
+    let fields = read_variable(text, at);
+    let VariableFields::Are(number, value, next) = fields else {
+        return Step::Stop(Refusal::BadSheet(line));
+    };
+    if !variable_may(table, rows, number) {
+        return Step::Stop(Refusal::BadSheet(line));
+    }
+    put_variable(table, count, number, value);
+    let more = Rows {
+        variables: count + 1,
+        cells: rows.cells,
+        functions: rows.functions,
+    };
+    Step::Next(more, next)
+}
+
+fn take_cell(text: &[u8], at: usize, table: &mut [u64], rows: Rows) -> Step
+    requires { ⌜ (8192 ≤ length (now table)) × Held (now table) rows ⌝ }
+    ensures { λ r. ⌜ Takes (now (text .entry)) (now (table .exit)) rows (cellLine (rowsOf (now (table .entry)) rows) 109 (drop at (now (text .entry)))) r ⌝ }
+{
+    let count = rows.cells;
+    let line = line_number(rows);
+    if MOST_CELLS <= count {
+        return Step::Stop(Refusal::LongSheet(line));
+    }
+    let fields = read_cell(text, at);
+    let CellFields::Are(region, index, real, next) = fields else {
+        return Step::Stop(Refusal::BadSheet(line));
+    };
+    let key = region * 4294967296 + index;
+    if !cell_may(table, rows, key) {
+        return Step::Stop(Refusal::BadSheet(line));
+    }
+    put_cell(table, count, key, real);
+    let more = Rows {
+        variables: rows.variables,
+        cells: count + 1,
+        functions: rows.functions,
+    };
+    Step::Next(more, next)
+}
+
+fn take_row(text: &[u8], at: usize, table: &mut [u64], rows: Rows) -> Step
+    requires { ⌜ (8192 ≤ length (now table)) × Held (now table) rows ⌝ }
+    ensures { λ r. ⌜ Takes (now (text .entry)) (now (table .exit)) rows (functionLine (rowsOf (now (table .entry)) rows) 116 (drop at (now (text .entry)))) r ⌝ }
+{
+    let count = rows.functions;
+    let line = line_number(rows);
+    if MOST_FUNCTIONS <= count {
+        return Step::Stop(Refusal::LongSheet(line));
+    }
+    let fields = read_row(text, at);
+    let RowFields::Are(name, x, y, value, next) = fields else {
+        return Step::Stop(Refusal::BadSheet(line));
+    };
+    put_row(table, count, name, x, y, value);
+    let more = Rows {
+        variables: rows.variables,
+        cells: rows.cells,
+        functions: count + 1,
+    };
+    Step::Next(more, next)
+}
+
+// The line at a place, by its first byte.
+pub fn take_line(text: &[u8], at: usize, table: &mut [u64], rows: Rows) -> Step
+    requires { ⌜ (at < length (now text)) × (8192 ≤ length (now table)) × Held (now table) rows ⌝ }
+    ensures { λ r. ⌜ Takes (now (text .entry)) (now (table .exit)) rows (sheetLine (rowsOf (now (table .entry)) rows) (getD (now (text .entry)) at 0) (drop (at + 1) (now (text .entry)))) r ⌝ }
+{
+    let first = text[at];
+    if first == b'v' {
+        return take_variable(text, at + 1, table, rows);
+    }
+    if first == b'm' {
+        return take_cell(text, at + 1, table, rows);
+    }
+    if first == b't' {
+        return take_row(text, at + 1, table, rows);
+    }
+    Step::Stop(Refusal::BadSheet(line_number(rows)))
+}

@@ -1,0 +1,103 @@
+// Where a key stands among ascending keys, by halving; and the first function value for a name and operands.
+ghost use mathlib.Core.Path.{_≡_};
+ghost use Prim.Native.Nat.{_<_, _≤_};
+ghost use Rattle.sheet.specs.Rows.{operationNumber};
+ghost use Rattle.sheet.specs.Table.{keyAt, Ascends, First, holds, wordsOf, pairMatches, rowMatches};
+use super::fields::Words;
+use super::table::ROWS;
+use complex::Complex;
+use complex::bits::to_bits;
+use expression::refusal::Operation;
+use store::memory::read;
+
+// No kind has more rows than this.
+const MOST: usize = 1024;
+
+const MOST_FUNCTIONS: usize = 256;
+
+// The number of the row with this key, or the count; rows of `step` words stand from `from` on, the key first.
+pub fn search(table: &[u64], from: usize, step: usize, count: usize, key: u64) -> usize
+    requires { ⌜ (from ≤ 8192) × (step ≤ 7) ⌝ }
+    ensures { λ r. ⌜ (r < count → r < 1024) × (count ≤ 1024 → Ascends (keyAt (now (table .entry)) from step) count → First (holds (keyAt (now (table .entry)) from step) key) count r) ⌝ }
+{
+    if MOST < count {
+        return count;
+    }
+    let mut low: usize = 0;
+    let mut high = count;
+    while low < high {
+        let middle = low + (high - low) / 2;
+        let stands = read(table, step * middle + from);
+        if stands == key {
+            return middle;
+        }
+        if stands < key {
+            low = middle + 1;
+        } else {
+            high = middle;
+        }
+    }
+    count
+}
+
+pub fn operation_number(operation: Operation) -> u64
+    ensures { λ r. ⌜ r ≡ operationNumber operation ⌝ }
+{
+    match operation {
+        Operation::Sine => 1,
+        Operation::Cosine => 2,
+        Operation::Exponent => 3,
+        Operation::SquareRoot => 4,
+        Operation::Power => 5,
+    }
+}
+
+pub fn words_of(x: Complex) -> Words
+    ensures { λ r. ⌜ r ≡ wordsOf x ⌝ }
+{
+    Words {
+        re: to_bits(x.re),
+        im: to_bits(x.im),
+    }
+}
+
+fn pair_at(table: &[u64], at: usize, words: Words) -> bool
+    requires { ⌜ at ≤ 8192 ⌝ }
+    ensures { λ r. ⌜ r ≡ pairMatches (now (table .entry)) at words ⌝ }
+{
+    if read(table, at) != words.re {
+        return false;
+    }
+    words.im == read(table, at + 1)
+}
+
+fn row_matches(table: &[u64], j: usize, name: u64, x: Words, y: Words) -> bool
+    requires { ⌜ j < 256 ⌝ }
+    ensures { λ r. ⌜ r ≡ rowMatches (now (table .entry)) name x y j ⌝ }
+{
+    let at = 7 * j + ROWS;
+    if read(table, at) != name {
+        return false;
+    }
+    if !pair_at(table, at + 1, x) {
+        return false;
+    }
+    pair_at(table, at + 3, y)
+}
+
+// The number of the first row for this name and these operands, or the count.
+pub fn find_row(table: &[u64], count: usize, name: u64, x: Words, y: Words) -> usize
+    ensures { λ r. ⌜ (r < count → r < 256) × (count ≤ 256 → First (rowMatches (now (table .entry)) name x y) count r) ⌝ }
+{
+    if MOST_FUNCTIONS < count {
+        return count;
+    }
+    let mut j: usize = 0;
+    while j < count {
+        if row_matches(table, j, name, x, y) {
+            return j;
+        }
+        j += 1;
+    }
+    j
+}
