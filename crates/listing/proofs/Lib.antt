@@ -6,3 +6,5 @@ pub mod Visiting
 pub mod LineTexts
 pub mod Texts
 pub mod ReadBack
+pub mod Fits
+mod Examples
