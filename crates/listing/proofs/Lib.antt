@@ -8,3 +8,4 @@ pub mod Texts
 pub mod ReadBack
 pub mod Fits
 mod Examples
+pub mod OneAnswer

@@ -1,0 +1,63 @@
+-- Two answers that the contract of `read_listing` allows are equal, and so are two answers with their output bytes that that of `write_listing` allows.
+-- Assumes nothing.
+use mathlib.Core.Path.{_≡_, refl, sym, ap, _∙_, subst}
+use mathlib.Core.Bool.{Bool}
+use mathlib.Core.List.{List, []}
+use Prim.Native.Nat.{ℕ, _<_}
+use lib.ListN.{length}
+use Rattle.expression.specs.declared.refusal.Refusal.{Refusal}
+use Rattle.expression.specs.Trees.{Tree, leaf, pi}
+use Rattle.expression.specs.Alike.{identical}
+use Rattle.store.specs.Storing.{State, state, place}
+use Rattle.store.specs.Memory.{Memory, trees, treeAt, stateOf}
+use Rattle.store.specs.Held.{Holds}
+use Rattle.store.proofs.Trees.{length-trees}
+use Rattle.store.proofs.Seeking.{own-place}
+use Rattle.listing.specs.declared.Listing.{Listing}
+use Rattle.listing.specs.declared.writing.Written.{Written}
+use Rattle.listing.specs.Listings as Spec
+use Rattle.listing.specs.Listings.{Swap, accepted}
+use Rattle.listing.specs.Tables.{swapTrees, Reads}
+use Rattle.listing.specs.Ordering.{WritesFrom}
+use Rattle.listing.proofs.Taking.{length-upTo}
+
+root-in : Spec.Listing → Tree
+root-in (accepted root swaps σ) = root
+root-in (Spec.refused why) = leaf pi
+
+swaps-in : Spec.Listing → List Swap
+swaps-in (accepted root swaps σ) = swaps
+swaps-in (Spec.refused why) = []
+
+store-in : Spec.Listing → State → State
+store-in (accepted root swaps σ) other = σ
+store-in (Spec.refused why) other = other
+
+trees-in : State → List Tree
+trees-in (state room stored kept calls) = stored
+
+why-in : Spec.Listing → Refusal → Refusal
+why-in (accepted root swaps σ) other = other
+why-in (Spec.refused why) other = why
+
+IsAccepted : Spec.Listing → Type 0
+IsAccepted (accepted root swaps σ) = Unit {0}
+IsAccepted (Spec.refused why) = ⊥
+
+pub one-listing : {substituting : Bool} {text : List ℕ} {m m₁ m₂ : Memory} {table₁ table₂ : List ℕ} (r r′ : Listing) → Reads substituting text r m m₁ table₁ → Reads substituting text r′ m m₂ table₂ → r ≡ r′
+unfolding root-in swaps-in store-in trees-in why-in IsAccepted
+one-listing {m₁ = m₁} {m₂ = m₂} {table₁ = table₁} {table₂ = table₂} (Listing.Read i a s) (Listing.Read j b u) p q =
+    let e = p .answer ∙ sym (q .answer) in
+    let t = ap root-in e in
+    let ts = ap (λ x. trees-in (store-in x (stateOf m₁ a 0))) e in
+    let k = sym (own-place (p .after .2 .holds) i (p .after .0)) ∙ (λ v. place (identical (t v)) (ts v)) ∙ own-place (q .after .2 .holds) j (q .after .0) in
+    let n = sym (length-trees m₁ a) ∙ ap length ts ∙ length-trees m₂ b in
+    let w = sym (length-upTo s _) ∙ ap (λ x. length (swaps-in x)) e ∙ length-upTo u _ in
+    λ v. Listing.Read (k v) (n v) (w v)
+one-listing (Listing.Read i a s) (Listing.Refused why) p q = absurd (subst IsAccepted (p .answer ∙ sym (q .answer)) tt)
+one-listing (Listing.Refused why) (Listing.Read j b u) p q = absurd (subst IsAccepted (q .answer ∙ sym (p .answer)) tt)
+one-listing (Listing.Refused why) (Listing.Refused why′) p q = ap (λ x. Listing.Refused (why-in x why)) (p .answer ∙ sym (q .answer))
+
+pub one-written : {m : Memory} {n root : ℕ} {r r′ : Written} (out : List ℕ) {out₁ out₂ : List ℕ} → Holds m n → root < n
+    → WritesFrom m root r out out₁ → WritesFrom m root r′ out out₂ → _≡_ {A = Written × List ℕ} (r, out₁) (r′, out₂)
+one-written {n = n} out h o p q = p n h o ∙ sym (q n h o)
