@@ -1,6 +1,7 @@
 pub mod Numbers
 pub mod Taking
 pub mod Whole
+mod Naming
 pub mod Orders
 pub mod Visiting
 pub mod LineTexts

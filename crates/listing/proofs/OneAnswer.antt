@@ -19,7 +19,7 @@ use Rattle.listing.specs.Listings as Spec
 use Rattle.listing.specs.Listings.{Swap, accepted}
 use Rattle.listing.specs.Tables.{swapTrees, Reads}
 use Rattle.listing.specs.Ordering.{WritesFrom}
-use Rattle.listing.proofs.Taking.{length-upTo}
+use Rattle.table.proofs.Values.{length-upTo}
 
 root-in : Spec.Listing → Tree
 root-in (accepted root swaps σ) = root

@@ -1,17 +1,14 @@
 -- What one line of a listing does to the table and the store, over plain lists and trees: each return of `take_node` and `take_swap`. Assumes nothing.
-use mathlib.Core.Path.{_≡_, refl, sym, ap, _∙_, subst}
+use mathlib.Core.Path.{_≡_, refl, sym, ap, _∙_}
 use mathlib.Core.List.{List, [], _∷_, _++_}
-use mathlib.Core.Logic.{⊎-elim}
 use mathlib.Core.Bool.{Bool, true, false, cond}
 use Prim.Native.Nat.{ℕ, zero, suc, _+_, _*_, _≤_, _<_}
-use native.Mathlib.Nat.{eq-or-lt-of-le}
-use native.Mathlib.Numerals.{add-one}
 use native.Mathlib.Omega.{arith}
 use native.Mathlib.Decide.{decLt}
 use lib.Dec.{ltb}
-use lib.ListN.{length, getD, set, drop, length-append, length-set, List·getD-append}
-use lib.Seq.{getD-at, getD-set-same, getD-set-other}
-use borrow.Author.Tests.{lt-ltb, le-ltb, eq-eqb, ne-eqb}
+use lib.ListN.{length, getD, set, drop, length-set}
+use lib.Seq.{getD-set-same, getD-set-other}
+use borrow.Author.Tests.{lt-ltb, le-ltb, ltb-true, eq-eqb, ne-eqb}
 use Rattle.expression.specs.declared.refusal.Refusal.{Refusal}
 use Rattle.expression.specs.Trees.{Tree, leaf, pi, size, depth}
 use Rattle.expression.specs.Limits.{largest, deepest}
@@ -19,44 +16,25 @@ use Rattle.store.specs.declared.Added.{Added}
 use Rattle.store.specs.declared.node.Expression.{Expression}
 use Rattle.store.specs.Nodes.{grown, Within}
 use Rattle.store.specs.Storing as Storing
-use Rattle.store.specs.Storing.{State, state, Answer, intern, among}
+use Rattle.store.specs.Storing.{State, state, intern, among}
 use Rattle.store.specs.Memory.{Memory, room, treeAt, treeOf, stateOf}
-use Rattle.store.specs.Held.{Holds, Step, Built, Adds}
+use Rattle.store.specs.Held.{Step, Adds}
 use Rattle.store.proofs.Trees.{grown-alike}
 use Rattle.store.proofs.Building.{turned}
-use Rattle.text.specs.Reading.{Read, is, bad}
+use Rattle.table.specs.Keys.{upTo, keyAt, Ascends}
+use Rattle.table.proofs.Values.{length-upTo, at-upTo, upTo-snoc, upTo-alike, upTo-grown}
+use Rattle.table.proofs.Ascending.{ascends-more}
+use Rattle.text.specs.Reading.{is}
 use Rattle.text.specs.Lines as Lines
-use Rattle.text.specs.Lines.{goes, stops}
+use Rattle.text.specs.Lines.{goes}
 use Rattle.listing.specs.declared.line.Line.{Line}
 use Rattle.listing.specs.declared.Progress.{Progress}
 use Rattle.listing.specs.declared.Step as StepEnum
 use Rattle.listing.specs.declared.SwapLine.{SwapLine}
 use Rattle.listing.specs.Listings.{Known, known, Swap, swap, none, above, stored, formed, nodeFields, nodeLine, swapFields, swapped, swapLine, listingLine}
-use Rattle.listing.specs.Tables.{upTo, entryAt, moved, Finds, LineWithin, lineTrees, swapTrees, knownAt, Lists, Ready, Advanced, Takes, FindsSwap, Above}
+use Rattle.listing.specs.Tables.{entryAt, moved, Finds, lineTrees, swapTrees, knownAt, Lists, Ready, Takes, FindsSwap, Above}
 
--- ---- the first values of a function
-
-pub length-upTo : {A : Type 0} (n : ℕ) (f : ℕ → A) → length (upTo n f) ≡ n
-unfolding upTo
-length-upTo zero f = refl
-length-upTo (suc n) f = length-append (upTo n f) (f n ∷ []) ∙ rw (length-upTo n f) (omega arith)
-
-pub at-upTo : {A : Type 0} (n : ℕ) (f : ℕ → A) (d : A) (k : ℕ) → k < n → getD (upTo n f) k d ≡ f k
-unfolding upTo
-at-upTo zero f d k h = absurd (omega arith)
-at-upTo (suc n) f d k h = elim (decLt k n) [
-  | yes l ↦ List·getD-append (upTo n f) (f n ∷ []) d k (rw (length-upTo n f) l) ∙ at-upTo n f d k l
-  | no g ↦ let z : k ≡ n = omega arith in rw z (getD-at (upTo n f) (f n) [] d n (length-upTo n f))
-]
-
-pub upTo-alike : {A : Type 0} (n : ℕ) (f g : ℕ → A) → ((k : ℕ) → k < n → f k ≡ g k) → upTo n f ≡ upTo n g
-unfolding upTo
-upTo-alike zero f g h = refl
-upTo-alike (suc n) f g h = rw (upTo-alike n f g (λ k l. h k (omega arith)), h n (omega arith))
-
-pub upTo-more : {A : Type 0} (n : ℕ) (f : ℕ → A) → upTo (n + 1) f ≡ upTo n f ++ (f n ∷ [])
-unfolding upTo
-upTo-more n f = rw add-one
+-- ---- whether there are values
 
 none-cons : {A : Type 0} (x : A) (xs : List A) → none (x ∷ xs) ≡ false
 unfolding none
@@ -194,7 +172,7 @@ module _ {text table : List ℕ} {p : Progress} (ready : Ready text table p) {m 
             record {
               answer = sym (found ∙ rw (← (b .answer), z) (ap (λ ts. goes (known ts (swapTrees m table (p .swaps)) (stateOf m′ n 0)) (drop next text)) (sym grows) ∙ ap (λ ss. goes (known (lineTrees m′ table′ (p .lines + 1)) ss (stateOf m′ n 0)) (drop next text)) nothing-named));
               after = record {
-                lists = record { holds = b .after .holds; nodes = inside; named = λ k h. absurd (omega (arith, h, unswapped)) };
+                lists = record { holds = b .after .holds; nodes = inside; named = λ k h. absurd (omega (arith, h, unswapped)); ascends = record { each = λ j h. absurd (omega (arith, h, unswapped)) } };
                 count = omega arith;
                 lines = omega (arith, few);
                 swaps = omega (arith, ready .swaps);
@@ -212,8 +190,7 @@ module _ {text table : List ℕ} {p : Progress} (ready : Ready text table p) {m 
 
             grows : lineTrees m′ table′ (p .lines + 1) ≡ lineTrees m table (p .lines) ++ (treeAt m′ node ∷ [])
             grows =
-                upTo-more (p .lines) (λ k. treeAt m′ (getD table′ k 0))
-                ∙ rw (upTo-alike (p .lines) (λ k. treeAt m′ (getD table′ k 0)) (λ k. treeAt m (getD table k 0)) (λ k h. rw (before k h) (st .stays _ (l .nodes k h))), at-line)
+                upTo-grown (p .lines) (λ k. treeAt m′ (getD table′ k 0)) (λ k. treeAt m (getD table k 0)) (treeAt m′ node) (λ k h. rw (before k h) (st .stays _ (l .nodes k h))) (ap (treeAt m′) at-line)
 
             nothing-named : swapTrees m table (p .swaps) ≡ swapTrees m′ table′ (p .swaps)
             nothing-named = upTo-alike (p .swaps) _ _ (λ k h. absurd (omega (arith, h, unswapped)))
@@ -238,10 +215,10 @@ unfolding upTo above
 above-first m table swaps v t e = rw e
 
 pub above-later : (m : Memory) (table : List ℕ) (swaps v : ℕ) (t : Tree) → (swaps ≡ 0 → ⊥) → ltb (getD table (1022 + 2 * swaps) 0) v ≡ above (swapTrees m table swaps) (swap v t)
-unfolding upTo
 above-later m table zero v t h = absurd (h refl)
 above-later m table (suc k) v t h =
-    let z : 1022 + 2 * suc k ≡ 1024 + 2 * k = omega arith in rw z (sym (above-snoc (swapTrees m table k) (getD table (1024 + 2 * k) 0) v _ t))
+    let z : 1022 + 2 * suc k ≡ 1024 + 2 * k = omega arith in
+    rw z (sym (ap (λ ss. above ss (swap v t)) (upTo-snoc k _) ∙ above-snoc (swapTrees m table k) (getD table (1024 + 2 * k) 0) v _ t))
 
 module _ (substituting : Bool) {text table : List ℕ} {p : Progress} (ready : Ready text table p) {m : Memory} (l : Lists m table (p .nodes) (p .lines) (p .swaps)) where
   pub swap-long : {m′ : Memory} {table′ : List ℕ} → 256 ≤ p .swaps
@@ -294,7 +271,7 @@ module _ (substituting : Bool) {text table : List ℕ} {p : Progress} (ready : R
                   (ap (λ ts. goes (known ts (swapTrees m table (p .swaps) ++ (swap v named-tree ∷ [])) (stateOf m (p .nodes) 0)) (drop next text)) same-lines
                   ∙ ap (λ ss. goes (known (lineTrees m table′ (p .lines)) ss (stateOf m (p .nodes) 0)) (drop next text)) (sym grows)));
               after = record {
-                lists = record { holds = l .holds; nodes = λ k h. rw (kept k (omega (arith, h, ready .lines))) (l .nodes k h); named = inside };
+                lists = record { holds = l .holds; nodes = λ k h. rw (kept k (omega (arith, h, ready .lines))) (l .nodes k h); named = inside; ascends = rising };
                 count = omega arith;
                 lines = ready .lines;
                 swaps = omega (arith, few);
@@ -320,13 +297,18 @@ module _ (substituting : Bool) {text table : List ℕ} {p : Progress} (ready : R
 
             grows : swapTrees m table′ (p .swaps + 1) ≡ swapTrees m table (p .swaps) ++ (swap v (treeAt m (getD table line 0)) ∷ [])
             grows =
-                upTo-more (p .swaps) (λ k. swap (getD table′ (1024 + 2 * k) 0) (treeAt m (getD table′ (1025 + 2 * k) 0)))
-                ∙ rw (
-                  upTo-alike (p .swaps) (λ k. swap (getD table′ (1024 + 2 * k) 0) (treeAt m (getD table′ (1025 + 2 * k) 0))) (λ k. swap (getD table (1024 + 2 * k) 0) (treeAt m (getD table (1025 + 2 * k) 0)))
-                      (λ k h. rw (kept (1024 + 2 * k) (omega (arith, h)), kept (1025 + 2 * k) (omega (arith, h)))),
-                  variable-there,
-                  node-there,
-                )
+                upTo-grown (p .swaps) (λ k. swap (getD table′ (1024 + 2 * k) 0) (treeAt m (getD table′ (1025 + 2 * k) 0))) (λ k. swap (getD table (1024 + 2 * k) 0) (treeAt m (getD table (1025 + 2 * k) 0))) (swap v (treeAt m (getD table line 0)))
+                (λ k h. rw (kept (1024 + 2 * k) (omega (arith, h)), kept (1025 + 2 * k) (omega (arith, h)))) (rw (variable-there, node-there))
+
+            last-below : (j : ℕ) → j + 1 ≡ p .swaps → getD table (2 * j + 1024) 0 < v
+            last-below j i =
+                let z : 2 * j + 1024 ≡ 1022 + 2 * p .swaps = omega (arith, i) in
+                rw z (ltb-true (getD table (1022 + 2 * p .swaps) 0) v (above-later m table (p .swaps) v named-tree (λ q. omega (arith, q, i)) ∙ sym (tests m named-tree) ∙ e))
+
+            rising : Ascends (keyAt table′ 1024 2) (p .swaps + 1)
+            rising =
+                let z : 2 * p .swaps + 1024 ≡ 1024 + 2 * p .swaps = omega arith in
+                ascends-more (keyAt table 1024 2) (keyAt table′ 1024 2) (p .swaps) v (l .ascends) last-below (λ j h. kept (2 * j + 1024) (omega (arith, h))) (rw z variable-there)
 
             inside : (k : ℕ) → k < p .swaps + 1 → getD table′ (1025 + 2 * k) 0 < p .nodes
             inside k h = go (decLt k (p .swaps))

@@ -2,13 +2,13 @@
 use mathlib.Core.Path.{_≡_, refl, sym, ap, _∙_, subst}
 use mathlib.Core.List.{List, [], _∷_, _++_, append-assoc, append-nil}
 use mathlib.Core.Logic.{⊎-elim}
-use mathlib.Core.Bool.{true, false, cond}
-use Prim.Native.Nat.{ℕ, zero, suc, _+_, _-_, _*_, _≤_, _<_}
+use mathlib.Core.Bool.{true}
+use Prim.Native.Nat.{ℕ, zero, suc, _+_, _-_, _≤_, _<_}
 use native.Mathlib.Nat.{eq-or-lt-of-le}
 use native.Mathlib.Numerals.{add-one}
 use native.Mathlib.Omega.{arith}
-use lib.ListN.{length, getD, drop, length-append}
-use lib.Seq.{sets, sets-eq}
+use lib.ListN.{length, getD, length-append}
+use lib.Seq.{sets-eq}
 use borrow.Author.Tests.{lt-ltb, le-ltb}
 use Rattle.expression.specs.declared.refusal.Refusal.{Refusal}
 use Rattle.expression.specs.Trees.{Tree, leaf, pi}
@@ -16,18 +16,20 @@ use Rattle.expression.specs.Alike.{identical}
 use Rattle.store.specs.declared.node.Expression.{Expression}
 use Rattle.store.specs.Nodes.{expressionOf, grown, Within}
 use Rattle.store.specs.Storing.{among, place}
-use Rattle.store.specs.Memory.{Memory, memory, fieldsAt, fieldsOn, treeAt, treeOf}
+use Rattle.store.specs.Memory.{Memory, fieldsAt, treeAt, treeOf}
 use Rattle.store.specs.Held.{Holds}
 use Rattle.store.proofs.Places.{place-within, among-no}
 use Rattle.store.proofs.Stored.{read-node}
 use Rattle.store.proofs.Trees.{within-more}
-use Rattle.text.specs.Writing.{inDecimal, line, Put}
+use Rattle.table.specs.Keys.{upTo}
+use Rattle.table.proofs.Values.{length-upTo, at-upTo, upTo-snoc}
+use Rattle.text.specs.Writing.{line, Put}
 use Rattle.text.proofs.Putting.{put-then}
 use Rattle.listing.specs.declared.writing.Written.{Written}
-use Rattle.listing.specs.Order.{finished, order, lineFields, text, textOf, written}
-use Rattle.listing.specs.Ordering.{AllIn, Laid, empty, Listed, visited, Visited, noChild, textFields, lineText, lineAt, linesText}
-use Rattle.listing.specs.Tables.{upTo, moved, entryAt, lineTrees}
-use Rattle.listing.proofs.Taking.{length-upTo, at-upTo, entry-is}
+use Rattle.listing.specs.Order.{order, lineFields, text, textOf, written}
+use Rattle.listing.specs.Ordering.{AllIn, empty, Listed, visited, Visited, noChild, textFields, lineText, lineAt, linesText}
+use Rattle.listing.specs.Tables.{moved, entryAt, lineTrees}
+use Rattle.listing.proofs.Taking.{entry-is}
 use Rattle.listing.proofs.Orders.{laid-all, all-is, true-not-false}
 use Rattle.listing.proofs.Visiting.{place-of, room-small}
 
@@ -113,7 +115,7 @@ module _ {m : Memory} {n : ℕ} (h : Holds m n) {table : List ℕ} {count : ℕ}
   unfolding linesText text upTo
   first-lines zero o = refl
   first-lines (suc i) o =
-      rw (first-lines i (omega arith), line-is i (omega arith)) (sym (text-snoc (lineTrees m table count) (lineTrees m table i) (treeAt m (getD table i 0))))
+      rw (first-lines i (omega arith), line-is i (omega arith)) (sym (ap (text (lineTrees m table count)) (upTo-snoc i _) ∙ text-snoc (lineTrees m table count) (lineTrees m table i) (treeAt m (getD table i 0))))
 
   pub all-lines : linesText (m .tag) (m .first) (m .second) table count ≡ text (lineTrees m table count) (lineTrees m table count)
   all-lines = first-lines count (omega arith)

@@ -1,6 +1,6 @@
 -- What `visit` does: each of its returns, over plain lists and trees. Assumes nothing.
 use mathlib.Core.Path.{_≡_, refl, sym, ap, _∙_, subst}
-use mathlib.Core.List.{List, [], _∷_, _++_}
+use mathlib.Core.List.{List}
 use mathlib.Core.Logic.{⊎-elim}
 use mathlib.Core.Bool.{Bool, true, false, cond}
 use Prim.Native.Nat.{ℕ, zero, suc, _+_, _≤_, _<_}
@@ -8,26 +8,27 @@ use native.Mathlib.Nat.{eq-or-lt-of-le}
 use native.Mathlib.Omega.{arith}
 use native.Mathlib.Decide.{decLt, ℕ-discrete}
 use lib.Dec.{T, eqb, ltb, ltb→lt, eqb→eq}
-use lib.ListN.{length, getD, set, length-set}
+use lib.ListN.{getD, set, length-set}
 use lib.Seq.{getD-set-same, getD-set-other}
 use borrow.Author.Tests.{lt-ltb, le-ltb, eq-eqb, ne-eqb}
-use Rattle.expression.specs.Trees.{Tree, leaf, pi, functionCall, prefixed, infixed, size, measure}
+use Rattle.expression.specs.Trees.{Tree, leaf, pi, functionCall, prefixed, infixed, measure}
 use Rattle.expression.specs.Alike.{identical}
-use Rattle.expression.specs.Limits.{Limited, Proper}
+use Rattle.expression.specs.Limits.{Proper}
 use Rattle.expression.proofs.Likeness.{identical-same, same-identical}
 use Rattle.store.specs.declared.node.Expression.{Expression}
 use Rattle.store.specs.Nodes.{expressionOf, grown, Within}
 use Rattle.store.specs.Storing.{among, place}
-use Rattle.store.specs.Memory.{Memory, room, fieldsAt, treeAt, treeOf}
+use Rattle.store.specs.Memory.{Memory, fieldsAt, treeAt, treeOf}
 use Rattle.store.specs.Held.{Holds}
 use Rattle.store.proofs.Places.{place-within, place-hit, place-first, among-yes, among-no}
 use Rattle.store.proofs.Stored.{proper, limited, one-node, read-node}
 use Rattle.store.proofs.Trees.{room-each}
+use Rattle.table.proofs.Values.{length-upTo, at-upTo, upTo-grown}
 use Rattle.listing.specs.declared.order.Children.{Children}
 use Rattle.listing.specs.Order.{once, finished}
-use Rattle.listing.specs.Ordering.{AllIn, KidsIn, Laid, noChild, childrenOf, Tells, Enters, Listed, visited, Visited}
-use Rattle.listing.specs.Tables.{upTo, entryAt, lineTrees}
-use Rattle.listing.proofs.Taking.{length-upTo, at-upTo, upTo-alike, upTo-more, entry-is}
+use Rattle.listing.specs.Ordering.{AllIn, noChild, childrenOf, Tells, Enters, Listed, visited, Visited}
+use Rattle.listing.specs.Tables.{entryAt, lineTrees}
+use Rattle.listing.proofs.Taking.{entry-is}
 use Rattle.listing.proofs.Orders.{once-new, done-already, finished-laid, laid-all, not-yet, true-not-false}
 
 -- ---- no more numbers below n than n
@@ -251,12 +252,11 @@ module _ {m : Memory} {n : ℕ} (h : Holds m n) {table : List ℕ} {node below c
 
         lines-are : lineTrees m table₃ (right + 1) ≡ finished (treeAt m node) (lineTrees m table count)
         lines-are =
-            upTo-more right (λ k. treeAt m (getD table₃ k 0))
-            ∙ rw (upTo-alike right (λ k. treeAt m (getD table₃ k 0)) (λ k. treeAt m (getD table₂ k 0)) (λ k p. ap (treeAt m) (kept-line k p)), at-end)
-            (sym (once-new (treeAt m node) (lineTrees m table₂ right) new₂)
+            upTo-grown right (λ k. treeAt m (getD table₃ k 0)) (λ k. treeAt m (getD table₂ k 0)) (treeAt m node) (λ k p. ap (treeAt m) (kept-line k p)) (ap (treeAt m) at-end)
+            ∙ sym (once-new (treeAt m node) (lineTrees m table₂ right) new₂)
             ∙ ap (once (treeAt m node)) done₂
             ∙ subst (λ t. once t (visited m (childrenOf e .right) node (visited m (childrenOf e .left) node (lineTrees m table count))) ≡ finished t (lineTrees m table count)) (parts .1)
-            (sym (finished-by m node node-small e (lineTrees m table count) (parts .0))))
+            (sym (finished-by m node node-small e (lineTrees m table count) (parts .0)))
 
         pub visit-entered : Visited m n table node below count r′ table₃
         unfolding visited

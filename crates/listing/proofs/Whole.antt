@@ -1,25 +1,26 @@
 -- The loop over the lines of a listing, and its answer. Assumes nothing.
 use mathlib.Core.Path.{_≡_, refl, sym, ap, _∙_}
 use mathlib.Core.List.{List, [], _∷_, _++_}
-use mathlib.Core.Bool.{Bool, true, false, cond}
-use Prim.Native.Nat.{ℕ, zero, suc, _+_, _-_, _*_, _≤_, _<_}
+use mathlib.Core.Bool.{Bool}
+use Prim.Native.Nat.{ℕ, zero, suc, _+_, _-_, _≤_, _<_}
 use native.Mathlib.Omega.{arith}
 use lib.ListN.{length, getD, drop}
 use borrow.Author.Tests.{eq-eqb, ne-eqb}
 use Rattle.expression.specs.declared.refusal.Refusal.{Refusal}
-use Rattle.expression.specs.Trees.{Tree, leaf, pi}
-use Rattle.store.specs.Memory.{Memory, memory, room, treeAt, stateOf}
+use Rattle.expression.specs.Trees.{Tree}
+use Rattle.store.specs.Memory.{Memory, room, treeAt, stateOf}
 use Rattle.store.specs.Storing.{State, fresh}
 use Rattle.store.specs.Held.{Holds, Begun}
+use Rattle.table.specs.Keys.{upTo}
+use Rattle.table.proofs.Values.{upTo-snoc}
 use Rattle.text.specs.Lines as Lines
-use Rattle.text.specs.Lines.{goes, stops}
 use Rattle.text.proofs.Lining.{Left, begins, ends, goes-on, stops-at}
 use Rattle.listing.specs.declared.Listing.{Listing}
 use Rattle.listing.specs.declared.Progress.{Progress}
 use Rattle.listing.specs.declared.Step.{Step}
 use Rattle.listing.specs.Listings as Spec
-use Rattle.listing.specs.Listings.{Known, known, Swap, accepted, last, rooted, whole, listing, listingLine, mostLines}
-use Rattle.listing.specs.Tables.{upTo, lineTrees, swapTrees, knownAt, Lists, Ready, Takes, linesSeen, Ended, ReadsLines, listingSeen, ListsAfter, Reads, rootOf}
+use Rattle.listing.specs.Listings.{known, Swap, accepted, last, rooted, whole, listing, listingLine, mostLines}
+use Rattle.listing.specs.Tables.{lineTrees, swapTrees, knownAt, Lists, Ready, Takes, linesSeen, Ended, ReadsLines, listingSeen, ListsAfter, Reads, rootOf}
 
 -- after some lines
 pub record Going (substituting : Bool) (text : List ℕ) (m₀ : Memory) (m : Memory) (table : List ℕ) (p : Progress) (at : ℕ) : Type 0 where
@@ -41,7 +42,7 @@ going-begins substituting text m table l h = record {
   lines = omega arith;
   swaps = omega arith;
   long = l;
-  lists = record { holds = h; nodes = λ k o. absurd (omega arith); named = λ k o. absurd (omega arith) };
+  lists = record { holds = h; nodes = λ k o. absurd (omega arith); named = λ k o. absurd (omega arith); ascends = record { each = λ j o. absurd (omega arith) } };
   left = begins (listingLine substituting) (suc mostLines) (known [] [] (stateOf m 0 0)) text;
 }
 
@@ -105,14 +106,14 @@ unfolding whole rooted upTo rootOf
 root-seen m table p zero e = rw e
 root-seen m table p (suc k) e =
     let z : suc k - 1 ≡ k = omega arith in
-    rw (e, z, ne-eqb (suc k) 0 (λ q. omega (arith, q))) (sym (rooted-snoc (lineTrees m table k) (treeAt m (getD table k 0)) (swapTrees m table (p .swaps)) (stateOf m (p .nodes) 0)))
+    rw (e, z, ne-eqb (suc k) 0 (λ q. omega (arith, q))) (sym (ap (λ ts. rooted ts (swapTrees m table (p .swaps)) (stateOf m (p .nodes) 0)) (upTo-snoc k _) ∙ rooted-snoc (lineTrees m table k) (treeAt m (getD table k 0)) (swapTrees m table (p .swaps)) (stateOf m (p .nodes) 0)))
 
 root-after : (m : Memory) (table : List ℕ) (p : Progress) → Ended m table p → (lines : ℕ) → p .lines ≡ lines → ListsAfter m table (rootOf table p)
 unfolding rootOf
 root-after m table p f zero e = rw e tt
 root-after m table p f (suc k) e =
     let z : suc k - 1 ≡ k = omega arith in
-    rw (e, z, ne-eqb (suc k) 0 (λ q. omega (arith, q))) (f .lists .nodes k (omega (arith, e)), f .swaps, record { holds = f .lists .holds; nodes = λ j h. absurd (omega arith); named = f .lists .named })
+    rw (e, z, ne-eqb (suc k) 0 (λ q. omega (arith, q))) (f .lists .nodes k (omega (arith, e)), f .swaps, record { holds = f .lists .holds; nodes = λ j h. absurd (omega arith); named = f .lists .named; ascends = f .lists .ascends })
 
 module _ {substituting : Bool} {text : List ℕ} {m₀ m m′ : Memory} {table : List ℕ} {r : Step} (b : Begun m₀ m) (t : ReadsLines substituting text r m m′ table) where
   from-fresh : whole (linesSeen m′ table r) ≡ listing substituting text (fresh (room m₀) 0)

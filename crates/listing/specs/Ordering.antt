@@ -2,9 +2,9 @@
 use mathlib.Core.Path.{_≡_}
 use Prim.Native.Nat.{ℕ, zero, suc, _+_, _≤_, _<_}
 use mathlib.Core.List.{List, [], _∷_, _++_}
-use mathlib.Core.Bool.{Bool, true, false, cond, _&&_}
+use mathlib.Core.Bool.{Bool, true, false, cond}
 use lib.ListN.{length, getD, set}
-use lib.Dec.{ltb, leb, eqb}
+use lib.Dec.{ltb, eqb}
 use Rattle.expression.specs.Codes.{infixCode, prefixCode, functionCode}
 use Rattle.expression.specs.Trees.{Tree, leaf, number, pi, variable, cell, functionCall, prefixed, infixed}
 use Rattle.expression.specs.Limits.{Limited, Proper}
@@ -18,7 +18,7 @@ use Rattle.listing.specs.declared.writing.Written.{Written}
 use Rattle.listing.specs.Order.{finished, named, leafFields, written}
 use Rattle.listing.specs.Listings.{functionNames, prefixNames, infixNames}
 use Rattle.text.specs.Writing.{inDecimal, line}
-use Rattle.listing.specs.Tables.{upTo, lineTrees, entryAt, moved}
+use Rattle.listing.specs.Tables.{lineTrees, entryAt, moved}
 
 -- ---- lists of trees
 

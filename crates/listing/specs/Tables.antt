@@ -1,8 +1,8 @@
 -- What the code's answers and the lent table say, as trees. Only connecting.
 use mathlib.Core.Path.{_≡_}
-use Prim.Native.Nat.{ℕ, zero, suc, _+_, _-_, _*_, _≤_, _<_}
-use mathlib.Core.List.{List, [], _∷_, _++_}
-use mathlib.Core.Bool.{Bool, true, false, cond}
+use Prim.Native.Nat.{ℕ, suc, _+_, _-_, _*_, _≤_, _<_}
+use mathlib.Core.List.{List, []}
+use mathlib.Core.Bool.{Bool, cond}
 use lib.ListN.{length, getD, drop}
 use lib.Dec.{ltb, eqb}
 use Rattle.expression.specs.declared.refusal.Refusal.{Refusal}
@@ -12,6 +12,7 @@ use Rattle.store.specs.Nodes.{grown, Within}
 use Rattle.store.specs.Memory.{Memory, treeAt, stateOf, room}
 use Rattle.store.specs.Storing.{fresh}
 use Rattle.store.specs.Held.{Holds}
+use Rattle.table.specs.Keys.{upTo, keyAt, Ascends}
 use Rattle.text.specs.Reading.{Read, is, bad}
 use Rattle.text.specs.Lines as Lines
 use Rattle.text.specs.Lines.{goes, stops}
@@ -22,12 +23,7 @@ use Rattle.listing.specs.declared.Progress.{Progress}
 use Rattle.listing.specs.declared.Step.{Step}
 use Rattle.listing.specs.declared.SwapLine.{SwapLine}
 use Rattle.listing.specs.Listings as Spec
-use Rattle.listing.specs.Listings.{Known, known, accepted, swap, names, nothing, above, swapFields, swapLine, listingLine, mostLines, listing}
-
--- the first n values of a function
-unfoldable pub upTo : {A : Type 0} → ℕ → (ℕ → A) → List A
-upTo zero f = []
-upTo (suc n) f = upTo n f ++ (f n ∷ [])
+use Rattle.listing.specs.Listings.{Known, known, accepted, swap, names, nothing, swapFor, above, swapFields, swapLine, listingLine, mostLines, listing}
 
 -- what stands in a table for a number, from a place on; 4096 of them do
 unfoldable pub entryAt : List ℕ → (from : ℕ) → ℕ → ℕ
@@ -72,11 +68,12 @@ swapTrees m table j = upTo j (λ k. swap (getD table (1024 + 2 * k) 0) (treeAt m
 abbrev pub knownAt : (m : Memory) (table : List ℕ) → Progress → Known
 knownAt m table p = known (lineTrees m table (p .lines)) (swapTrees m table (p .swaps)) (stateOf m (p .nodes) 0)
 
--- the nodes that a table names are among n
+-- the nodes that a table names are among n, and the variables of its s lines ascend
 pub record Lists (m : Memory) (table : List ℕ) (n lines swaps : ℕ) : Type 0 where
   pub holds : Holds m n
   pub nodes : (k : ℕ) → k < lines → getD table k 0 < n
   pub named : (k : ℕ) → k < swaps → getD table (1025 + 2 * k) 0 < n
+  pub ascends : Ascends (keyAt table 1024 2) swaps
 
 -- ---- one line
 
@@ -175,3 +172,12 @@ pub record Reads (substituting : Bool) (text : List ℕ) (r : Listing) (m m′ :
 abbrev pub swapSeen : Memory → Swap → Spec.Named
 swapSeen m (Swap.Node i) = names (treeAt m i)
 swapSeen m Swap.Nothing = nothing
+
+abbrev pub NodeWithin : ℕ → Swap → Type 0
+NodeWithin n (Swap.Node i) = i < n
+NodeWithin n Swap.Nothing = Unit {0}
+
+-- looking up a variable among the s lines that reading a listing has left in the table, whatever the store
+abbrev pub LooksUp : (table : List ℕ) (swaps variable : ℕ) → Swap → Type 0
+LooksUp table swaps variable r =
+    (m : Memory) (n : ℕ) → swaps ≤ 256 → Lists m table n 0 swaps → (swapSeen m r ≡ swapFor variable (swapTrees m table swaps)) × NodeWithin n r

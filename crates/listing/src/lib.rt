@@ -1,11 +1,11 @@
 // Listings: read line by line into a store, and written from it.
 ghost use mathlib.Core.Path.{_≡_};
-ghost use Prim.Native.Nat.{ℕ, _≤_, _<_};
+ghost use Prim.Native.Nat.{_≤_, _<_};
 ghost use lib.ListN.{length};
 ghost use Rattle.store.specs.Memory.{memory};
 ghost use Rattle.store.specs.Held.{Holds};
 ghost use Rattle.listing.specs.Listings.{nodeLine, listingLine};
-ghost use Rattle.listing.specs.Tables.{entryAt, moved, Reads, FindsSwap, Above, Ready, TakesSwap, TakesLine, ReadsLines, rootOf};
+ghost use Rattle.listing.specs.Tables.{entryAt, moved, Reads, FindsSwap, Above, Ready, TakesSwap, TakesLine, ReadsLines, rootOf, LooksUp};
 use expression::refusal::Refusal;
 use line::LF;
 use line::Line;
@@ -17,6 +17,7 @@ use store::memory::put;
 use store::memory::read;
 use store::node::Expression;
 use store::start;
+use table::search;
 use text::reading::Number;
 use text::reading::byte_at;
 use text::reading::decimal_field;
@@ -290,4 +291,15 @@ fn root_of(table: &[u64], p: Progress) -> Listing
         nodes: p.nodes,
         swaps: p.swaps,
     }
+}
+
+// The node that the s line of this variable names, by halving.
+pub fn swap_of(table: &[u64], swaps: usize, variable: u16) -> Swap
+    ensures { λ r. ⌜ LooksUp (now (table .entry)) swaps variable r ⌝ }
+{
+    let j = search(table, 1024, 2, swaps, variable as u64);
+    if swaps <= j {
+        return Swap::Nothing;
+    }
+    Swap::Node(read(table, 1025 + 2 * j) as usize)
 }

@@ -12,21 +12,22 @@ use Rattle.complex.specs.declared.Complex.{Complex}
 use Rattle.complex.specs.Bits.{bitsOf, doubleOf}
 use Rattle.complex.proofs.Doubles.{bits-back}
 use Rattle.expression.specs.declared.refusal.Operation.{Operation}
+use Rattle.table.specs.Keys.{upTo, keyAt, First, holds}
+use Rattle.table.proofs.Values.{first, first-found, first-missing}
 use Rattle.sheet.specs.declared.Rows.{Rows as Counts}
-use Rattle.sheet.specs.Rows.{Variable, variable, Cell, cell, Row, row, found, missing, valueOf, cellValue, functionValue, sameBits, operationNumber, operationOf}
-use Rattle.sheet.specs.Table.{listed, numberAt, variableAt, cellAt, rowAt, keyAt, Comparable, Held, First, holds, wordsOf, rowMatches}
+use Rattle.sheet.specs.Rows.{Variable, variable, Cell, cell, Row, row, Lookup, found, missing, valueOf, cellValue, functionValue, sameBits, operationNumber, operationOf}
+use Rattle.sheet.specs.Table.{numberAt, variableAt, cellAt, rowAt, Comparable, Held, wordsOf, rowMatches}
 use Rattle.sheet.proofs.Ordering.{plain-key}
-use Rattle.sheet.proofs.Listing.{first, first-found, first-missing}
 
 -- ---- each look-up is the first row that passes its test
 
 named : ℕ → Variable → Bool
 named n (variable n′ value) = eqb n n′
 
-valued : Variable → Complex
-valued (variable n value) = value
+valued : Variable → Lookup
+valued (variable n value) = found value
 
-values-first : (n : ℕ) (vs : List Variable) → first (named n) valued vs ≡ valueOf n vs
+values-first : (n : ℕ) (vs : List Variable) → first (named n) valued missing vs ≡ valueOf n vs
 unfolding first valueOf named valued
 values-first n [] = refl
 values-first n (variable n′ value ∷ vs) = rw (values-first n vs)
@@ -34,10 +35,10 @@ values-first n (variable n′ value ∷ vs) = rw (values-first n vs)
 placed : (region index : ℕ) → Cell → Bool
 placed region index (cell region′ index′ real) = eqb region region′ && eqb index index′
 
-real-of : Cell → Complex
-real-of (cell region index real) = record { re = real; im = doubleOf 0 }
+real-of : Cell → Lookup
+real-of (cell region index real) = found (record { re = real; im = doubleOf 0 })
 
-cells-first : (region index : ℕ) (cs : List Cell) → first (placed region index) real-of cs ≡ cellValue region index cs
+cells-first : (region index : ℕ) (cs : List Cell) → first (placed region index) real-of missing cs ≡ cellValue region index cs
 unfolding first cellValue placed real-of
 cells-first region index [] = refl
 cells-first region index (cell region′ index′ real ∷ cs) = rw (cells-first region index cs)
@@ -45,10 +46,10 @@ cells-first region index (cell region′ index′ real ∷ cs) = rw (cells-first
 called : Operation → (x y : Complex) → Row → Bool
 called o x y (row o′ x′ y′ value) = eqb (operationNumber o) (operationNumber o′) && (sameBits x x′ && sameBits y y′)
 
-result-of : Row → Complex
-result-of (row o x y value) = value
+result-of : Row → Lookup
+result-of (row o x y value) = found value
 
-rows-first : (o : Operation) (x y : Complex) (rs : List Row) → first (called o x y) result-of rs ≡ functionValue o x y rs
+rows-first : (o : Operation) (x y : Complex) (rs : List Row) → first (called o x y) result-of missing rs ≡ functionValue o x y rs
 unfolding first functionValue called result-of
 rows-first o x y [] = refl
 rows-first o x y (row o′ x′ y′ value ∷ rs) = rw (rows-first o x y rs)
@@ -88,35 +89,35 @@ row-test t o x y j c =
 
 module _ (t : List ℕ) (n : Counts) (h : Held t n) (r : ℕ) where
   module _ (k : ℕ) (s : First (holds (keyAt t 0 3) k) (n .variables) r) where
-    pub variable-found : r < n .variables → found (numberAt t (3 * r + 1)) ≡ valueOf k (listed (variableAt t) (n .variables))
+    pub variable-found : r < n .variables → found (numberAt t (3 * r + 1)) ≡ valueOf k (upTo (n .variables) (variableAt t))
     unfolding named valued
-    variable-found l = first-found (named k) valued (variableAt t) (n .variables) r l (ap (eqb k) (sym (plain-key t r)) ∙ s .hit l) (λ j m. ap (eqb k) (sym (plain-key t j)) ∙ s .before j m) ∙ values-first k _
+    variable-found l = first-found (named k) valued missing (n .variables) (variableAt t) r l (ap (eqb k) (sym (plain-key t r)) ∙ s .hit l) (λ j m. ap (eqb k) (sym (plain-key t j)) ∙ s .before j m) ∙ values-first k _
 
-    pub variable-missing : n .variables ≤ r → missing ≡ valueOf k (listed (variableAt t) (n .variables))
+    pub variable-missing : n .variables ≤ r → missing ≡ valueOf k (upTo (n .variables) (variableAt t))
     unfolding named
-    variable-missing l = first-missing (named k) valued (variableAt t) (n .variables) (λ j m. ap (eqb k) (sym (plain-key t j)) ∙ s .before j (omega arith)) ∙ values-first k _
+    variable-missing l = first-missing (named k) valued missing (n .variables) (variableAt t) (λ j m. ap (eqb k) (sym (plain-key t j)) ∙ s .before j (omega arith)) ∙ values-first k _
 
   module _ (region index : ℕ) (small : index < 4294967296) (s : First (holds (keyAt t 768 2) (region * 4294967296 + index)) (n .cells) r) where
-    pub cell-found : r < n .cells → found (record { re = doubleOf (getD t (2 * r + 768 + 1) 0); im = doubleOf 0 }) ≡ cellValue region index (listed (cellAt t) (n .cells))
+    pub cell-found : r < n .cells → found (record { re = doubleOf (getD t (2 * r + 768 + 1) 0); im = doubleOf 0 }) ≡ cellValue region index (upTo (n .cells) (cellAt t))
     unfolding placed real-of
     cell-found l =
-        first-found (placed region index) real-of (cellAt t) (n .cells) r l (sym (pair-key region index (getD t (2 * r + 768) 0) small) ∙ s .hit l)
+        first-found (placed region index) real-of missing (n .cells) (cellAt t) r l (sym (pair-key region index (getD t (2 * r + 768) 0) small) ∙ s .hit l)
         (λ j m. sym (pair-key region index (getD t (2 * j + 768) 0) small) ∙ s .before j m) ∙ cells-first region index _
 
-    pub cell-missing : n .cells ≤ r → missing ≡ cellValue region index (listed (cellAt t) (n .cells))
+    pub cell-missing : n .cells ≤ r → missing ≡ cellValue region index (upTo (n .cells) (cellAt t))
     unfolding placed
     cell-missing l =
-        first-missing (placed region index) real-of (cellAt t) (n .cells) (λ j m. sym (pair-key region index (getD t (2 * j + 768) 0) small) ∙ s .before j (omega arith))
+        first-missing (placed region index) real-of missing (n .cells) (cellAt t) (λ j m. sym (pair-key region index (getD t (2 * j + 768) 0) small) ∙ s .before j (omega arith))
         ∙ cells-first region index _
 
   module _ (o : Operation) (x y : Complex) (s : First (rowMatches t (operationNumber o) (wordsOf x) (wordsOf y)) (n .functions) r) where
-    pub row-found : r < n .functions → found (numberAt t (7 * r + 2816 + 5)) ≡ functionValue o x y (listed (rowAt t) (n .functions))
+    pub row-found : r < n .functions → found (numberAt t (7 * r + 2816 + 5)) ≡ functionValue o x y (upTo (n .functions) (rowAt t))
     unfolding result-of
     row-found l =
-        first-found (called o x y) result-of (rowAt t) (n .functions) r l (sym (row-test t o x y r (h .operands r l)) ∙ s .hit l)
+        first-found (called o x y) result-of missing (n .functions) (rowAt t) r l (sym (row-test t o x y r (h .operands r l)) ∙ s .hit l)
         (λ j m. sym (row-test t o x y j (h .operands j (omega arith))) ∙ s .before j m) ∙ rows-first o x y _
 
-    pub row-missing : n .functions ≤ r → missing ≡ functionValue o x y (listed (rowAt t) (n .functions))
+    pub row-missing : n .functions ≤ r → missing ≡ functionValue o x y (upTo (n .functions) (rowAt t))
     row-missing l =
-        first-missing (called o x y) result-of (rowAt t) (n .functions) (λ j m. sym (row-test t o x y j (h .operands j m)) ∙ s .before j (omega arith))
+        first-missing (called o x y) result-of missing (n .functions) (rowAt t) (λ j m. sym (row-test t o x y j (h .operands j m)) ∙ s .before j (omega arith))
         ∙ rows-first o x y _

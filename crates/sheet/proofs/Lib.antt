@@ -1,5 +1,4 @@
 -- The laws that the proofs of this crate cite.
-mod Listing
 mod Seeking
 mod Ordering
 mod Placing

@@ -11,18 +11,20 @@ use lib.Dec.{ltb, eqb}
 use lib.Ieee.{Float}
 use borrow.Author.Tests.{lt-ltb, le-ltb, eq-eqb, ne-eqb, ltb-true}
 use Rattle.complex.specs.declared.Complex.{Complex}
+use Rattle.table.specs.Keys.{upTo, keyAt, Ascends}
+use Rattle.table.proofs.Ascending.{ascends-same}
 use Rattle.sheet.specs.declared.Rows.{Rows as Counts}
 use Rattle.sheet.specs.Rows.{variable, cell, aboveVariables, abovePair, aboveCells, none}
-use Rattle.sheet.specs.Table.{listed, numberKey, pairKey, keyAt, above, Ascends, variableMay, cellMay}
+use Rattle.sheet.specs.Table.{numberKey, pairKey, above, variableMay, cellMay}
 
-pub none-listed : {A : Type 0} (f : ℕ → A) (n : ℕ) → none (listed f n) ≡ eqb n 0
-unfolding none listed
-none-listed f zero = refl
-none-listed f (suc n) = sym (ne-eqb (suc n) 0 λ q. omega arith)
+pub none-upTo : {A : Type 0} (n : ℕ) (f : ℕ → A) → none (upTo n f) ≡ eqb n 0
+unfolding none upTo
+none-upTo zero f = refl
+none-upTo (suc n) f = sym (ne-eqb (suc n) 0 λ q. omega arith)
 
 pub variables-above : (key : ℕ → ℕ) (value : ℕ → Complex) (n k : ℕ) (z : Complex)
-    → aboveVariables (listed (λ j. variable (key j) (value j)) n) (variable k z) ≡ above key n k
-unfolding aboveVariables above listed
+    → aboveVariables (upTo n (λ j. variable (key j) (value j))) (variable k z) ≡ above key n k
+unfolding aboveVariables above upTo
 variables-above key value zero k z = refl
 variables-above key value (suc zero) k z = refl
 variables-above key value (suc (suc n)) k z = variables-above (λ j. key (suc j)) (λ j. value (suc j)) (suc n) k z
@@ -43,27 +45,16 @@ pair-above w region index r r′ h = elim (decLt (w / 4294967296) region) [
 ]
 
 pub cells-above : (key : ℕ → ℕ) (real : ℕ → Float) (n region index : ℕ) (r : Float) → index < 4294967296
-    → aboveCells (listed (λ j. cell (key j / 4294967296) (key j % 4294967296) (real j)) n) (cell region index r) ≡ above key n (region * 4294967296 + index)
-unfolding aboveCells above listed
+    → aboveCells (upTo n (λ j. cell (key j / 4294967296) (key j % 4294967296) (real j))) (cell region index r) ≡ above key n (region * 4294967296 + index)
+unfolding aboveCells above upTo
 cells-above key real zero region index r h = refl
 cells-above key real (suc zero) region index r h = pair-above (key zero) region index (real zero) r h
 cells-above key real (suc (suc n)) region index r h = cells-above (λ j. key (suc j)) (λ j. real (suc j)) (suc n) region index r h
 
--- a key that may follow keeps the keys ascending, where those before are the same
-pub ascends-more : (key key′ : ℕ → ℕ) (n k : ℕ) → Ascends key n → above key n k ≡ true → ((j : ℕ) → j < n → key′ j ≡ key j) → key′ n ≡ k → Ascends key′ (n + 1)
+pub above-last : (key : ℕ → ℕ) (n k : ℕ) → above key n k ≡ true → (j : ℕ) → j + 1 ≡ n → key j < k
 unfolding above
-ascends-more key key′ zero k a e s q = record { each = λ j l. absurd (omega arith) }
-ascends-more key key′ (suc n) k a e s q = record {
-  each = λ j l. elim (ℕ-discrete j n) [
-    | yes i ↦
-        let m : n + 1 ≡ suc n = omega arith in
-        rw (i, m, s n (omega arith), q) (ltb-true (key n) k e)
-    | no i ↦ rw (s j (omega arith), s (j + 1) (omega arith)) (a .each j (omega arith))
-  ];
-}
-
-pub ascends-same : (key key′ : ℕ → ℕ) (n : ℕ) → Ascends key n → ((j : ℕ) → j < n → key′ j ≡ key j) → Ascends key′ n
-ascends-same key key′ n a s = record { each = λ j l. rw (s j (omega arith), s (j + 1) l) (a .each j l) }
+above-last key zero k e j q = absurd (omega arith)
+above-last key (suc n) k e j q = let i : j ≡ n = omega arith in rw i (ltb-true (key n) k e)
 
 -- the keys of variables, which stand from 0 on
 pub plain-key : (t : List ℕ) (j : ℕ) → keyAt t 0 3 j ≡ numberKey t j

@@ -14,14 +14,16 @@ use Rattle.complex.specs.Bits.{doubleOf}
 use Rattle.expression.specs.declared.refusal.Refusal.{Refusal}
 use Rattle.text.specs.Reading.{Read, is, bad}
 use Rattle.text.specs.Lines.{Line, goes, stops}
+use Rattle.table.specs.Keys.{upTo}
+use Rattle.table.proofs.Values.{length-upTo, upTo-alike, upTo-grown}
+use Rattle.table.proofs.Ascending.{ascends-same, ascends-more}
 use Rattle.sheet.specs.declared.fields.Words.{Words}
 use Rattle.sheet.specs.declared.Rows.{Rows as Counts}
 use Rattle.sheet.specs.declared.lines.Step.{Step}
 use Rattle.sheet.specs.Seen.{numberOf}
 use Rattle.sheet.specs.Rows.{variable, cell, row, Rows, rows, operationOf, none, aboveVariables, aboveCells, lineNumber, formed, counted, variableFields, cellFields, rowFields, fieldsAfter, variableLine, cellLine, functionLine, sheetLine}
-use Rattle.sheet.specs.Table.{listed, numberAt, variableAt, cellAt, rowAt, rowsOf, lineOf, numberKey, pairKey, Held, Takes, withVariable, withCell, withRow, above, variableMay, cellMay}
-use Rattle.sheet.proofs.Listing.{listed-length, listed-same, listed-grown}
-use Rattle.sheet.proofs.Ordering.{none-listed, variables-above, cells-above, ascends-more, ascends-same}
+use Rattle.sheet.specs.Table.{numberAt, variableAt, cellAt, rowAt, rowsOf, lineOf, numberKey, pairKey, Held, Takes, withVariable, withCell, withRow, above, variableMay, cellMay}
+use Rattle.sheet.proofs.Ordering.{none-upTo, variables-above, cells-above, above-last}
 use Rattle.sheet.proofs.Placing.{Outside, same-variable, same-cell, same-cell-beyond, same-row, same-row-beyond, same-comparable, same-comparable-beyond, variable-outside, variable-key, variable-there, cell-outside, cell-key, cell-there, row-outside, row-there, row-comparable}
 
 abbrev counts : ℕ → ℕ → ℕ → Counts
@@ -36,7 +38,7 @@ as-line p e = record { answer = p .answer ∙ e; held = p .held }
 
 module _ (t : List ℕ) (n : Counts) where
   pub line-number : lineNumber (rowsOf t n) ≡ lineOf n
-  line-number = rw (listed-length (variableAt t) (n .variables), listed-length (cellAt t) (n .cells), listed-length (rowAt t) (n .functions))
+  line-number = rw (length-upTo (n .variables) (variableAt t), length-upTo (n .cells) (cellAt t), length-upTo (n .functions) (rowAt t))
 
 -- ---- the count, the form and the order of a line, of any kind
 
@@ -67,53 +69,53 @@ module _ (t : List ℕ) (n : Counts) (line : ℕ) (here : line ≡ lineOf n) (fi
 
   pub variable-many : 256 ≤ n .variables → stops (Refusal.LongSheet line) ≡ variableLine (rowsOf t n) first bs
   unfolding variableLine
-  variable-many h = too-many _ 256 (n .variables) _ _ _ line number-is (listed-length (variableAt t) (n .variables)) _ h
+  variable-many h = too-many _ 256 (n .variables) _ _ _ line number-is (length-upTo (n .variables) (variableAt t)) _ h
 
   pub variable-malformed : n .variables < 256 → bad ≡ fieldsAfter first bs variableFields → stops (Refusal.BadSheet line) ≡ variableLine (rowsOf t n) first bs
   unfolding variableLine
-  variable-malformed h e = malformed _ 256 (n .variables) _ _ _ line number-is (listed-length (variableAt t) (n .variables)) _ h e
+  variable-malformed h e = malformed _ 256 (n .variables) _ _ _ line number-is (length-upTo (n .variables) (variableAt t)) _ h e
 
   pub cell-many : 1024 ≤ n .cells → stops (Refusal.LongSheet line) ≡ cellLine (rowsOf t n) first bs
   unfolding cellLine
-  cell-many h = too-many _ 1024 (n .cells) _ _ _ line number-is (listed-length (cellAt t) (n .cells)) _ h
+  cell-many h = too-many _ 1024 (n .cells) _ _ _ line number-is (length-upTo (n .cells) (cellAt t)) _ h
 
   pub cell-malformed : n .cells < 1024 → bad ≡ fieldsAfter first bs cellFields → stops (Refusal.BadSheet line) ≡ cellLine (rowsOf t n) first bs
   unfolding cellLine
-  cell-malformed h e = malformed _ 1024 (n .cells) _ _ _ line number-is (listed-length (cellAt t) (n .cells)) _ h e
+  cell-malformed h e = malformed _ 1024 (n .cells) _ _ _ line number-is (length-upTo (n .cells) (cellAt t)) _ h e
 
   pub row-many : 256 ≤ n .functions → stops (Refusal.LongSheet line) ≡ functionLine (rowsOf t n) first bs
   unfolding functionLine
-  row-many h = too-many _ 256 (n .functions) _ _ _ line number-is (listed-length (rowAt t) (n .functions)) _ h
+  row-many h = too-many _ 256 (n .functions) _ _ _ line number-is (length-upTo (n .functions) (rowAt t)) _ h
 
   pub row-malformed : n .functions < 256 → bad ≡ fieldsAfter first bs rowFields → stops (Refusal.BadSheet line) ≡ functionLine (rowsOf t n) first bs
   unfolding functionLine
-  row-malformed h e = malformed _ 256 (n .functions) _ _ _ line number-is (listed-length (rowAt t) (n .functions)) _ h e
+  row-malformed h e = malformed _ 256 (n .functions) _ _ _ line number-is (length-upTo (n .functions) (rowAt t)) _ h e
 
 -- ---- the order of variables and cells, on the table's keys
 
 module _ (t : List ℕ) (n : Counts) where
   pub variable-order : (k : ℕ) (z : Complex)
-      → variableMay t n k ≡ none (listed (cellAt t) (n .cells)) && (none (listed (rowAt t) (n .functions)) && aboveVariables (listed (variableAt t) (n .variables)) (variable k z))
+      → variableMay t n k ≡ none (upTo (n .cells) (cellAt t)) && (none (upTo (n .functions) (rowAt t)) && aboveVariables (upTo (n .variables) (variableAt t)) (variable k z))
   variable-order k z =
-      rw (none-listed (cellAt t) (n .cells), none-listed (rowAt t) (n .functions), variables-above (λ j. getD t (3 * j) 0) (λ j. numberAt t (3 * j + 1)) (n .variables) k z)
+      rw (none-upTo (n .cells) (cellAt t), none-upTo (n .functions) (rowAt t), variables-above (λ j. getD t (3 * j) 0) (λ j. numberAt t (3 * j + 1)) (n .variables) k z)
 
   pub cell-order : (region index : ℕ) (r : Float) → index < 4294967296
-      → cellMay t n (region * 4294967296 + index) ≡ none (listed (rowAt t) (n .functions)) && aboveCells (listed (cellAt t) (n .cells)) (cell region index r)
+      → cellMay t n (region * 4294967296 + index) ≡ none (upTo (n .functions) (rowAt t)) && aboveCells (upTo (n .cells) (cellAt t)) (cell region index r)
   cell-order region index r h =
-      rw (none-listed (rowAt t) (n .functions), cells-above (λ j. getD t (2 * j + 768) 0) (λ j. doubleOf (getD t (2 * j + 768 + 1) 0)) (n .cells) region index r h)
+      rw (none-upTo (n .functions) (rowAt t), cells-above (λ j. getD t (2 * j + 768) 0) (λ j. doubleOf (getD t (2 * j + 768 + 1) 0)) (n .cells) region index r h)
 
 module _ (t : List ℕ) (n : Counts) (line : ℕ) (here : line ≡ lineOf n) (first : ℕ) (bs : List ℕ) where
   pub variable-misplaced : {k : ℕ} {z : Complex} {rest : List ℕ} → n .variables < 256 → is (variable k z) rest ≡ fieldsAfter first bs variableFields
       → false ≡ variableMay t n k → stops (Refusal.BadSheet line) ≡ variableLine (rowsOf t n) first bs
   unfolding variableLine
   variable-misplaced {k} {z} {rest} few e f =
-      misplaced _ 256 (n .variables) _ _ _ line (number-is t n line here first bs) (listed-length (variableAt t) (n .variables)) _ _ rest few e (f ∙ variable-order t n k z)
+      misplaced _ 256 (n .variables) _ _ _ line (number-is t n line here first bs) (length-upTo (n .variables) (variableAt t)) _ _ rest few e (f ∙ variable-order t n k z)
 
   pub cell-misplaced : {region index : ℕ} {r : Float} {rest : List ℕ} → n .cells < 1024 → index < 4294967296 → is (cell region index r) rest ≡ fieldsAfter first bs cellFields
       → false ≡ cellMay t n (region * 4294967296 + index) → stops (Refusal.BadSheet line) ≡ cellLine (rowsOf t n) first bs
   unfolding cellLine
   cell-misplaced {region} {index} {r} {rest} few small e f =
-      misplaced _ 1024 (n .cells) _ _ _ line (number-is t n line here first bs) (listed-length (cellAt t) (n .cells)) _ _ rest few e (f ∙ cell-order t n region index r small)
+      misplaced _ 1024 (n .cells) _ _ _ line (number-is t n line here first bs) (length-upTo (n .cells) (cellAt t)) _ _ rest few e (f ∙ cell-order t n region index r small)
 
 -- ---- a row more
 
@@ -129,12 +131,12 @@ module _ (text t : List ℕ) (n : Counts) (h : Held t n) (room : 8192 ≤ length
       changed = variable-outside t (n .variables) k w
 
       variable-rows : rowsOf (withVariable t (n .variables) k w) (counts (n .variables + 1) (n .cells) (n .functions))
-          ≡ rows (listed (variableAt t) (n .variables) ++ (variable k (numberOf w) ∷ [])) (listed (cellAt t) (n .cells)) (listed (rowAt t) (n .functions))
+          ≡ rows (upTo (n .variables) (variableAt t) ++ (variable k (numberOf w) ∷ [])) (upTo (n .cells) (cellAt t)) (upTo (n .functions) (rowAt t))
       variable-rows =
           rw (
-            listed-grown (variableAt (withVariable t (n .variables) k w)) (variableAt t) (n .variables) (variable k (numberOf w)) (λ j l. same-variable changed j (omega arith)) (variable-there t (n .variables) k w (omega arith)),
-            listed-same (cellAt (withVariable t (n .variables) k w)) (cellAt t) (n .cells) (λ j l. same-cell-beyond changed j (omega arith)),
-            listed-same (rowAt (withVariable t (n .variables) k w)) (rowAt t) (n .functions) (λ j l. same-row-beyond changed j (omega arith)),
+            upTo-grown (n .variables) (variableAt (withVariable t (n .variables) k w)) (variableAt t) (variable k (numberOf w)) (λ j l. same-variable changed j (omega arith)) (variable-there t (n .variables) k w (omega arith)),
+            upTo-alike (n .cells) (cellAt (withVariable t (n .variables) k w)) (cellAt t) (λ j l. same-cell-beyond changed j (omega arith)),
+            upTo-alike (n .functions) (rowAt (withVariable t (n .variables) k w)) (rowAt t) (λ j l. same-row-beyond changed j (omega arith)),
           )
 
       variable-held : Held (withVariable t (n .variables) k w) (counts (n .variables + 1) (n .cells) (n .functions))
@@ -142,7 +144,7 @@ module _ (text t : List ℕ) (n : Counts) (h : Held t n) (room : 8192 ≤ length
         variables = omega arith;
         cells = h .cells;
         functions = h .functions;
-        numbers = ascends-more _ _ (n .variables) k (h .numbers) (sym (both (eqb (n .functions) 0) (above (numberKey t) (n .variables) k) (both (eqb (n .cells) 0) _ f))) (λ j l. changed .below (3 * j) (omega arith)) (variable-key t (n .variables) k w (omega arith));
+        numbers = ascends-more _ _ (n .variables) k (h .numbers) (above-last (numberKey t) (n .variables) k (sym (both (eqb (n .functions) 0) (above (numberKey t) (n .variables) k) (both (eqb (n .cells) 0) _ f)))) (λ j l. changed .below (3 * j) (omega arith)) (variable-key t (n .variables) k w (omega arith));
         pairs = ascends-same _ _ (n .cells) (h .pairs) (λ j l. changed .beyond (2 * j + 768) (omega arith));
         operands = λ j l. same-comparable-beyond changed j (omega arith) (h .operands j l);
       }
@@ -150,7 +152,7 @@ module _ (text t : List ℕ) (n : Counts) (h : Held t n) (room : 8192 ≤ length
       pub variable-taken : Takes text (withVariable t (n .variables) k w) n (variableLine (rowsOf t n) first bs) (Step.Next (counts (n .variables + 1) (n .cells) (n .functions)) next)
       unfolding variableLine
       variable-taken = record {
-        answer = ap (λ s. goes s (drop next text)) variable-rows ∙ taken _ 256 (n .variables) _ _ _ line (number-is t n line here first bs) (listed-length (variableAt t) (n .variables)) _ _ (drop next text) few e (f ∙ variable-order t n k (numberOf w));
+        answer = ap (λ s. goes s (drop next text)) variable-rows ∙ taken _ 256 (n .variables) _ _ _ line (number-is t n line here first bs) (length-upTo (n .variables) (variableAt t)) _ _ (drop next text) few e (f ∙ variable-order t n k (numberOf w));
         held = (variable-held, omega arith);
       }
 
@@ -163,13 +165,13 @@ module _ (text t : List ℕ) (n : Counts) (h : Held t n) (room : 8192 ≤ length
       p = cell-outside t (n .cells) key real
 
       cell-rows : rowsOf (withCell t (n .cells) key real) (counts (n .variables) (n .cells + 1) (n .functions))
-          ≡ rows (listed (variableAt t) (n .variables)) (listed (cellAt t) (n .cells) ++ (cell region index (doubleOf real) ∷ [])) (listed (rowAt t) (n .functions))
+          ≡ rows (upTo (n .variables) (variableAt t)) (upTo (n .cells) (cellAt t) ++ (cell region index (doubleOf real) ∷ [])) (upTo (n .functions) (rowAt t))
       unfolding key
       cell-rows =
           rw (
-            listed-same (variableAt (withCell t (n .cells) key real)) (variableAt t) (n .variables) (λ j l. same-variable p j (omega (arith, h .variables))),
-            listed-grown (cellAt (withCell t (n .cells) key real)) (cellAt t) (n .cells) (cell region index (doubleOf real)) (λ j l. same-cell p j (omega arith)) (cell-there t (n .cells) key real (omega arith) region index refl small),
-            listed-same (rowAt (withCell t (n .cells) key real)) (rowAt t) (n .functions) (λ j l. same-row-beyond p j (omega arith)),
+            upTo-alike (n .variables) (variableAt (withCell t (n .cells) key real)) (variableAt t) (λ j l. same-variable p j (omega (arith, h .variables))),
+            upTo-grown (n .cells) (cellAt (withCell t (n .cells) key real)) (cellAt t) (cell region index (doubleOf real)) (λ j l. same-cell p j (omega arith)) (cell-there t (n .cells) key real (omega arith) region index refl small),
+            upTo-alike (n .functions) (rowAt (withCell t (n .cells) key real)) (rowAt t) (λ j l. same-row-beyond p j (omega arith)),
           )
 
       cell-held : Held (withCell t (n .cells) key real) (counts (n .variables) (n .cells + 1) (n .functions))
@@ -179,14 +181,14 @@ module _ (text t : List ℕ) (n : Counts) (h : Held t n) (room : 8192 ≤ length
         cells = omega arith;
         functions = h .functions;
         numbers = ascends-same _ _ (n .variables) (h .numbers) (λ j l. p .below (3 * j) (omega (arith, h .variables)));
-        pairs = ascends-more _ _ (n .cells) key (h .pairs) (sym (both (eqb (n .functions) 0) (above (pairKey t) (n .cells) key) f)) (λ j l. p .below (2 * j + 768) (omega arith)) (cell-key t (n .cells) key real (omega arith));
+        pairs = ascends-more _ _ (n .cells) key (h .pairs) (above-last (pairKey t) (n .cells) key (sym (both (eqb (n .functions) 0) (above (pairKey t) (n .cells) key) f))) (λ j l. p .below (2 * j + 768) (omega arith)) (cell-key t (n .cells) key real (omega arith));
         operands = λ j l. same-comparable-beyond p j (omega arith) (h .operands j l);
       }
 
       pub cell-taken : Takes text (withCell t (n .cells) (region * 4294967296 + index) real) n (cellLine (rowsOf t n) first bs) (Step.Next (counts (n .variables) (n .cells + 1) (n .functions)) next)
       unfolding cellLine key
       cell-taken = record {
-        answer = ap (λ s. goes s (drop next text)) cell-rows ∙ taken _ 1024 (n .cells) _ _ _ line (number-is t n line here first bs) (listed-length (cellAt t) (n .cells)) _ _ (drop next text) few e (f ∙ cell-order t n region index (doubleOf real) small);
+        answer = ap (λ s. goes s (drop next text)) cell-rows ∙ taken _ 1024 (n .cells) _ _ _ line (number-is t n line here first bs) (length-upTo (n .cells) (cellAt t)) _ _ (drop next text) few e (f ∙ cell-order t n region index (doubleOf real) small);
         held = (cell-held, omega arith);
       }
 
@@ -196,12 +198,12 @@ module _ (text t : List ℕ) (n : Counts) (h : Held t n) (room : 8192 ≤ length
     q = row-outside t (n .functions) k x y z
 
     row-rows : rowsOf (withRow t (n .functions) k x y z) (counts (n .variables) (n .cells) (n .functions + 1))
-        ≡ rows (listed (variableAt t) (n .variables)) (listed (cellAt t) (n .cells)) (listed (rowAt t) (n .functions) ++ (row (operationOf k) (numberOf x) (numberOf y) (numberOf z) ∷ []))
+        ≡ rows (upTo (n .variables) (variableAt t)) (upTo (n .cells) (cellAt t)) (upTo (n .functions) (rowAt t) ++ (row (operationOf k) (numberOf x) (numberOf y) (numberOf z) ∷ []))
     row-rows =
         rw (
-          listed-same (variableAt (withRow t (n .functions) k x y z)) (variableAt t) (n .variables) (λ j l. same-variable q j (omega (arith, h .variables))),
-          listed-same (cellAt (withRow t (n .functions) k x y z)) (cellAt t) (n .cells) (λ j l. same-cell q j (omega (arith, h .cells))),
-          listed-grown (rowAt (withRow t (n .functions) k x y z)) (rowAt t) (n .functions) (row (operationOf k) (numberOf x) (numberOf y) (numberOf z)) (λ j l. same-row q j (omega arith)) (row-there t (n .functions) k x y z (omega arith)),
+          upTo-alike (n .variables) (variableAt (withRow t (n .functions) k x y z)) (variableAt t) (λ j l. same-variable q j (omega (arith, h .variables))),
+          upTo-alike (n .cells) (cellAt (withRow t (n .functions) k x y z)) (cellAt t) (λ j l. same-cell q j (omega (arith, h .cells))),
+          upTo-grown (n .functions) (rowAt (withRow t (n .functions) k x y z)) (rowAt t) (row (operationOf k) (numberOf x) (numberOf y) (numberOf z)) (λ j l. same-row q j (omega arith)) (row-there t (n .functions) k x y z (omega arith)),
         )
 
     row-held : Held (withRow t (n .functions) k x y z) (counts (n .variables) (n .cells) (n .functions + 1))
@@ -220,7 +222,7 @@ module _ (text t : List ℕ) (n : Counts) (h : Held t n) (room : 8192 ≤ length
     pub row-taken : Takes text (withRow t (n .functions) k x y z) n (functionLine (rowsOf t n) first bs) (Step.Next (counts (n .variables) (n .cells) (n .functions + 1)) next)
     unfolding functionLine
     row-taken = record {
-      answer = ap (λ s. goes s (drop next text)) row-rows ∙ taken _ 256 (n .functions) _ _ _ line (number-is t n line here first bs) (listed-length (rowAt t) (n .functions)) _ _ (drop next text) few e refl;
+      answer = ap (λ s. goes s (drop next text)) row-rows ∙ taken _ 256 (n .functions) _ _ _ line (number-is t n line here first bs) (length-upTo (n .functions) (rowAt t)) _ _ (drop next text) few e refl;
       held = (row-held, omega arith);
     }
 

@@ -1,14 +1,15 @@
 -- What a table of words holds, read as the rows of a sheet, when it is one, and how a row is added. Only connecting.
 use Prim.Native.Nat.{ℕ, zero, suc, _+_, _*_, _/_, _%_, _≤_, _<_}
 use mathlib.Core.Path.{_≡_}
-use mathlib.Core.List.{List, [], _∷_}
-use mathlib.Core.Bool.{Bool, true, false, _&&_}
+use mathlib.Core.List.{List}
+use mathlib.Core.Bool.{Bool, true, _&&_}
 use lib.ListN.{getD, set, drop}
 use lib.Dec.{ltb, eqb}
 use Rattle.complex.specs.declared.Complex.{Complex}
 use Rattle.complex.specs.Bits.{bitsOf, doubleOf, Canonical}
 use Rattle.complex.specs.Constants.{ofParts}
 use Rattle.expression.specs.declared.refusal.Refusal.{Refusal}
+use Rattle.table.specs.Keys.{upTo, keyAt, Ascends}
 use Rattle.text.specs.Lines.{Line, goes, stops, Whole, read, refused}
 use Rattle.sheet.specs.declared.Rows.{Rows as Counts}
 use Rattle.sheet.specs.declared.Sheet.{Sheet}
@@ -18,11 +19,6 @@ use Rattle.sheet.specs.declared.lines.Step.{Step}
 use Rattle.sheet.specs.Rows.{Variable, variable, Cell, cell, Row, row, Rows, rows, operationOf, mostVariables, mostCells, mostFunctions, Lookup, found, missing}
 
 -- ---- the rows of a table
-
--- the first n of some things
-unfoldable pub listed : {A : Type 0} → (ℕ → A) → ℕ → List A
-listed f zero = []
-listed f (suc n) = f zero ∷ listed (λ j. f (suc j)) n
 
 abbrev pub numberAt : List ℕ → ℕ → Complex
 numberAt t i = ofParts (getD t i 0) (getD t (i + 1) 0)
@@ -39,7 +35,7 @@ abbrev pub rowAt : List ℕ → ℕ → Row
 rowAt t j = row (operationOf (getD t (7 * j + 2816) 0)) (numberAt t (7 * j + 2816 + 1)) (numberAt t (7 * j + 2816 + 3)) (numberAt t (7 * j + 2816 + 5))
 
 abbrev pub rowsOf : List ℕ → Counts → Rows
-rowsOf t n = rows (listed (variableAt t) (n .variables)) (listed (cellAt t) (n .cells)) (listed (rowAt t) (n .functions))
+rowsOf t n = rows (upTo (n .variables) (variableAt t)) (upTo (n .cells) (cellAt t)) (upTo (n .functions) (rowAt t))
 
 -- the line that comes next
 abbrev pub lineOf : Counts → ℕ
@@ -47,17 +43,11 @@ lineOf n = n .variables + (n .cells + n .functions)
 
 -- ---- when a table holds a sheet
 
-abbrev pub keyAt : List ℕ → (from step : ℕ) → ℕ → ℕ
-keyAt t from step j = getD t (step * j + from) 0
-
 abbrev pub numberKey : List ℕ → ℕ → ℕ
 numberKey t j = getD t (3 * j) 0
 
 abbrev pub pairKey : List ℕ → ℕ → ℕ
-pairKey t j = getD t (2 * j + 768) 0
-
-pub record Ascends (key : ℕ → ℕ) (n : ℕ) : Type 0 where
-  pub each : (j : ℕ) → j + 1 < n → key j < key (j + 1)
+pairKey t = keyAt t 768 2
 
 -- a row's name is one of the five, and its operands' words are canonical
 pub record Comparable (t : List ℕ) (j : ℕ) : Type 0 where
@@ -127,15 +117,6 @@ cellMay t n key = eqb (n .functions) 0 && above (pairKey t) (n .cells) key
 abbrev pub seenFound : Found → Lookup
 seenFound (Found.Value z) = found z
 seenFound Found.Nothing = missing
-
--- r is the first of `count` that passes, or `count`
-pub record First (test : ℕ → Bool) (count r : ℕ) : Type 0 where
-  pub within : r ≤ count
-  pub hit : r < count → test r ≡ true
-  pub before : (j : ℕ) → j < r → test j ≡ false
-
-abbrev pub holds : (ℕ → ℕ) → ℕ → ℕ → Bool
-holds keys key j = eqb key (keys j)
 
 abbrev pub wordsOf : Complex → Words
 wordsOf x = record { re = bitsOf (x .re); im = bitsOf (x .im) }

@@ -9,20 +9,20 @@ use complex::Complex;
 use complex::bits::from_bits;
 use expression::refusal::Operation;
 use expression::refusal::Refusal;
+use layout::CELLS;
+use layout::ROWS;
 use lines::Step;
 use lines::take_line;
 use search::find_row;
 use search::operation_number;
-use search::search;
 use search::words_of;
 use store::memory::read;
-use table::CELLS;
-use table::ROWS;
+use table::search;
 
 mod fields;
+mod layout;
 mod lines;
 mod search;
-mod table;
 
 // How many rows of each kind the table holds.
 pub struct Rows {

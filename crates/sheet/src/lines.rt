@@ -11,11 +11,11 @@ use super::fields::VariableFields;
 use super::fields::read_cell;
 use super::fields::read_row;
 use super::fields::read_variable;
-use super::table::cell_may;
-use super::table::put_cell;
-use super::table::put_row;
-use super::table::put_variable;
-use super::table::variable_may;
+use super::layout::cell_may;
+use super::layout::put_cell;
+use super::layout::put_row;
+use super::layout::put_variable;
+use super::layout::variable_may;
 use expression::refusal::Refusal;
 
 // 01's counts.

@@ -1,44 +1,17 @@
-// Where a key stands among ascending keys, by halving; and the first function value for a name and operands.
+// The first function value for a name and operands.
 ghost use mathlib.Core.Path.{_≡_};
 ghost use Prim.Native.Nat.{_<_, _≤_};
 ghost use Rattle.sheet.specs.Rows.{operationNumber};
-ghost use Rattle.sheet.specs.Table.{keyAt, Ascends, First, holds, wordsOf, pairMatches, rowMatches};
+ghost use Rattle.table.specs.Keys.{First};
+ghost use Rattle.sheet.specs.Table.{wordsOf, pairMatches, rowMatches};
 use super::fields::Words;
-use super::table::ROWS;
+use super::layout::ROWS;
 use complex::Complex;
 use complex::bits::to_bits;
 use expression::refusal::Operation;
 use store::memory::read;
 
-// No kind has more rows than this.
-const MOST: usize = 1024;
-
 const MOST_FUNCTIONS: usize = 256;
-
-// The number of the row with this key, or the count; rows of `step` words stand from `from` on, the key first.
-pub fn search(table: &[u64], from: usize, step: usize, count: usize, key: u64) -> usize
-    requires { ⌜ (from ≤ 8192) × (step ≤ 7) ⌝ }
-    ensures { λ r. ⌜ (r < count → r < 1024) × (count ≤ 1024 → Ascends (keyAt (now (table .entry)) from step) count → First (holds (keyAt (now (table .entry)) from step) key) count r) ⌝ }
-{
-    if MOST < count {
-        return count;
-    }
-    let mut low: usize = 0;
-    let mut high = count;
-    while low < high {
-        let middle = low + (high - low) / 2;
-        let stands = read(table, step * middle + from);
-        if stands == key {
-            return middle;
-        }
-        if stands < key {
-            low = middle + 1;
-        } else {
-            high = middle;
-        }
-    }
-    count
-}
 
 pub fn operation_number(operation: Operation) -> u64
     ensures { λ r. ⌜ r ≡ operationNumber operation ⌝ }

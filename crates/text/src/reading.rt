@@ -32,7 +32,7 @@ pub fn digit(b: u8) -> u64
         return 16;
     }
     if b < 71 {
-        return (b as u64) - 55;
+        return (b % 16) as u64 + 9;
     }
     16
 }

@@ -1,8 +1,8 @@
 -- `canonical` meets its contract. Assumes nothing.
 use mathlib.Core.Path.{refl}
 use borrow.Author.Needs.{needs}
-use Rattle.sheet.proofs.table.canonical.Statement.{statement}
-use Rattle.sheet.proofs.table.canonical.Tie as tie
+use Rattle.sheet.proofs.layout.canonical.Statement.{statement}
+use Rattle.sheet.proofs.layout.canonical.Tie as tie
 
 pub canonical-spec : {M : Type 1} → statement M
 canonical-spec =

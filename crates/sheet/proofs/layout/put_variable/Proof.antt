@@ -2,8 +2,8 @@
 use mathlib.Core.Path.{refl}
 use Rattle.sheet.specs.Table.{withVariable}
 use borrow.Author.Needs.{needs}
-use Rattle.sheet.proofs.table.put_variable.Statement.{statement}
-use Rattle.sheet.proofs.table.put_variable.Tie as tie
+use Rattle.sheet.proofs.layout.put_variable.Statement.{statement}
+use Rattle.sheet.proofs.layout.put_variable.Tie as tie
 
 pub put-variable-spec : {M : Type 1} → statement M
 unfolding withVariable

@@ -2,8 +2,8 @@
 use mathlib.Core.Path.{refl}
 use Rattle.sheet.specs.Table.{withRow}
 use borrow.Author.Needs.{needs}
-use Rattle.sheet.proofs.table.put_row.Statement.{statement}
-use Rattle.sheet.proofs.table.put_row.Tie as tie
+use Rattle.sheet.proofs.layout.put_row.Statement.{statement}
+use Rattle.sheet.proofs.layout.put_row.Tie as tie
 
 pub put-row-spec : {M : Type 1} → statement M
 unfolding withRow

@@ -2,11 +2,11 @@
 use mathlib.Core.Path.{sym, _∙_}
 use Prim.Native.Nat.{_+_, _-_, _/_}
 use native.Mathlib.Omega.{arith}
-use Rattle.sheet.specs.Table.{keyAt}
-use Rattle.sheet.proofs.Seeking.{Halving, place-small, halving-begins, halving-hits, halving-lifts, halving-lowers, halving-ends, below-key}
+use Rattle.table.specs.Keys.{keyAt}
+use Rattle.table.proofs.Seeking.{Halving, place-small, halving-begins, halving-hits, halving-lifts, halving-lowers, halving-ends, below-key}
 use borrow.Author.Needs.{needs}
-use Rattle.sheet.proofs.search.search.Statement.{statement}
-use Rattle.sheet.proofs.search.search.Tie as tie
+use Rattle.table.proofs.search.Statement.{statement}
+use Rattle.table.proofs.search.Tie as tie
 
 abbrev Inv-loop : tie.InvT-loop
 Inv-loop table from step count key low₀ high₀ low high = Halving (keyAt table from step) count key low high

@@ -2,8 +2,8 @@
 use mathlib.Core.Path.{refl}
 use Rattle.sheet.specs.Table.{withCell}
 use borrow.Author.Needs.{needs}
-use Rattle.sheet.proofs.table.put_cell.Statement.{statement}
-use Rattle.sheet.proofs.table.put_cell.Tie as tie
+use Rattle.sheet.proofs.layout.put_cell.Statement.{statement}
+use Rattle.sheet.proofs.layout.put_cell.Tie as tie
 
 pub put-cell-spec : {M : Type 1} → statement M
 unfolding withCell

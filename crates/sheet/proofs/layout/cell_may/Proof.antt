@@ -1,8 +1,8 @@
 -- `cell_may` meets its contract: each test picks its case. Assumes nothing.
 use Rattle.sheet.proofs.Ordering.{cells-after-rows, first-cell, next-cell}
 use borrow.Author.Needs.{needs}
-use Rattle.sheet.proofs.table.cell_may.Statement.{statement}
-use Rattle.sheet.proofs.table.cell_may.Tie as tie
+use Rattle.sheet.proofs.layout.cell_may.Statement.{statement}
+use Rattle.sheet.proofs.layout.cell_may.Tie as tie
 
 pub cell-may-spec : {M : Type 1} → statement M
 cell-may-spec =

@@ -2,8 +2,8 @@
 use mathlib.Core.Path.{refl}
 use Rattle.sheet.specs.Table.{withNumber}
 use borrow.Author.Needs.{needs}
-use Rattle.sheet.proofs.table.put_number.Statement.{statement}
-use Rattle.sheet.proofs.table.put_number.Tie as tie
+use Rattle.sheet.proofs.layout.put_number.Statement.{statement}
+use Rattle.sheet.proofs.layout.put_number.Tie as tie
 
 pub put-number-spec : {M : Type 1} → statement M
 unfolding withNumber

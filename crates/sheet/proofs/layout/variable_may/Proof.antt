@@ -1,8 +1,8 @@
 -- `variable_may` meets its contract: each test picks its case. Assumes nothing.
 use Rattle.sheet.proofs.Ordering.{after-cells, after-rows, first-variable, next-variable}
 use borrow.Author.Needs.{needs}
-use Rattle.sheet.proofs.table.variable_may.Statement.{statement}
-use Rattle.sheet.proofs.table.variable_may.Tie as tie
+use Rattle.sheet.proofs.layout.variable_may.Statement.{statement}
+use Rattle.sheet.proofs.layout.variable_may.Tie as tie
 
 pub variable-may-spec : {M : Type 1} → statement M
 variable-may-spec =

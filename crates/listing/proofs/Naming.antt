@@ -1,0 +1,40 @@
+-- The node that is found for a variable among the s lines in a table is the one that the definition finds. Assumes nothing.
+use mathlib.Core.Path.{_≡_, refl, ap, _∙_}
+use mathlib.Core.List.{List, [], _∷_}
+use mathlib.Core.Bool.{Bool}
+use Prim.Native.Nat.{ℕ, _+_, _*_, _≤_, _<_}
+use native.Mathlib.Omega.{arith}
+use lib.ListN.{getD}
+use lib.Dec.{eqb}
+use Rattle.store.specs.Memory.{Memory, treeAt}
+use Rattle.table.specs.Keys.{keyAt, First, holds}
+use Rattle.table.proofs.Values.{first, first-found, first-missing}
+use Rattle.listing.specs.Listings.{Swap, swap, Named, names, nothing, swapFor}
+use Rattle.listing.specs.Tables.{swapTrees, Lists}
+
+for : ℕ → Swap → Bool
+for v (swap v′ t) = eqb v v′
+
+named : Swap → Named
+named (swap v t) = names t
+
+swaps-first : (v : ℕ) (ss : List Swap) → first (for v) named nothing ss ≡ swapFor v ss
+unfolding first swapFor for named
+swaps-first v [] = refl
+swaps-first v (swap v′ t ∷ ss) = rw (swaps-first v ss)
+
+row-key : (table : List ℕ) (j : ℕ) → getD table (1024 + 2 * j) 0 ≡ keyAt table 1024 2 j
+row-key table j = let z : 1024 + 2 * j ≡ 2 * j + 1024 = omega arith in rw z
+
+module _ {m : Memory} {table : List ℕ} {n swaps : ℕ} (l : Lists m table n 0 swaps) (v : ℕ) {r : ℕ} (s : First (holds (keyAt table 1024 2) v) swaps r) where
+  pub swap-found : {node : ℕ} → r < swaps → node ≡ getD table (1025 + 2 * r) 0 → (names (treeAt m node) ≡ swapFor v (swapTrees m table swaps)) × (node < n)
+  unfolding for named
+  swap-found h e =
+      rw e (
+        first-found (for v) named nothing swaps _ r h (ap (eqb v) (row-key table r) ∙ s .hit h) (λ j o. ap (eqb v) (row-key table j) ∙ s .before j o) ∙ swaps-first v (swapTrees m table swaps),
+        l .named r h,
+      )
+
+  pub swap-missing : swaps ≤ r → nothing ≡ swapFor v (swapTrees m table swaps)
+  unfolding for
+  swap-missing h = first-missing (for v) named nothing swaps _ (λ j o. ap (eqb v) (row-key table j) ∙ s .before j (omega (arith, h, o))) ∙ swaps-first v (swapTrees m table swaps)
