@@ -7,3 +7,4 @@ mod Taking
 mod Finding
 mod Sheets
 mod Examples
+pub mod OneAnswer
