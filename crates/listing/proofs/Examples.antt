@@ -1,26 +1,24 @@
 -- Worked examples of the definitions, which antt computes: 01's own lines, each refusal 1 and 2 at its boundary on both sides, and a written listing.
 -- The counts are laws over any lines and bytes. Assumes nothing.
-use mathlib.Core.Path.{_≡_, refl, sym, _∙_}
-use mathlib.Core.List.{List, [], _∷_, _++_}
+use mathlib.Core.Path.{_≡_, refl}
+use mathlib.Core.List.{List, [], _∷_}
 use mathlib.Core.Bool.{Bool, true, false}
-use Prim.Native.Nat.{ℕ, suc, _+_, _≤_, _<_}
-use native.Mathlib.Omega.{arith}
+use Prim.Native.Nat.{ℕ, _≤_, _<_}
 use lib.ListN.{length}
-use borrow.Author.Tests.{lt-ltb, le-ltb, eq-eqb, ne-eqb}
-use Rattle.complex.specs.Constants.{ofParts}
+use borrow.Author.Tests.{lt-ltb, le-ltb, ne-eqb}
 use Rattle.expression.specs.declared.InfixOperator.{InfixOperator}
 use Rattle.expression.specs.declared.PrefixOperator.{PrefixOperator}
 use Rattle.expression.specs.declared.ExpressionFunction.{ExpressionFunction}
 use Rattle.expression.specs.declared.refusal.Refusal.{Refusal}
 use Rattle.expression.specs.Codes.{ofFive}
-use Rattle.expression.specs.Trees.{Tree, leaf, number, pi, variable, cell, functionCall, prefixed, infixed, measure}
+use Rattle.expression.specs.Trees.{Tree, leaf, pi, variable, cell, functionCall, prefixed, infixed}
 use Rattle.expression.specs.Alike.{alike, alikeLeaves}
-use Rattle.store.specs.Storing.{State, fresh, state, among, place, intern, nothing}
-use Rattle.text.specs.Reading.{Read, is, bad, then, ended, digitOf, run, value, spelt, decimal, hexFrom, hex, starts, nameFrom}
+use Rattle.store.specs.Storing.{State, among, place}
+use Rattle.text.specs.Reading.{is, bad, then, ended, digitOf, run, value, spelt, decimal, starts, nameFrom}
 use Rattle.text.specs.Writing.{byteOf, digits, digitsBy, inDecimal, line}
 use Rattle.text.specs.Lines as Lines
-use Rattle.text.specs.Lines.{goes, stops, read, refused, atLine, afterLine, lines}
-use Rattle.listing.specs.Listings.{Known, known, swap, childField, numberFields, variableFields, cellFields, functionFields, prefixFields, infixFields, fieldsOf, nodeFields, none, stored, formed, nodeLine, swapFields, above, swapped, swapLine, listingLine, lineNumber}
+use Rattle.text.specs.Lines.{goes, stops}
+use Rattle.listing.specs.Listings.{Known, known, swap, childField, variableFields, cellFields, functionFields, prefixFields, infixFields, fieldsOf, nodeFields, none, formed, nodeLine, swapFields, above, swapped, swapLine, listingLine, lineNumber}
 use Rattle.listing.specs.Order.{once, finished, order, leafFields, lineFields, text, textOf}
 
 abbrev a : Tree

@@ -1,31 +1,30 @@
 -- A stored tree's written listing fits into the store it was in: `order-room`; so what the code wrote reads back with as much work memory, `written-reads-back`.
 -- Assumes nothing.
-use mathlib.Core.Path.{_≡_, refl, sym, ap, _∙_, subst}
+use mathlib.Core.Path.{_≡_, refl, sym, _∙_, subst}
 use mathlib.Core.List.{List, [], _∷_, _++_}
 use mathlib.Core.Logic.{⊎-elim}
 use mathlib.Core.Bool.{Bool, true, false, cond}
-use Prim.Native.Nat.{ℕ, zero, suc, _+_, _≤_, _<_}
+use Prim.Native.Nat.{ℕ, zero, suc, _≤_, _<_}
 use native.Mathlib.Nat.{eq-or-lt-of-le}
 use native.Mathlib.Omega.{arith}
 use native.Mathlib.Decide.{decLt}
 use lib.Dec.{T}
-use lib.ListN.{length, getD, take, length-append, List·getD-append}
-use lib.Seq.{getD-at, take-append-seam}
+use lib.ListN.{length, getD, length-append, List·getD-append}
+use lib.Seq.{getD-at}
 use Rattle.expression.specs.Trees.{Tree, leaf, pi, functionCall, prefixed, infixed}
 use Rattle.expression.specs.Alike.{identical}
-use Rattle.expression.proofs.Likeness.{identical-refl, identical-sym, identical-trans}
+use Rattle.expression.proofs.Likeness.{identical-sym, identical-trans}
 use Rattle.store.specs.declared.node.Expression.{Expression}
 use Rattle.store.specs.Nodes.{expressionOf, grown, Within}
-use Rattle.store.specs.Storing.{State, state, fresh, among, place, nothing}
+use Rattle.store.specs.Storing.{state, fresh, among, place, nothing}
 use Rattle.store.specs.Memory.{Memory, room, fieldsAt, trees, treeAt, treeOf}
 use Rattle.store.specs.Held.{Holds}
 use Rattle.store.proofs.Places.{place-within, place-hit, place-first, among-no, among-yes}
 use Rattle.store.proofs.Stored.{as-many, stored, proper, limited, read-node}
-use Rattle.listing.specs.declared.writing.Written.{Written}
 use Rattle.listing.specs.Listings.{accepted, listing}
-use Rattle.listing.specs.Order.{once, finished, order, textOf, written}
+use Rattle.listing.specs.Order.{once, finished, order, textOf}
 use Rattle.listing.specs.Ordering.{AllIn, Laid, empty, more}
-use Rattle.listing.proofs.Orders.{true-not-false, all-is, finished-laid}
+use Rattle.listing.proofs.Orders.{true-not-false, finished-laid}
 use Rattle.listing.proofs.Visiting.{pigeon}
 use Rattle.listing.proofs.ReadBack.{reads-back}
 

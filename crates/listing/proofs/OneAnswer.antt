@@ -1,6 +1,6 @@
 -- Two answers that the contract of `read_listing` allows are equal, and so are two answers with their output bytes that that of `write_listing` allows.
 -- Assumes nothing.
-use mathlib.Core.Path.{_≡_, refl, sym, ap, _∙_, subst}
+use mathlib.Core.Path.{_≡_, sym, ap, _∙_, subst}
 use mathlib.Core.Bool.{Bool}
 use mathlib.Core.List.{List, []}
 use Prim.Native.Nat.{ℕ, _<_}
@@ -9,7 +9,7 @@ use Rattle.expression.specs.declared.refusal.Refusal.{Refusal}
 use Rattle.expression.specs.Trees.{Tree, leaf, pi}
 use Rattle.expression.specs.Alike.{identical}
 use Rattle.store.specs.Storing.{State, state, place}
-use Rattle.store.specs.Memory.{Memory, trees, treeAt, stateOf}
+use Rattle.store.specs.Memory.{Memory, stateOf}
 use Rattle.store.specs.Held.{Holds}
 use Rattle.store.proofs.Trees.{length-trees}
 use Rattle.store.proofs.Seeking.{own-place}
@@ -17,7 +17,7 @@ use Rattle.listing.specs.declared.Listing.{Listing}
 use Rattle.listing.specs.declared.writing.Written.{Written}
 use Rattle.listing.specs.Listings as Spec
 use Rattle.listing.specs.Listings.{Swap, accepted}
-use Rattle.listing.specs.Tables.{swapTrees, Reads}
+use Rattle.listing.specs.Tables.{Reads}
 use Rattle.listing.specs.Ordering.{WritesFrom}
 use Rattle.table.proofs.Values.{length-upTo}
 

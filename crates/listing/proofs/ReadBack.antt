@@ -1,13 +1,13 @@
 -- What is written reads back: `reads-back`, and that writing again gives the same bytes, `writes-again`. Assumes nothing.
-use mathlib.Core.Path.{_≡_, refl, sym, ap, _∙_, subst}
+use mathlib.Core.Path.{_≡_, refl, sym, ap, _∙_}
 use mathlib.Core.List.{List, [], _∷_, _++_, append-assoc, append-nil}
 use mathlib.Core.Logic.{⊎-elim}
-use mathlib.Core.Bool.{Bool, true, false, cond}
-use Prim.Native.Nat.{ℕ, zero, suc, _+_, _≤_, _<_}
+use mathlib.Core.Bool.{Bool, true, false}
+use Prim.Native.Nat.{ℕ, zero, suc, _≤_, _<_}
 use native.Mathlib.Nat.{eq-or-lt-of-le}
 use native.Mathlib.Omega.{arith}
 use native.Mathlib.Decide.{decLt}
-use lib.Dec.{T, eqb, ltb}
+use lib.Dec.{eqb}
 use lib.ListN.{length, getD, length-append, List·getD-append}
 use lib.Seq.{getD-at}
 use borrow.Author.Tests.{lt-ltb, le-ltb}
@@ -16,7 +16,7 @@ use Rattle.complex.proofs.Doubles.{double-back, bits-below}
 use Rattle.expression.specs.declared.InfixOperator.{InfixOperator}
 use Rattle.expression.specs.declared.PrefixOperator.{PrefixOperator}
 use Rattle.expression.specs.declared.ExpressionFunction.{ExpressionFunction}
-use Rattle.expression.specs.Codes.{infixCode, prefixCode, functionCode, infixOf, prefixOf, functionOf}
+use Rattle.expression.specs.Codes.{infixCode, prefixCode, functionCode}
 use Rattle.expression.specs.Trees.{Tree, leaf, number, pi, variable, cell, functionCall, prefixed, infixed, size, depth, measure}
 use Rattle.expression.specs.Alike.{identical}
 use Rattle.expression.specs.Limits.{Limited, Proper, largest, deepest}
@@ -25,14 +25,14 @@ use Rattle.expression.proofs.Likeness.{identical-same}
 use Rattle.store.specs.Storing as Storing
 use Rattle.store.specs.Storing.{State, state, fresh, among, place, intern, nothing}
 use Rattle.store.proofs.Places.{place-within, place-hit, place-old, among-no}
-use Rattle.text.specs.Reading.{Read, is, then, tab, ended, digitOf, nameField, nameFrom, starts}
+use Rattle.text.specs.Reading.{is, then, tab, ended, digitOf, nameField, nameFrom, starts}
 use Rattle.text.specs.Writing.{inDecimal, inHex, line}
 use Rattle.text.specs.Lines as Lines
 use Rattle.text.specs.Lines.{goes, lines, atLine, afterLine}
 use Rattle.text.proofs.RoundTrip.{decimal-field, hex-field}
 use Rattle.listing.specs.Listings.{functionNames, prefixNames, infixNames, childField, numberFields, variableFields, cellFields, functionFields, prefixFields, infixFields, fieldsOf, nodeFields, Known, known, none, stored, formed, nodeLine, listingLine, accepted, rooted, last, whole, listing, mostLines}
-use Rattle.listing.specs.Order.{once, finished, order, named, leafFields, lineFields, text, textOf}
-use Rattle.listing.specs.Ordering.{AllIn, KidsIn, Laid, empty, more}
+use Rattle.listing.specs.Order.{finished, order, named, leafFields, lineFields, text, textOf}
+use Rattle.listing.specs.Ordering.{KidsIn, Laid, empty, more}
 use Rattle.listing.proofs.Orders.{all-is, true-not-false, once-new, finished-laid, not-yet}
 
 -- ---- names

@@ -1,3 +1,4 @@
+-- The definitions that the contracts of `listing` cite. To believe: Listings and Order; Tables and Ordering only connect.
 pub mod Listings
 pub mod Order
 pub mod Tables

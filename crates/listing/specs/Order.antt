@@ -1,7 +1,7 @@
 -- How a tree is written as a listing: its lines in order, and their bytes. Definitions only.
 use Prim.Native.Nat.{ℕ, _-_}
 use mathlib.Core.List.{List, [], _∷_, _++_}
-use mathlib.Core.Bool.{Bool, true, false, cond}
+use mathlib.Core.Bool.{cond}
 use lib.ListN.{length, getD, drop}
 use lib.Dec.{ltb}
 use Rattle.complex.specs.Bits.{bitsOf}

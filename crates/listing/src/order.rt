@@ -1,7 +1,6 @@
 // The written order of a tree: a table of its nodes, each once, in the order in which evaluation first finishes them.
 // Word i of the table is the node of line i; word 4096 + k is the line of node k, if that line's node is k.
 ghost use mathlib.Core.Path.{_≡_};
-ghost use Prim.Native.Nat.{_≤_};
 ghost use Rattle.listing.specs.Ordering.{childrenOf, Tells, Visits, Enters};
 use super::entry_at;
 use store::memory::put;

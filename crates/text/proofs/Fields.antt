@@ -1,13 +1,13 @@
 -- What a reader's answer tells of the text: for those who read one field after another. Assumes nothing.
 use mathlib.Core.Path.{_≡_, refl, sym, ap, _∙_}
-use mathlib.Core.List.{List, [], _∷_, _++_}
-use mathlib.Core.Bool.{true, false, cond}
-use Prim.Native.Nat.{ℕ, suc, _+_, _-_, _≤_, _<_}
+use mathlib.Core.List.{List, [], _∷_}
+use mathlib.Core.Bool.{true, false}
+use Prim.Native.Nat.{ℕ, suc, _+_, _≤_, _<_}
 use native.Mathlib.Omega.{arith}
 use lib.ListN.{length, drop, length-append, length-drop}
 use lib.Seq.{drop-drop}
 use Rattle.text.specs.declared.reading.Number.{Number}
-use Rattle.text.specs.Reading.{Read, is, bad, then, ended, decimalField, starts, nameFrom}
+use Rattle.text.specs.Reading.{Read, is, bad, decimalField, starts, nameFrom}
 use Rattle.text.specs.Seen.{seen}
 use Rattle.text.proofs.Only.{decimal-only, ended-only, starts-only}
 

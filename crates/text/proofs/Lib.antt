@@ -1,3 +1,4 @@
+-- The laws that the proofs of this crate and of its callers cite.
 pub mod Running
 pub mod Putting
 pub mod RoundTrip

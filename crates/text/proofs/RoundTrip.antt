@@ -5,10 +5,10 @@ use Prim.Native.Nat.{ℕ, zero, suc, _+_, _*_, _/_, _%_, _^_, _≤_, _<_}
 use native.Mathlib.Nat.{pow-suc}
 use native.Mathlib.Omega.{arith}
 use native.Mathlib.Decide.{decLt}
-use lib.ListN.{length, getD, drop, length-append, length-map, List·getD-append}
+use lib.ListN.{length, getD, length-append, length-map, List·getD-append}
 use lib.Seq.{drop-append-seam}
 use borrow.Author.Tests.{lt-ltb, le-ltb, eq-eqb, ne-eqb}
-use Rattle.text.specs.Reading.{Read, is, ended, digitOf, run, value, spelt, decimal, hexFrom, hex, decimalField, hexField}
+use Rattle.text.specs.Reading.{is, ended, digitOf, run, value, spelt, decimal, hexFrom, hex, decimalField, hexField}
 use Rattle.text.specs.Writing.{byteOf, digits, inDecimal, lastHex, inHex}
 use Rattle.text.proofs.Putting.{digits-one, digits-more, by-digits}
 

@@ -2,7 +2,7 @@
 use mathlib.Core.Path.{_≡_, refl, sym, ap, _∙_}
 use mathlib.Core.List.{List, [], _∷_}
 use mathlib.Core.Bool.{Bool, true, false, cond, _&&_}
-use Prim.Native.Nat.{ℕ, zero, suc, _+_, _-_, _*_, _^_, _≤_, _<_}
+use Prim.Native.Nat.{ℕ, suc, _+_, _-_, _*_, _^_, _≤_, _<_}
 use native.Mathlib.Numerals.{add-one}
 use native.Mathlib.Omega.{arith}
 use native.Mathlib.Nat.{pow-suc, pow-le-pow-right}
@@ -12,7 +12,7 @@ use lib.Dec.{eqb, ltb}
 use lib.Seq.{drop-cons, drop-drop}
 use borrow.Author.Tests.{lt-ltb, le-ltb, eq-eqb, ne-eqb}
 use Rattle.text.specs.declared.reading.Number.{Number}
-use Rattle.text.specs.Reading.{Read, is, bad, ended, digitOf, run, value, spelt, decimal, hexFrom, hex, starts}
+use Rattle.text.specs.Reading.{is, bad, ended, digitOf, run, value, spelt, decimal, hexFrom, hex, starts}
 
 -- ---- a byte of the text
 

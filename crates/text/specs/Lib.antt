@@ -1,3 +1,4 @@
+-- The definitions that the contracts of `text` cite. To believe: Reading, Lines and Writing; Seen only connects.
 pub mod Reading
 pub mod Writing
 pub mod Lines

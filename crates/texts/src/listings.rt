@@ -8,9 +8,9 @@ use super::slices::part;
 use super::slices::part_of_bytes;
 use listing::Listing;
 use listing::Swap;
-use listing::writing::Written;
 use listing::read_listing;
 use listing::swap_of;
+use listing::writing::Written;
 use listing::writing::write_listing;
 
 // What the paper of an output has everywhere before something is written there.

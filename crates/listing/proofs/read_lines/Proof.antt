@@ -1,7 +1,6 @@
 -- `read_lines` meets its contract: the invariant is `Going`. The measure is how many lines are still allowed. Assumes nothing.
 use mathlib.Core.Path.{_∙_}
 use Prim.Native.Nat.{_+_, _-_}
-use native.Mathlib.Omega.{arith}
 use Rattle.store.specs.Memory.{memory}
 use Rattle.listing.proofs.Whole.{Going, going-begins, is-ready, going-stops, going-on, going-ends, less, Same, same-begins, same-on}
 use borrow.Author.Needs.{needs}

@@ -1,5 +1,5 @@
 -- `texts::run_list` is safe and ends: the cases are counted up to a bound, and the arrays stay as long as they are. Assumes nothing.
-use Prim.Native.Nat.{_≤_, _-_}
+use Prim.Native.Nat.{_-_}
 use mathlib.Core.Path.{_≡_}
 use lib.ListN.{length}
 use borrow.Author.Needs.{needs}

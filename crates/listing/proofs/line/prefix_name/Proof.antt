@@ -1,8 +1,7 @@
 -- `prefix_name` meets its contract. Assumes nothing.
-use mathlib.Core.Path.{refl, sym, _∙_}
+use mathlib.Core.Path.{sym, _∙_}
 use mathlib.Core.List.{[], _∷_}
 use native.Mathlib.Omega.{arith}
-use Rattle.text.specs.Reading.{nameFrom}
 use Rattle.text.proofs.Fields.{word-inside, name-here, name-later, name-none}
 use borrow.Author.Needs.{needs}
 use Rattle.listing.proofs.line.prefix_name.Statement.{statement}

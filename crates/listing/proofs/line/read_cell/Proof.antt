@@ -1,8 +1,8 @@
 -- `read_cell` meets its contract. Assumes nothing.
-use mathlib.Core.Path.{sym, ap, _∙_}
+use mathlib.Core.Path.{sym}
 use native.Mathlib.Omega.{arith}
 use Rattle.store.specs.Nodes.{grown}
-use Rattle.text.specs.Reading.{then, ended}
+use Rattle.text.specs.Reading.{then}
 use Rattle.listing.specs.Listings.{cellFields}
 use Rattle.text.proofs.Fields.{told, told-bad, told-below}
 use borrow.Author.Needs.{needs}

@@ -1,6 +1,5 @@
 -- `read_function` meets its contract. Assumes nothing.
 use mathlib.Core.Path.{sym, ap, _∙_}
-use native.Mathlib.Omega.{arith}
 use Rattle.store.specs.Nodes.{grown}
 use Rattle.text.specs.Reading.{then, ended}
 use Rattle.listing.specs.Listings.{functionFields, childField}

@@ -1,10 +1,9 @@
 -- `read_number` meets its contract. Assumes nothing.
-use mathlib.Core.Path.{sym, ap, _∙_}
-use native.Mathlib.Omega.{arith}
+use mathlib.Core.Path.{sym}
 use Rattle.store.specs.Nodes.{grown}
-use Rattle.text.specs.Reading.{then, ended}
+use Rattle.text.specs.Reading.{then}
 use Rattle.listing.specs.Listings.{numberFields}
-use Rattle.text.proofs.Fields.{told, told-bad, told-below}
+use Rattle.text.proofs.Fields.{told, told-bad}
 use borrow.Author.Needs.{needs}
 use Rattle.listing.proofs.line.read_number.Statement.{statement}
 use Rattle.listing.proofs.line.read_number.Tie as tie
