@@ -2,16 +2,17 @@
 use mathlib.Core.Path.{_≡_, refl, sym, ap, _∙_}
 use mathlib.Core.List.{List, [], _∷_}
 use mathlib.Core.Bool.{Bool, true, false, cond, _&&_}
-use Prim.Native.Nat.{ℕ, suc, _+_, _-_, _*_, _^_, _≤_, _<_}
+use Prim.Native.Nat.{ℕ, zero, suc, _+_, _-_, _*_, _%_, _^_, _≤_, _<_, max}
 use native.Mathlib.Numerals.{add-one}
 use native.Mathlib.Omega.{arith}
 use native.Mathlib.Nat.{pow-suc, pow-le-pow-right}
 use native.Mathlib.Decide.{decLt}
-use lib.ListN.{length, getD, drop, List·getD-eq-default, drop-of-length-le}
+use lib.ListN.{length, getD, drop, List·getD-eq-default, drop-of-length-le, length-drop}
 use lib.Dec.{eqb, ltb}
 use lib.Seq.{drop-cons, drop-drop}
 use borrow.Author.Tests.{lt-ltb, le-ltb, eq-eqb, ne-eqb}
 use Rattle.text.specs.declared.reading.Number.{Number}
+use Rattle.text.specs.Seen.{lowDigit, highDigit}
 use Rattle.text.specs.Reading.{is, bad, ended, digitOf, run, value, spelt, decimal, hexFrom, hex, starts}
 
 -- ---- a byte of the text
@@ -179,48 +180,71 @@ module _ {s : List ℕ} {at limit f d v i : ℕ} (g : Going s at limit f d v i) 
           let q = rw leads at spells in
           sym (rw (leads, ne-eqb f 0 z, r, q, lt-ltb v limit (g .below (omega (arith, g .from, some)))))
 
--- ---- sixteen hex digits: what is left to be done is the whole
+-- ---- a digit
 
-pub record Hexing (s : List ℕ) (at v k i : ℕ) : Type 0 where
+pub digit-low : (b : ℕ) → b < 58 → lowDigit b ≡ digitOf b
+unfolding lowDigit digitOf
+digit-low b h = rw (lt-ltb b 58 h)
+
+pub digit-high : (b : ℕ) → 58 ≤ b → b < 71 → highDigit b ≡ digitOf b
+unfolding highDigit digitOf
+digit-high b l h = rw (le-ltb b 48 (omega arith), le-ltb b 58 l, lt-ltb b 71 h)
+
+pub digit-none : (b : ℕ) → 71 ≤ b → 16 ≡ digitOf b
+unfolding digitOf
+digit-none b h = rw (le-ltb b 48 (omega arith), le-ltb b 58 (omega arith), le-ltb b 65 (omega arith), le-ltb b 71 h)
+
+-- ---- sixteen hex digits: what is left to be done is the whole, unless there was a byte that is none
+
+pub record Hexing (s : List ℕ) (at v worst k : ℕ) : Type 0 where
   pub few : k ≤ 16
   pub small : v < 16 ^ k
-  pub rest : hexFrom (16 - k) v (drop i s) ≡ hex (drop at s)
+  pub rest : worst < 16 → hexFrom (16 - k) v (drop (at + k) s) ≡ hex (drop at s)
+  pub spoilt : 16 ≤ worst → bad ≡ hex (drop at s)
 
-pub hex-begins : (s : List ℕ) (at : ℕ) → Hexing s at 0 0 at
+-- fewer bytes than digits
+too-few : (k v : ℕ) (bs : List ℕ) → length bs < k → hexFrom k v bs ≡ bad
+unfolding hexFrom
+too-few zero v bs h = absurd (omega arith)
+too-few (suc k) v [] h = refl
+too-few (suc k) v (b ∷ bs) h = rw (too-few k (v * 16 + digitOf b) bs (omega arith)) (cond-same (ltb (digitOf b) 16) bad)
+
+pub hex-short : (s : List ℕ) (at : ℕ) → length s < at + 16 → bad ≡ hex (drop at s)
 unfolding hex
-hex-begins s at = record { few = omega arith; small = omega arith; rest = refl }
+hex-short s at h = sym (too-few 16 0 (drop at s) (omega (arith, length-drop at s, h)))
+
+pub hex-begins : (s : List ℕ) (at : ℕ) → Hexing s at 0 0 0
+unfolding hex
+hex-begins s at = let z : at + 0 ≡ at = omega arith in record { few = omega arith; small = omega arith; rest = λ _. rw z; spoilt = λ h. absurd (omega arith) }
 
 -- the next digit takes the value from below 16 ^ k to below 16 ^ (k + 1), which is at most 2 ^ 64
 pub hex-room : (v k d : ℕ) → k < 16 → v < 16 ^ k → d < 16 → (v * 16 + d < 16 ^ (k + 1)) × (16 ^ (k + 1) ≤ 2 ^ 64)
 hex-room v k d hk hv hd =
     (rw (add-one, pow-suc 16 k) (omega arith), pow-le-pow-right {n = 16} (omega arith) {i = k + 1} {j = 16} (omega arith))
 
-module _ {s : List ℕ} {at v k i : ℕ} (g : Hexing s at v k i) where
-  pub hex-in-text : (d : ℕ) → d ≡ digitOf (getD s i 0) → d < 16 → i < length s
-  hex-in-text d e h = within s i (omega arith)
-
-  pub hex-goes-on : (d : ℕ) → k < 16 → d ≡ digitOf (getD s i 0) → d < 16 → Hexing s at (v * 16 + d) (k + 1) (i + 1)
+module _ {s : List ℕ} {at v worst k : ℕ} (g : Hexing s at v worst k) where
+  pub hex-goes-on : (d : ℕ) → k < 16 → at + 16 ≤ length s → d ≡ digitOf (getD s (at + k) 0) → Hexing s at (v * 16 + d % 16) (max worst d) (k + 1)
   unfolding hexFrom
-  hex-goes-on d hk e hd =
+  hex-goes-on d hk room e =
       let q : 16 - k ≡ suc (16 - (k + 1)) = omega arith in
+      let n : at + (k + 1) ≡ at + k + 1 = omega arith in
+      let h = here s (at + k) (omega (arith, room, hk)) in
       record {
         few = omega arith;
-        small = hex-room v k d hk (g .small) hd .0;
-        rest = rw e (rw (q, here s i (within s i (omega arith)), lt-ltb (digitOf (getD s i 0)) 16 (omega arith)) at (g .rest));
+        small = hex-room v k (d % 16) hk (g .small) (omega arith) .0;
+        rest = λ w.
+            let o : d < 16 = omega (arith, w) in
+            let m : d % 16 ≡ d = omega arith in
+            rw (n, m, e) (rw (q, h, lt-ltb (digitOf (getD s (at + k) 0)) 16 (omega (arith, o, e))) at (g .rest (omega (arith, w))));
+        spoilt = λ w. elim (decLt worst 16) [
+          | no x ↦ g .spoilt (omega (arith, x))
+          | yes y ↦ rw (q, h, le-ltb (digitOf (getD s (at + k) 0)) 16 (omega (arith, w, y, e))) at (g .rest y)
+        ];
       }
 
-  pub hex-stops : k < 16 → 16 ≤ digitOf (getD s i 0) → bad ≡ hex (drop at s)
+  pub hex-done : 16 ≤ k → worst ≤ 15 → is v (drop (at + 16) s) ≡ hex (drop at s)
   unfolding hexFrom
-  hex-stops hk h =
-      let q : 16 - k ≡ suc (16 - (k + 1)) = omega arith in
-      elim (decLt i (length s)) [
-        | yes lt ↦ rw (q, drop-cons s i 0 lt, le-ltb _ _ h) at (g .rest)
-        | no nlt ↦ rw (q, drop-of-length-le s {i = i} (omega arith)) at (g .rest)
-      ]
-
-  pub hex-done : 16 ≤ k → is v (drop i s) ≡ hex (drop at s)
-  unfolding hexFrom
-  hex-done h = let q : 16 - k ≡ 0 = omega arith in rw q at (g .rest)
+  hex-done h w = let q : 16 - k ≡ 0 = omega arith in let z : at + k ≡ at + 16 = omega (arith, g .few, h) in rw (q, z) at (g .rest (omega (arith, w)))
 
 -- ---- a word
 

@@ -1,9 +1,9 @@
 // Numbers, names and fields at a place of a text. Past the end there is no digit, no letter and no end of a field.
 ghost use mathlib.Core.Path.{_≡_};
-ghost use Prim.Native.Nat.{_^_, _<_, _≤_};
+ghost use Prim.Native.Nat.{_^_, _<_, _≤_, max};
 ghost use lib.ListN.{getD, drop};
 ghost use Rattle.text.specs.Reading.{digitOf, decimal, hex, starts, ended, decimalField, hexField};
-ghost use Rattle.text.specs.Seen.{seen};
+ghost use Rattle.text.specs.Seen.{seen, lowDigit, highDigit};
 
 // What is read at a place: a number and the place after it, or none such.
 pub enum Number {
@@ -18,23 +18,35 @@ pub fn byte_at(s: &[u8], i: usize) -> u8
     if i < s.len() { s[i] } else { 0 }
 }
 
-// The value of a digit 0-9 or A-F, and 16 for any other byte.
+fn low_digit(b: u8) -> u64
+    ensures { λ r. ⌜ r ≡ lowDigit b ⌝ }
+{
+    if b < 48 { 16 } else { (b as u64) - 48 }
+}
+
+fn high_digit(b: u8) -> u64
+    ensures { λ r. ⌜ r ≡ highDigit b ⌝ }
+{
+    if b < 65 { 16 } else { (b as u64) - 55 }
+}
+
+// The value of a digit 0-9 or A-F, and 16 for any other byte. Both are worked out before one is chosen, so that
+// nothing has to be foretold.
 pub fn digit(b: u8) -> u64
     ensures { λ r. ⌜ r ≡ digitOf b ⌝ }
 {
-    if b < 48 {
-        return 16;
-    }
+    let low = low_digit(b);
+    let high = high_digit(b);
     if b < 58 {
-        return (b as u64) - 48;
+        return low;
     }
-    if b < 65 {
-        return 16;
-    }
-    if b < 71 {
-        return (b % 16) as u64 + 9;
-    }
-    16
+    if b < 71 { high } else { 16 }
+}
+
+fn greater(a: u64, b: u64) -> u64
+    ensures { λ r. ⌜ r ≡ max a b ⌝ }
+{
+    if a < b { b } else { a }
 }
 
 // A decimal number below the limit.
@@ -65,23 +77,29 @@ pub fn read_decimal(s: &[u8], at: usize, limit: u64) -> Number
     Number::Is(v, i)
 }
 
-// 16 hex digits.
+// 16 hex digits: all are read before it is asked whether one of them is none.
 pub fn read_hex(s: &[u8], at: usize) -> Number
     ensures { λ r. ⌜ seen (now (s .entry)) r ≡ hex (drop at (now (s .entry))) ⌝ }
 {
+    if s.len() < 16 {
+        return Number::Bad;
+    }
+    if s.len() - 16 < at {
+        return Number::Bad;
+    }
     let mut v: u64 = 0;
+    let mut worst: u64 = 0;
     let mut k: usize = 0;
-    let mut i = at;
     while k < 16 {
-        let d = digit(byte_at(s, i));
-        if 15 < d {
-            return Number::Bad;
-        }
-        v = v * 16 + d;
-        i += 1;
+        let d = digit(s[at + k]);
+        v = v * 16 + d % 16;
+        worst = greater(worst, d);
         k += 1;
     }
-    Number::Is(v, i)
+    if 15 < worst {
+        return Number::Bad;
+    }
+    Number::Is(v, at + 16)
 }
 
 // The byte that ends a field, after what stood in it.
