@@ -121,6 +121,16 @@ one-put e at n b h q = rw (decimal-one n h, q) (put-byte e at (byteOf n))
 pub more-put : {e m : List ℕ} {at n p : ℕ} (b : ℕ) → 10 ≤ n → Put e at (inDecimal (n / 10)) p m → b ≡ byteOf (n % 10) → Put e at (inDecimal n) (p + 1) (set m p b)
 more-put {e} {m} {at} {n} {p} b h a q = rw (decimal-more n h, q) (put-then a (put-byte m p (byteOf (n % 10))))
 
+-- two digits
+pub two-length : (n : ℕ) → 10 ≤ n → n < 100 → length (inDecimal n) ≡ 2
+two-length n l h = omega (arith, more-length n l, one-length (n / 10) (omega arith))
+
+pub three-length : (n : ℕ) → 100 ≤ n → n < 1000 → length (inDecimal n) ≡ 3
+three-length n l h = omega (arith, more-length n (omega arith), two-length (n / 10) (omega arith) (omega arith))
+
+pub two-put : (e : List ℕ) (at n a b : ℕ) → 10 ≤ n → n < 100 → a ≡ byteOf (n / 10) → b ≡ byteOf (n % 10) → Put e at (inDecimal n) (at + 2) (set (set e at a) (at + 1) b)
+two-put e at n a b l h p q = let z : at + 1 + 1 ≡ at + 2 = omega arith in rw z at (more-put b l (one-put e at (n / 10) a (omega arith) p) q)
+
 -- ---- hex digits, from the last to the first
 
 set-set : (l : List ℕ) (i j x y : ℕ) → i < j → set (set l j y) i x ≡ set (set l i x) j y

@@ -24,6 +24,12 @@ pub fn decimal_length(n: u64) -> usize
     if n < 10 {
         return 1;
     }
+    if n < 100 {
+        return 2;
+    }
+    if n < 1000 {
+        return 3;
+    }
     decimal_length(n / 10) + 1
 }
 
@@ -47,6 +53,16 @@ pub fn write_bytes(out: &mut [u8], at: usize, bytes: &[u8]) -> usize
     at + k
 }
 
+// The usual numbers of lines, without a call for each digit.
+fn write_two(out: &mut [u8], at: usize, n: u64) -> usize
+    requires { ⌜ (10 ≤ n) × (n < 100) × (at + 2 ≤ length (now out)) ⌝ }
+    ensures { λ r. ⌜ Put (now (out .entry)) at (inDecimal n) r (now (out .exit)) ⌝ }
+{
+    out[at] = digit_byte(n / 10);
+    out[at + 1] = digit_byte(n % 10);
+    at + 2
+}
+
 pub fn write_decimal(out: &mut [u8], at: usize, n: u64) -> usize
     requires { ⌜ at + length (inDecimal n) ≤ length (now out) ⌝ }
     ensures { λ r. ⌜ Put (now (out .entry)) at (inDecimal n) r (now (out .exit)) ⌝ }
@@ -54,6 +70,9 @@ pub fn write_decimal(out: &mut [u8], at: usize, n: u64) -> usize
     if n < 10 {
         out[at] = digit_byte(n);
         return at + 1;
+    }
+    if n < 100 {
+        return write_two(out, at, n);
     }
     let p = write_decimal(out, at, n / 10);
     out[p] = digit_byte(n % 10);

@@ -1,0 +1,19 @@
+-- `write_two` meets its contract. Assumes nothing.
+use native.Mathlib.Omega.{arith}
+use lib.ListN.{length-set}
+use Rattle.text.proofs.Putting.{two-put}
+use Rattle.text.proofs.writing.write_two.Statement.{statement}
+use Rattle.text.proofs.writing.write_two.Tie as tie
+
+pub write-two-spec : {M : Type 1} → statement M
+write-two-spec =
+    tie.close
+    (tie.spec
+    (λ c κs. omega (arith, c .before .pre))
+    (λ c. omega (arith, c .before .before .pre))
+    (λ c κs. omega arith)
+    (λ c. omega (arith, c .before .before .before .pre))
+    (λ c. omega (arith, c .before .before .before .pre, length-set (c .before .before .before .args .out .now) (c .before .before .before .args .at) (c .before .digit-byte .result)))
+    (λ c. omega (arith, c .before .before .before .pre))
+    (λ c. simp length-set)
+    (λ c. two-put _ _ _ _ _ (c .before .before .before .pre .0) (c .before .before .before .pre .1) (c .before .digit-byte .ensures) (c .digit-byte2 .ensures)))
