@@ -1,7 +1,7 @@
 -- The bytes of each kind of line, in the pieces in which they are written, and their lengths. Assumes nothing.
 use mathlib.Core.Path.{_≡_, refl, sym, _∙_}
 use mathlib.Core.List.{List, [], _∷_, _++_, append-assoc}
-use Prim.Native.Nat.{ℕ, _+_}
+use Prim.Native.Nat.{ℕ, _+_, _≤_, _<_}
 use native.Mathlib.Omega.{arith}
 use lib.ListN.{length, length-append}
 use Rattle.complex.specs.declared.Complex.{Complex}
@@ -12,7 +12,7 @@ use Rattle.expression.specs.declared.ExpressionFunction.{ExpressionFunction}
 use Rattle.expression.specs.Codes.{infixCode, prefixCode, functionCode}
 use Rattle.store.specs.declared.node.Expression.{Expression}
 use Rattle.text.specs.Writing.{inDecimal, inHex, line}
-use Rattle.text.proofs.Putting.{hex-length}
+use Rattle.text.proofs.Putting.{hex-length, few-digits}
 use Rattle.listing.specs.Listings.{functionNames, prefixNames, infixNames}
 use Rattle.listing.specs.Order.{named, leafFields}
 use Rattle.listing.specs.Ordering.{textFields, lineText}
@@ -100,3 +100,30 @@ unfolding lineText textFields line
 infix-length o a b =
     rw (then-rest (named infixNames (infixCode o)) 9 (inDecimal a ++ (9 ∷ ending (inDecimal b) 10)), then-rest (inDecimal a) 9 (ending (inDecimal b) 10))
     (omega (arith, length-append (ending (named infixNames (infixCode o)) 9) (ending (inDecimal a) 9 ++ ending (inDecimal b) 10), ending-length (named infixNames (infixCode o)) 9, two-fields (inDecimal a) (inDecimal b), infix-letter o))
+
+-- ---- no line is long
+
+pub name-short : (f : ExpressionFunction) → length (named functionNames (functionCode f)) ≤ 4
+name-short ExpressionFunction.Sine = omega arith
+name-short ExpressionFunction.Cosine = omega arith
+name-short ExpressionFunction.Exponent = omega arith
+name-short ExpressionFunction.SquareRoot = omega arith
+name-short ExpressionFunction.Cis = omega arith
+
+pub decimal-short : (n : ℕ) → n < 18446744073709551616 → length (inDecimal n) ≤ 20
+decimal-short n h = few-digits 19 n (omega (arith, h))
+
+pub variable-bound : {e : Expression} {v : ℕ} → e ≡ Expression.Variable v → v < 18446744073709551616 → length (lineText e) ≤ 23
+variable-bound {v = v} q h = rw (q, variable-length v) (omega (arith, decimal-short v h))
+
+pub cell-bound : {e : Expression} {r i : ℕ} → e ≡ Expression.Address r i → r < 18446744073709551616 → i < 18446744073709551616 → length (lineText e) ≤ 44
+cell-bound {r = r} {i = i} q h o = rw (q, cell-length r i) (omega (arith, decimal-short r h, decimal-short i o))
+
+pub call-bound : {e : Expression} {f : ExpressionFunction} {a : ℕ} → e ≡ Expression.FunctionCall f a → a < 18446744073709551616 → length (lineText e) ≤ 28
+call-bound {f = f} {a = a} q h = rw (q, call-length f a) (omega (arith, decimal-short a h, name-short f))
+
+pub prefix-bound : {e : Expression} {o : PrefixOperator} {a : ℕ} → e ≡ Expression.Prefix o a → a < 18446744073709551616 → length (lineText e) ≤ 25
+prefix-bound {o = o} {a = a} q h = rw (q, prefix-length o a) (omega (arith, decimal-short a h))
+
+pub infix-bound : {e : Expression} {o : InfixOperator} {a b : ℕ} → e ≡ Expression.Infix o a b → a < 18446744073709551616 → b < 18446744073709551616 → length (lineText e) ≤ 46
+infix-bound {o = o} {a = a} {b = b} q h k = rw (q, infix-length o a b) (omega (arith, decimal-short a h, decimal-short b k))

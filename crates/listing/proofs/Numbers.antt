@@ -7,6 +7,9 @@ use native.Mathlib.Omega.{arith}
 pub next-two : (at : ℕ) → at + 1 + 1 ≡ at + 2
 next-two at = omega arith
 
+pub from-zero : (n : ℕ) → 0 + n ≡ n
+from-zero n = omega arith
+
 pub unsaid : (b : Bool) → not b ≡ true → b ≡ false
 unsaid true e = sym e
 unsaid false e = refl

@@ -1,7 +1,7 @@
 // A tree written as a listing: how long its lines are, and the lines themselves.
 ghost use mathlib.Core.Path.{_≡_};
 ghost use mathlib.Core.List.{[], _∷_, _++_};
-ghost use Prim.Native.Nat.{_+_, _≤_};
+ghost use Prim.Native.Nat.{_+_, _*_, _≤_};
 ghost use lib.ListN.{length};
 ghost use Rattle.store.specs.declared.node.Expression.{Expression};
 ghost use Rattle.expression.specs.Codes.{infixCode, prefixCode, functionCode};
@@ -84,6 +84,21 @@ pub fn line_length(e: Expression) -> usize
         Expression::Infix(_, left, right) => {
             decimal_length(left as u64) + decimal_length(right as u64) + 6
         }
+    }
+}
+
+// No line is longer than 64 bytes, whatever its numbers are.
+fn line_bound(e: Expression) -> usize
+    ensures { λ r. ⌜ (length (lineText e) ≤ r) × (r ≤ 64) ⌝ }
+{
+    match e {
+        Expression::Number(_) => 36,
+        Expression::PiConstant => 2,
+        Expression::Variable(_number) => 23,
+        Expression::Address(_region, _index) => 44,
+        Expression::FunctionCall(_f, _child) => 28,
+        Expression::Prefix(_o, _child) => 25,
+        Expression::Infix(_o, _left, _right) => 46,
     }
 }
 
@@ -231,6 +246,30 @@ fn write_lines(
     at
 }
 
+// The same where there is room for the longest lines: they need not be measured.
+fn write_lines_wide(
+    tag: &[u64],
+    first: &[u64],
+    second: &[u64],
+    table: &[u64],
+    count: usize,
+    out: &mut [u8],
+) -> usize
+    requires { ⌜ (count ≤ 1024) × (64 * count ≤ length (now out)) ⌝ }
+    ensures { λ r. ⌜ Put (now (out .entry)) 0 (linesText (now (tag .entry)) (now (first .entry)) (now (second .entry)) (now (table .entry)) count) r (now (out .exit)) ⌝ }
+    ensures fits { λ r. ⌜ r ≤ 64 * count ⌝ }
+{
+    let mut at: usize = 0;
+    let mut i: usize = 0;
+    while i < count {
+        let e = line_at(tag, first, second, table, i);
+        let _bound = line_bound(e);
+        at = write_line(out, at, e);
+        i += 1;
+    }
+    at
+}
+
 // The tree of a node, written at the start of the output. It is measured before the first byte is written, so that a
 // refusal leaves the output as it was. The table is used up.
 pub fn write_listing(
@@ -247,6 +286,9 @@ pub fn write_listing(
     let count = visit(tag, first, second, table, root, NONE, 0);
     if 1024 < count {
         return Written::Refused(Refusal::LongList(0));
+    }
+    if 64 * count <= out.len() {
+        return Written::Bytes(write_lines_wide(tag, first, second, table, count, out));
     }
     let length = text_length(tag, first, second, table, count);
     if out.len() < length {

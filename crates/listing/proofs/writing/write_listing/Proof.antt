@@ -1,5 +1,7 @@
 -- `write_listing` meets its contract. Assumes nothing.
+use mathlib.Core.Path.{_∙_}
 use native.Mathlib.Omega.{arith}
+use Rattle.listing.proofs.Numbers.{from-zero}
 use Rattle.listing.proofs.Texts.{none-listed, too-long, no-room, wrote}
 use borrow.Author.Needs.{needs}
 use Rattle.listing.proofs.writing.write_listing.Statement.{statement}
@@ -12,10 +14,15 @@ write-listing-spec =
     (λ c κs. search needs)
     (λ c. search needs)
     (λ c. λ link n h o. too-long h o (c .before .before .before .visit .ensures link n h (λ _. o) (none-listed _ n _ (c .before .before .before .before .before .before .before .before .before .before .pre))) _ (c .if1 .taken))
-    (λ c κs. c .before .if1 .left)
-    (λ c. search needs)
-    (λ c. λ link n h o. no-room h o (c .before .before .before .before .before .before .visit .ensures link n h (λ _. o) (none-listed _ n _ (c .before .before .before .before .before .before .before .before .before .before .before .before .before .pre))) (c .before .before .before .if1 .left) _ _ (c .before .text-length .ensures) (c .if2 .taken))
-    (λ c κs. omega (arith, c .before .before .if2 .left, c .before .before .before .text-length .ensures))
+    (λ c. omega (arith, c .if1 .left))
+    (λ c κs. (c .before .before .before .if1 .left, c .before .before .if2 .taken))
     (λ c. search needs)
     (λ c. search needs)
-    (λ c. λ link n h o. wrote h o (c .before .before .before .before .before .before .before .before .before .before .before .visit .ensures link n h (λ _. o) (none-listed _ n _ (c .before .before .before .before .before .before .before .before .before .before .before .before .before .before .before .before .before .before .pre))) (c .before .before .before .before .before .before .before .before .if1 .left) _ _ _ _ (c .before .before .before .before .before .before .text-length .ensures) (c .before .before .before .before .before .if2 .left) (c .before .before .write-lines .ensures)))
+    (λ c. λ link n h o. wrote h o (c .before .before .before .before .before .before .before .before .before .visit .ensures link n h (λ _. o) (none-listed _ n _ (c .before .before .before .before .before .before .before .before .before .before .before .before .before .before .before .before .pre))) (c .before .before .before .before .before .before .if1 .left) _ _ _ _ (c .before .before .write-lines-wide .ensures .0 .place ∙ from-zero _) (omega (arith, c .before .before .write-lines-wide .ensures .1, c .before .before .before .before .before .if2 .taken)) (c .before .before .write-lines-wide .ensures .0))
+    (λ c κs. c .before .before .if1 .left)
+    (λ c. search needs)
+    (λ c. λ link n h o. no-room h o (c .before .before .before .before .before .before .before .visit .ensures link n h (λ _. o) (none-listed _ n _ (c .before .before .before .before .before .before .before .before .before .before .before .before .before .before .pre))) (c .before .before .before .before .if1 .left) _ _ (c .before .text-length .ensures) (c .if3 .taken))
+    (λ c κs. omega (arith, c .before .before .if3 .left, c .before .before .before .text-length .ensures))
+    (λ c. search needs)
+    (λ c. search needs)
+    (λ c. λ link n h o. wrote h o (c .before .before .before .before .before .before .before .before .before .before .before .before .visit .ensures link n h (λ _. o) (none-listed _ n _ (c .before .before .before .before .before .before .before .before .before .before .before .before .before .before .before .before .before .before .before .pre))) (c .before .before .before .before .before .before .before .before .before .if1 .left) _ _ _ _ (c .before .before .before .before .before .before .text-length .ensures) (c .before .before .before .before .before .if3 .left) (c .before .before .write-lines .ensures)))
