@@ -1,12 +1,13 @@
 // The written order of a tree: a table of its nodes, each once, in the order in which evaluation first finishes them.
 // Word i of the table is the node of line i; word 4096 + k is the line of node k, if that line's node is k.
 ghost use mathlib.Core.Path.{_≡_};
+ghost use Rattle.store.specs.Nodes.{expressionOf};
 ghost use Rattle.listing.specs.Ordering.{childrenOf, Tells, Visits, Enters};
 use super::entry_at;
 use store::memory::put;
 use store::memory::read;
-use store::node::Expression;
-use store::reading::expression_at;
+use store::node::Fields;
+use store::reading::fields_at;
 
 // Above all nodes: where there is no child.
 pub const NONE: usize = 0xFFFF_FFFF_FFFF_FFFF;
@@ -16,35 +17,33 @@ pub struct Children {
     pub right: usize,
 }
 
-fn children_of(e: Expression) -> Children
-    ensures { λ r. ⌜ r ≡ childrenOf e ⌝ }
+// The operands of a node, by its kind alone: no expression is made of it.
+fn children_in(f: Fields) -> Children
+    ensures { λ r. ⌜ r ≡ childrenOf (expressionOf f) ⌝ }
 {
-    match e {
-        Expression::FunctionCall(_, child) => Children {
-            left: child,
-            right: NONE,
-        },
-        Expression::Prefix(_, child) => Children {
-            left: child,
-            right: NONE,
-        },
-        Expression::Infix(_, left, right) => Children { left, right },
-        Expression::Number(_) => Children {
+    let kind = f.code % 8;
+    let left = f.first as usize;
+    let right = f.second as usize;
+    match kind {
+        1 => Children {
             left: NONE,
             right: NONE,
         },
-        Expression::PiConstant => Children {
+        2 => Children {
             left: NONE,
             right: NONE,
         },
-        Expression::Variable(_) => Children {
+        3 => Children {
             left: NONE,
             right: NONE,
         },
-        Expression::Address(_, _) => Children {
+        4 => Children {
             left: NONE,
             right: NONE,
         },
+        5 => Children { left, right: NONE },
+        6 => Children { left, right: NONE },
+        _ => Children { left, right },
     }
 }
 
@@ -93,7 +92,7 @@ pub fn visit(
     if is_listed(table, node, count) {
         return count;
     }
-    let c = children_of(expression_at(tag, first, second, node));
+    let c = children_in(fields_at(tag, first, second, node));
     let left = visit(tag, first, second, table, c.left, node, count);
     let right = visit(tag, first, second, table, c.right, node, left);
     enter(table, node, right)

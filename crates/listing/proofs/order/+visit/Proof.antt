@@ -1,5 +1,7 @@
 -- `visit` meets its contract: each return is a law of proofs/Visiting. The measure is `below`. Assumes nothing.
+use mathlib.Core.Path.{ap}
 use native.Mathlib.Omega.{arith}
+use Rattle.store.specs.Nodes.{expressionOf}
 use Rattle.listing.proofs.Visiting.{visit-none, visit-found, visit-entered}
 use borrow.Author.Needs.{needs}
 use Prim.Native.Nat.{ℕ, _<_}
@@ -9,8 +11,8 @@ use Rattle.listing.proofs.order.visit.Reads as visit
 use Rattle.listing.proofs.order.visit.Kinds as visit-kinds
 use Rattle.listing.proofs.order.+visit.Lts-visit as visit-lts
 use Rattle.listing.proofs.order.is_listed.Reads as is-listed-reads
-use Rattle.store.proofs.reading.expression_at.Reads as expression-at-reads
-use Rattle.listing.proofs.order.children_of.Reads as children-of-reads
+use Rattle.store.proofs.reading.fields_at.Reads as fields-at-reads
+use Rattle.listing.proofs.order.children_in.Reads as children-in-reads
 use Rattle.listing.proofs.order.enter.Reads as enter-reads
 use Rattle.listing.proofs.order.+visit.{statement}
 use Rattle.listing.proofs.order.+visit.Tie.{close}
@@ -24,47 +26,47 @@ visit-at t = and 4 visit-kinds.ps (is 4 visit-kinds.ps μ-visit t) visit.Pre
 abbrev visit-below : ℕ → In 4 visit-kinds.ps
 visit-below t = and 4 visit-kinds.ps (falls 4 visit-kinds.ps _<_ μ-visit t) visit.Pre
 
-visit-returns : (t : ℕ) → visit-lts.Need-returns (is-listed-reads.Asked, is-listed-reads.Learnt, expression-at-reads.Asked, expression-at-reads.Learnt, children-of-reads.Asked, children-of-reads.Learnt, visit-below t, visit.Post, enter-reads.Asked, enter-reads.Learnt) (visit-at t) visit.Post
+visit-returns : (t : ℕ) → visit-lts.Need-returns (is-listed-reads.Asked, is-listed-reads.Learnt, fields-at-reads.Asked, fields-at-reads.Learnt, children-in-reads.Asked, children-in-reads.Learnt, visit-below t, visit.Post, enter-reads.Asked, enter-reads.Learnt) (visit-at t) visit.Post
 visit-returns t c = λ link n h b l. visit-none h b l (c .if1 .taken)
 
-visit-is-listed-requires : (t : ℕ) → visit-lts.Need-is-listed-requires (is-listed-reads.Asked, is-listed-reads.Learnt, expression-at-reads.Asked, expression-at-reads.Learnt, children-of-reads.Asked, children-of-reads.Learnt, visit-below t, visit.Post, enter-reads.Asked, enter-reads.Learnt) (visit-at t) visit.Post
+visit-is-listed-requires : (t : ℕ) → visit-lts.Need-is-listed-requires (is-listed-reads.Asked, is-listed-reads.Learnt, fields-at-reads.Asked, fields-at-reads.Learnt, children-in-reads.Asked, children-in-reads.Learnt, visit-below t, visit.Post, enter-reads.Asked, enter-reads.Learnt) (visit-at t) visit.Post
 visit-is-listed-requires t c κs = search needs
 
-visit-same-length : (t : ℕ) → visit-lts.Need-same-length (is-listed-reads.Asked, is-listed-reads.Learnt, expression-at-reads.Asked, expression-at-reads.Learnt, children-of-reads.Asked, children-of-reads.Learnt, visit-below t, visit.Post, enter-reads.Asked, enter-reads.Learnt) (visit-at t) visit.Post
+visit-same-length : (t : ℕ) → visit-lts.Need-same-length (is-listed-reads.Asked, is-listed-reads.Learnt, fields-at-reads.Asked, fields-at-reads.Learnt, children-in-reads.Asked, children-in-reads.Learnt, visit-below t, visit.Post, enter-reads.Asked, enter-reads.Learnt) (visit-at t) visit.Post
 visit-same-length t c = search needs
 
-visit-returns-2 : (t : ℕ) → visit-lts.Need-returns-2 (is-listed-reads.Asked, is-listed-reads.Learnt, expression-at-reads.Asked, expression-at-reads.Learnt, children-of-reads.Asked, children-of-reads.Learnt, visit-below t, visit.Post, enter-reads.Asked, enter-reads.Learnt) (visit-at t) visit.Post
+visit-returns-2 : (t : ℕ) → visit-lts.Need-returns-2 (is-listed-reads.Asked, is-listed-reads.Learnt, fields-at-reads.Asked, fields-at-reads.Learnt, children-in-reads.Asked, children-in-reads.Learnt, visit-below t, visit.Post, enter-reads.Asked, enter-reads.Learnt) (visit-at t) visit.Post
 visit-returns-2 t c = λ link n h b l. visit-found h b l (c .before .before .before .if1 .left) (c .before .is-listed .ensures) (c .if2 .taken)
 
-visit-expression-at-requires : (t : ℕ) → visit-lts.Need-expression-at-requires (is-listed-reads.Asked, is-listed-reads.Learnt, expression-at-reads.Asked, expression-at-reads.Learnt, children-of-reads.Asked, children-of-reads.Learnt, visit-below t, visit.Post, enter-reads.Asked, enter-reads.Learnt) (visit-at t) visit.Post
-visit-expression-at-requires t c κs = search needs
+visit-fields-at-requires : (t : ℕ) → visit-lts.Need-fields-at-requires (is-listed-reads.Asked, is-listed-reads.Learnt, fields-at-reads.Asked, fields-at-reads.Learnt, children-in-reads.Asked, children-in-reads.Learnt, visit-below t, visit.Post, enter-reads.Asked, enter-reads.Learnt) (visit-at t) visit.Post
+visit-fields-at-requires t c κs = search needs
 
-visit-children-of-requires : (t : ℕ) → visit-lts.Need-children-of-requires (is-listed-reads.Asked, is-listed-reads.Learnt, expression-at-reads.Asked, expression-at-reads.Learnt, children-of-reads.Asked, children-of-reads.Learnt, visit-below t, visit.Post, enter-reads.Asked, enter-reads.Learnt) (visit-at t) visit.Post
-visit-children-of-requires t c κs = search needs
+visit-children-in-requires : (t : ℕ) → visit-lts.Need-children-in-requires (is-listed-reads.Asked, is-listed-reads.Learnt, fields-at-reads.Asked, fields-at-reads.Learnt, children-in-reads.Asked, children-in-reads.Learnt, visit-below t, visit.Post, enter-reads.Asked, enter-reads.Learnt) (visit-at t) visit.Post
+visit-children-in-requires t c κs = search needs
 
-visit-visit-requires : (t : ℕ) → visit-lts.Need-visit-requires (is-listed-reads.Asked, is-listed-reads.Learnt, expression-at-reads.Asked, expression-at-reads.Learnt, children-of-reads.Asked, children-of-reads.Learnt, visit-below t, visit.Post, enter-reads.Asked, enter-reads.Learnt) (visit-at t) visit.Post
+visit-visit-requires : (t : ℕ) → visit-lts.Need-visit-requires (is-listed-reads.Asked, is-listed-reads.Learnt, fields-at-reads.Asked, fields-at-reads.Learnt, children-in-reads.Asked, children-in-reads.Learnt, visit-below t, visit.Post, enter-reads.Asked, enter-reads.Learnt) (visit-at t) visit.Post
 visit-visit-requires t c κs = (omega (arith, c .before .before .before .before .before .before .if1 .left), tt)
 
-visit-visit-requires-2 : (t : ℕ) → visit-lts.Need-visit-requires-2 (is-listed-reads.Asked, is-listed-reads.Learnt, expression-at-reads.Asked, expression-at-reads.Learnt, children-of-reads.Asked, children-of-reads.Learnt, visit-below t, visit.Post, enter-reads.Asked, enter-reads.Learnt) (visit-at t) visit.Post
+visit-visit-requires-2 : (t : ℕ) → visit-lts.Need-visit-requires-2 (is-listed-reads.Asked, is-listed-reads.Learnt, fields-at-reads.Asked, fields-at-reads.Learnt, children-in-reads.Asked, children-in-reads.Learnt, visit-below t, visit.Post, enter-reads.Asked, enter-reads.Learnt) (visit-at t) visit.Post
 visit-visit-requires-2 t c κs = (omega (arith, c .before .before .before .before .before .before .before .before .before .before .if1 .left), tt)
 
-visit-enter-requires : (t : ℕ) → visit-lts.Need-enter-requires (is-listed-reads.Asked, is-listed-reads.Learnt, expression-at-reads.Asked, expression-at-reads.Learnt, children-of-reads.Asked, children-of-reads.Learnt, visit-below t, visit.Post, enter-reads.Asked, enter-reads.Learnt) (visit-at t) visit.Post
+visit-enter-requires : (t : ℕ) → visit-lts.Need-enter-requires (is-listed-reads.Asked, is-listed-reads.Learnt, fields-at-reads.Asked, fields-at-reads.Learnt, children-in-reads.Asked, children-in-reads.Learnt, visit-below t, visit.Post, enter-reads.Asked, enter-reads.Learnt) (visit-at t) visit.Post
 visit-enter-requires t c κs = search needs
 
-visit-same-length-2 : (t : ℕ) → visit-lts.Need-same-length-2 (is-listed-reads.Asked, is-listed-reads.Learnt, expression-at-reads.Asked, expression-at-reads.Learnt, children-of-reads.Asked, children-of-reads.Learnt, visit-below t, visit.Post, enter-reads.Asked, enter-reads.Learnt) (visit-at t) visit.Post
+visit-same-length-2 : (t : ℕ) → visit-lts.Need-same-length-2 (is-listed-reads.Asked, is-listed-reads.Learnt, fields-at-reads.Asked, fields-at-reads.Learnt, children-in-reads.Asked, children-in-reads.Learnt, visit-below t, visit.Post, enter-reads.Asked, enter-reads.Learnt) (visit-at t) visit.Post
 visit-same-length-2 t c = search needs
 
-visit-returns-3 : (t : ℕ) → visit-lts.Need-returns-3 (is-listed-reads.Asked, is-listed-reads.Learnt, expression-at-reads.Asked, expression-at-reads.Learnt, children-of-reads.Asked, children-of-reads.Learnt, visit-below t, visit.Post, enter-reads.Asked, enter-reads.Learnt) (visit-at t) visit.Post
-visit-returns-3 t c = λ link n h b l. let v = c .before .before .before .before .before .before .before .before .before .before .visit .ensures link n h (λ q. omega (arith, q, b (c .before .before .before .before .before .before .before .before .before .before .before .before .before .before .before .before .before .if1 .left))) l in let w = c .before .before .before .before .before .before .visit2 .ensures link n h (λ q. omega (arith, q, b (c .before .before .before .before .before .before .before .before .before .before .before .before .before .before .before .before .before .if1 .left))) (v .listed) in visit-entered h b l (c .before .before .before .before .before .before .before .before .before .before .before .before .before .before .before .before .before .if1 .left) (c .before .before .before .before .before .before .before .before .before .before .before .before .before .before .before .is-listed .ensures) (c .before .before .before .before .before .before .before .before .before .before .before .before .before .before .if2 .left) (c .before .before .before .before .before .before .before .before .before .before .before .before .before .expression-at .ensures) (c .before .before .before .before .before .before .before .before .before .before .before .before .children-of .ensures) v w (c .before .before .enter .ensures)
+visit-returns-3 : (t : ℕ) → visit-lts.Need-returns-3 (is-listed-reads.Asked, is-listed-reads.Learnt, fields-at-reads.Asked, fields-at-reads.Learnt, children-in-reads.Asked, children-in-reads.Learnt, visit-below t, visit.Post, enter-reads.Asked, enter-reads.Learnt) (visit-at t) visit.Post
+visit-returns-3 t c = λ link n h b l. let v = c .before .before .before .before .before .before .before .before .before .before .visit .ensures link n h (λ q. omega (arith, q, b (c .before .before .before .before .before .before .before .before .before .before .before .before .before .before .before .before .before .if1 .left))) l in let w = c .before .before .before .before .before .before .visit2 .ensures link n h (λ q. omega (arith, q, b (c .before .before .before .before .before .before .before .before .before .before .before .before .before .before .before .before .before .if1 .left))) (v .listed) in visit-entered h b l (c .before .before .before .before .before .before .before .before .before .before .before .before .before .before .before .before .before .if1 .left) (c .before .before .before .before .before .before .before .before .before .before .before .before .before .before .before .is-listed .ensures) (c .before .before .before .before .before .before .before .before .before .before .before .before .before .before .if2 .left) (ap expressionOf (c .before .before .before .before .before .before .before .before .before .before .before .before .before .fields-at .ensures)) (c .before .before .before .before .before .before .before .before .before .before .before .before .children-in .ensures) v w (c .before .before .enter .ensures)
 
 pub +visit-spec : {M : Type 1} → statement M
-+visit-spec = close μ-visit λ t. visit-lts.spec (is-listed-reads.Asked, is-listed-reads.Learnt, expression-at-reads.Asked, expression-at-reads.Learnt, children-of-reads.Asked, children-of-reads.Learnt, visit-below t, visit.Post, enter-reads.Asked, enter-reads.Learnt) (visit-at t) visit.Post
++visit-spec = close μ-visit λ t. visit-lts.spec (is-listed-reads.Asked, is-listed-reads.Learnt, fields-at-reads.Asked, fields-at-reads.Learnt, children-in-reads.Asked, children-in-reads.Learnt, visit-below t, visit.Post, enter-reads.Asked, enter-reads.Learnt) (visit-at t) visit.Post
     (visit-returns t)
     (visit-is-listed-requires t)
     (visit-same-length t)
     (visit-returns-2 t)
-    (visit-expression-at-requires t)
-    (visit-children-of-requires t)
+    (visit-fields-at-requires t)
+    (visit-children-in-requires t)
     (visit-visit-requires t)
     (visit-visit-requires-2 t)
     (visit-enter-requires t)

@@ -1,0 +1,34 @@
+-- `children_in` meets its contract: by the kind. Assumes nothing.
+use mathlib.Core.Path.{_≡_, refl}
+use Prim.Native.Nat.{ℕ, zero, suc}
+use Rattle.store.specs.Nodes.{expressionAs, expressionOf}
+use Rattle.listing.specs.Ordering.{childrenOf, children}
+use Rattle.listing.proofs.order.children_in.Statement.{statement}
+use Rattle.listing.proofs.order.children_in.Tie as tie
+
+-- a kind that is none of the first six
+both : (k o a b : ℕ)
+    → ((((((Unit {0} × (k ≡ 1 → ⊥)) × (k ≡ 2 → ⊥)) × (k ≡ 3 → ⊥)) × (k ≡ 4 → ⊥)) × (k ≡ 5 → ⊥)) × (k ≡ 6 → ⊥))
+    → children a b ≡ childrenOf (expressionAs k o a b)
+unfolding expressionAs childrenOf
+both zero o a b h = refl
+both (suc zero) o a b h = absurd (h .0 .0 .0 .0 .0 .1 refl)
+both (suc (suc zero)) o a b h = absurd (h .0 .0 .0 .0 .1 refl)
+both (suc (suc (suc zero))) o a b h = absurd (h .0 .0 .0 .1 refl)
+both (suc (suc (suc (suc zero)))) o a b h = absurd (h .0 .0 .1 refl)
+both (suc (suc (suc (suc (suc zero))))) o a b h = absurd (h .0 .1 refl)
+both (suc (suc (suc (suc (suc (suc zero)))))) o a b h = absurd (h .1 refl)
+both (suc (suc (suc (suc (suc (suc (suc k))))))) o a b h = refl
+
+pub children-in-spec : {M : Type 1} → statement M
+unfolding expressionOf expressionAs childrenOf
+children-in-spec =
+    tie.close
+    (tie.spec
+    (λ c. rw (c .match .keys1) refl)
+    (λ c. rw (c .match .keys2) refl)
+    (λ c. rw (c .match .keys3) refl)
+    (λ c. rw (c .match .keys4) refl)
+    (λ c. rw (c .match .keys5) refl)
+    (λ c. rw (c .match .keys6) refl)
+    (λ c. both _ _ _ _ (c .match .rest)))

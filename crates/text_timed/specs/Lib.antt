@@ -1,0 +1,2 @@
+-- What the contracts of `text_timed` cite.
+pub mod Packed
