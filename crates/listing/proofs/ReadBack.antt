@@ -30,7 +30,7 @@ use Rattle.text.specs.Writing.{inDecimal, inHex, line}
 use Rattle.text.specs.Lines as Lines
 use Rattle.text.specs.Lines.{goes, lines, atLine, afterLine}
 use Rattle.text.proofs.RoundTrip.{decimal-field, hex-field}
-use Rattle.listing.specs.Listings.{functionNames, prefixNames, infixNames, childField, numberFields, variableFields, cellFields, functionFields, prefixFields, infixFields, fieldsOf, nodeFields, Known, known, none, stored, formed, nodeLine, listingLine, accepted, rooted, last, whole, listing, mostLines}
+use Rattle.listing.specs.Listings.{Swap, functionNames, prefixNames, infixNames, childField, numberFields, variableFields, cellFields, functionFields, prefixFields, infixFields, fieldsOf, nodeFields, Known, known, none, stored, formed, nodeLine, listingLine, accepted, rooted, last, whole, listing, mostLines}
 use Rattle.listing.specs.Order.{finished, order, named, leafFields, lineFields, text, textOf}
 use Rattle.listing.specs.Ordering.{KidsIn, Laid, empty, more}
 use Rattle.listing.proofs.Orders.{all-is, true-not-false, once-new, finished-laid, not-yet}
@@ -247,3 +247,11 @@ reads-back t p l substituting room few r =
     let e = all-read substituting room (order t) [] (suc mostLines) (λ k h. absurd (omega arith)) f (omega (arith, few)) few r in
     let o = order-ends t p in
     ap whole e ∙ ap (λ ts. rooted ts [] (storeOf room (order t))) (o .is-order) ∙ rooted-last (o .before) t (storeOf room (order t))
+
+-- so whatever is read of it is written as the same bytes
+pub writes-again : (t : Tree) → Proper t → Limited t → (substituting : Bool) (room : ℕ) → length (order t) ≤ 1024 → length (order t) ≤ room
+    → (u : Tree) (swaps : List Swap) (σ : State) → listing substituting (textOf t) (fresh room 0) ≡ accepted u swaps σ → textOf u ≡ textOf t
+writes-again t p l substituting room few r u swaps σ e =
+    let q = sym (reads-back t p l substituting room few r) ∙ e in
+    let z : t ≡ u = cc in
+    rw z

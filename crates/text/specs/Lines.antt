@@ -16,7 +16,7 @@ unfoldable pub afterLine : {S R : Type 0} → Line S R → (S → List ℕ → W
 afterLine (goes s rest) next = next s rest
 afterLine (stops why) next = refused why
 
--- "the empty rest after a final LF is no line"; any other rest has a first byte
+-- the empty rest after the last LF is no line; any other rest has a first byte
 unfoldable pub atLine : {S R : Type 0} → S → List ℕ → (ℕ → List ℕ → Whole S R) → Whole S R
 atLine s [] next = read s
 atLine s (b ∷ bs) next = next b bs
