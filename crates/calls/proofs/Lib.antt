@@ -1,0 +1,3 @@
+-- The laws that the proofs of this crate cite, and the theorems about its public calls.
+mod Framing
+pub mod OneAnswer

@@ -1,0 +1,17 @@
+-- `evaluate` meets its contract. Assumes nothing.
+use Rattle.calls.proofs.Framing.{ends, zeroed-alike}
+use borrow.Author.Needs.{needs}
+use Rattle.calls.proofs.evaluate.Statement.{statement}
+use Rattle.calls.proofs.evaluate.Tie as tie
+
+pub evaluate-spec : {M : Type 1} → statement M
+evaluate-spec =
+    tie.close
+    (tie.spec
+    (λ c κs. search needs)
+    (λ c κs. search needs)
+    (λ c. search needs)
+    (λ c. search needs)
+    (λ c. search needs)
+    (λ c. search needs)
+    (λ c. ends _ _ (c .before .before .before .before .before .before .before .before .before .before .before .before .before .before .before .before .before .before .before .before .before .before .evaluate-texts .ensures) (c .before .before .before .before .before .before .before .before .clear-work .ensures) (zeroed-alike _ _ (c .before .before .before .before .before .before .before .before .before .before .before .before .before .before .before .before .before .before .before .before .before .before .evaluate-texts .kept .1 .1 .0) (c .before .before .before .before .before .before .before .before .before .before .before .before .before .before .before .before .before .before .before .before .before .before .evaluate-texts .kept .1 .1 .1 .0) (c .before .before .before .before .before .before .before .before .before .before .before .before .before .before .before .before .before .before .before .before .before .before .evaluate-texts .kept .1 .1 .1 .1 .0) (c .before .before .before .before .before .before .before .before .before .before .before .before .before .before .before .before .before .before .before .before .before .before .evaluate-texts .kept .1 .1 .1 .1 .1 .0) (c .before .before .before .before .before .before .before .before .before .before .before .before .before .before .before .before .before .before .before .before .before .before .evaluate-texts .kept .1 .1 .1 .1 .1 .1 .0))))

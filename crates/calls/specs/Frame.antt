@@ -1,0 +1,60 @@
+-- What the steps of a call ensure, and each call's promise as one equation. Only connecting.
+use mathlib.Core.Path.{_≡_}
+use Prim.Native.Nat.{ℕ, _<_}
+use mathlib.Core.List.{List}
+use Rattle.store.specs.declared.Added.{Added}
+use Rattle.store.specs.Memory.{Memory, memory, room, treeAt, stateOf}
+use Rattle.store.specs.Held.{Holds, seen}
+use Rattle.listing.specs.declared.writing.Written.{Written}
+use Rattle.sheet.specs.declared.Sheet.{Sheet}
+use Rattle.sheet.specs.Table.{rowsOf, Held}
+use Rattle.evaluation.specs.declared.real.Real.{Real}
+use Rattle.calls.specs.declared.Evaluated.{Evaluated}
+use Rattle.calls.specs.declared.Job.{Job}
+use Rattle.calls.specs.Lent.{Work, capacity, zeroed}
+use Rattle.calls.specs.Calls as Calls
+use Rattle.calls.specs.Calls.{ready, job, writtenAnswer, evaluateCall, substituteCall, toRealCall}
+
+-- ---- a job that was read
+
+abbrev pub jobSeen : (m : Memory) (table : List ℕ) → Job → Calls.Job
+jobSeen m table (Job.Ready root nodes rows) = ready (treeAt m root) (stateOf m nodes 0) (rowsOf table rows)
+jobSeen m table (Job.Refused why) = Calls.refused why
+
+abbrev pub JobAfter : (m : Memory) (table : List ℕ) → Job → Type 0
+JobAfter m table (Job.Ready root nodes rows) = (root < nodes) × Holds m nodes × Held table rows
+JobAfter m table (Job.Refused why) = Unit {0}
+
+pub record ReadsJob (list values : List ℕ) (r : Job) (m m′ : Memory) (table : List ℕ) : Type 0 where
+  pub answer : jobSeen m′ table r ≡ job (room m) list values
+  pub after : JobAfter m′ table r
+
+-- a sheet's answer after that of a listing
+abbrev pub sheetAdded : (root nodes : ℕ) → Sheet → Job
+sheetAdded root nodes (Sheet.Read rows) = Job.Ready root nodes rows
+sheetAdded root nodes (Sheet.Refused why) = Job.Refused why
+
+-- ---- a result that is written
+
+abbrev pub Within : (m : Memory) → Added → Type 0
+Within m (Added.Node i n calls) = Holds m n × (i < n)
+Within m (Added.Refused why) = Unit {0}
+
+abbrev pub WritesAnswer : (tag first second : List ℕ) (x : Added) (r : Written) (out out′ : List ℕ) → Type 0
+WritesAnswer tag first second x r out out′ =
+    (link : List ℕ) → Within (memory tag first second link) x → (r, out′) ≡ writtenAnswer out (seen x (memory tag first second link))
+
+-- ---- the promises: answer, output bytes and work memory
+
+abbrev pub Evaluates : (list values : List ℕ) (w : Work) (r : Evaluated) (w′ : Work) → Type 0
+Evaluates list values w r w′ = _≡_ {A = Evaluated × Work} (r, w′) (evaluateCall (capacity w) list values, zeroed w)
+
+abbrev pub Substitutes : (list out : List ℕ) (w : Work) (r : Written) (out′ : List ℕ) (w′ : Work) → Type 0
+Substitutes list out w r out′ w′ = _≡_ {A = (Written × List ℕ) × Work} ((r, out′), w′) (substituteCall (capacity w) list out, zeroed w)
+
+-- before the memory is cleared
+abbrev pub SubstitutesTexts : (list out : List ℕ) (w : Work) (r : Written) (out′ : List ℕ) → Type 0
+SubstitutesTexts list out w r out′ = _≡_ {A = Written × List ℕ} (r, out′) (substituteCall (capacity w) list out)
+
+abbrev pub ReadsReal : (list : List ℕ) (w : Work) (r : Real) (w′ : Work) → Type 0
+ReadsReal list w r w′ = _≡_ {A = Real × Work} (r, w′) (toRealCall (capacity w) list, zeroed w)

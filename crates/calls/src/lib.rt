@@ -1,0 +1,182 @@
+// The public calls: bytes in, an answer out, the output slice for a result that is written, and work memory that the
+// caller lends. They ask nothing of the caller: whatever the bytes and the memory hold, the answer, the output and the
+// memory at return are what the definitions of specs/Calls say.
+ghost use mathlib.Core.Path.{_≡_};
+ghost use Prim.Native.Nat.{_≤_};
+ghost use lib.ListN.{length};
+ghost use Rattle.store.specs.Memory.{memory};
+ghost use Rattle.calls.specs.Lent.{work, capacity};
+ghost use Rattle.calls.specs.Calls.{evaluated, evaluateCall, toRealCall};
+ghost use Rattle.calls.specs.Frame.{Evaluates, Substitutes, SubstitutesTexts, ReadsReal};
+use complex::Complex;
+use evaluation::Evaluation;
+use evaluation::real::Real;
+use evaluation::substitution::substitute_variables;
+use expression::refusal::Refusal;
+use frame::clear_work;
+use frame::read_job;
+use frame::write_answer;
+use listing::Listing;
+use listing::read_listing;
+use listing::writing::Written;
+use sheet::Rows;
+
+pub mod frame;
+
+// A listing and a sheet that were read: the node of the root, the count of nodes, and the rows.
+pub enum Job {
+    Ready {
+        root: usize,
+        nodes: usize,
+        rows: Rows,
+    },
+    Refused(Refusal),
+}
+
+pub enum Evaluated {
+    Value(Complex),
+    Refused(Refusal),
+}
+
+// Evaluation's lacks as refusals: 9 and 10.
+fn answer_of(value: Evaluation) -> Evaluated
+    ensures { λ r. ⌜ r ≡ evaluated value ⌝ }
+{
+    match value {
+        Evaluation::Value(z) => Evaluated::Value(z),
+        Evaluation::Incomplete => Evaluated::Refused(Refusal::Incomplete),
+        Evaluation::Need(operation, x, y) => Evaluated::Refused(Refusal::Need(operation, x, y)),
+    }
+}
+
+fn evaluate_texts(
+    list: &[u8],
+    values: &[u8],
+    tag: &mut [u64],
+    first: &mut [u64],
+    second: &mut [u64],
+    link: &mut [u64],
+    table: &mut [u64],
+) -> Evaluated
+    requires { ⌜ 8192 ≤ length (now table) ⌝ }
+    ensures { λ r. ⌜ r ≡ evaluateCall (capacity (work (now (tag .entry)) (now (first .entry)) (now (second .entry)) (now (link .entry)) (now (table .entry)))) (now (list .entry)) (now (values .entry)) ⌝ }
+{
+    let job = read_job(list, values, tag, first, second, link, table);
+    match job {
+        Job::Ready { root, nodes, rows } => answer_of(evaluation::evaluate(
+            tag,
+            first,
+            second,
+            table,
+            rows,
+            root,
+            nodes,
+        )),
+        Job::Refused(why) => Evaluated::Refused(why),
+    }
+}
+
+// The value of an expression under a sheet.
+pub fn evaluate(
+    list: &[u8],
+    values: &[u8],
+    tag: &mut [u64],
+    first: &mut [u64],
+    second: &mut [u64],
+    link: &mut [u64],
+    table: &mut [u64; 8192],
+) -> Evaluated
+    ensures { λ r. ⌜ Evaluates (now (list .entry)) (now (values .entry)) (work (now (tag .entry)) (now (first .entry)) (now (second .entry)) (now (link .entry)) (now (table .entry))) r (work (now (tag .exit)) (now (first .exit)) (now (second .exit)) (now (link .exit)) (now (table .exit))) ⌝ }
+{
+    let answer = evaluate_texts(list, values, tag, first, second, link, table);
+    clear_work(tag, first, second, link, table);
+    answer
+}
+
+fn substitute_texts(
+    list: &[u8],
+    tag: &mut [u64],
+    first: &mut [u64],
+    second: &mut [u64],
+    link: &mut [u64],
+    table: &mut [u64],
+    out: &mut [u8],
+) -> Written
+    requires { ⌜ 8192 ≤ length (now table) ⌝ }
+    ensures { λ r. ⌜ SubstitutesTexts (now (list .entry)) (now (out .entry)) (work (now (tag .entry)) (now (first .entry)) (now (second .entry)) (now (link .entry)) (now (table .entry))) r (now (out .exit)) ⌝ }
+{
+    let listed = read_listing(list, true, tag, first, second, link, table);
+    match listed {
+        Listing::Read { root, nodes, swaps } => {
+            let built = substitute_variables(
+                tag,
+                first,
+                second,
+                link,
+                table,
+                swaps,
+                root,
+                nodes,
+                nodes,
+                0,
+            );
+            write_answer(tag, first, second, table, out, built)
+        }
+        Listing::Refused(why) => Written::Refused(why),
+    }
+}
+
+// An expression with its variables replaced as the s lines of its listing say, written as a listing.
+pub fn substitute(
+    list: &[u8],
+    tag: &mut [u64],
+    first: &mut [u64],
+    second: &mut [u64],
+    link: &mut [u64],
+    table: &mut [u64; 8192],
+    out: &mut [u8],
+) -> Written
+    ensures { λ r. ⌜ Substitutes (now (list .entry)) (now (out .entry)) (work (now (tag .entry)) (now (first .entry)) (now (second .entry)) (now (link .entry)) (now (table .entry))) r (now (out .exit)) (work (now (tag .exit)) (now (first .exit)) (now (second .exit)) (now (link .exit)) (now (table .exit))) ⌝ }
+{
+    let answer = substitute_texts(list, tag, first, second, link, table, out);
+    clear_work(tag, first, second, link, table);
+    answer
+}
+
+fn real_of_text(
+    list: &[u8],
+    tag: &mut [u64],
+    first: &mut [u64],
+    second: &mut [u64],
+    link: &mut [u64],
+    table: &mut [u64],
+) -> Real
+    requires { ⌜ 8192 ≤ length (now table) ⌝ }
+    ensures { λ r. ⌜ r ≡ toRealCall (capacity (work (now (tag .entry)) (now (first .entry)) (now (second .entry)) (now (link .entry)) (now (table .entry)))) (now (list .entry)) ⌝ }
+{
+    let listed = read_listing(list, false, tag, first, second, link, table);
+    match listed {
+        Listing::Read {
+            root,
+            nodes: _,
+            swaps: _,
+        } => evaluation::real::to_real(tag, first, second, root),
+        Listing::Refused(why) => Real::Refused(why),
+    }
+}
+
+// The real number that an expression is, if it is a number or pi.
+pub fn to_real(
+    list: &[u8],
+    tag: &mut [u64],
+    first: &mut [u64],
+    second: &mut [u64],
+    link: &mut [u64],
+    table: &mut [u64; 8192],
+) -> Real
+    ensures { λ r. ⌜ ReadsReal (now (list .entry)) (work (now (tag .entry)) (now (first .entry)) (now (second .entry)) (now (link .entry)) (now (table .entry))) r (work (now (tag .exit)) (now (first .exit)) (now (second .exit)) (now (link .exit)) (now (table .exit))) ⌝ }
+{
+    let answer = real_of_text(list, tag, first, second, link, table);
+    clear_work(tag, first, second, link, table);
+    answer
+}

@@ -1,0 +1,96 @@
+// The value of an operation on values: arithmetic by `complex`, and what the sheet's rows give for sin, cos, exp, sqrt
+// and ^.
+ghost use mathlib.Core.Path.{_≡_};
+ghost use Rattle.sheet.specs.Table.{rowsOf, Held};
+ghost use Rattle.evaluation.specs.Evaluating.{asked, cis, imaginaryUnit, calculateFunction, calculateInfix, calculatePrefix};
+use super::Evaluation;
+use complex::Complex;
+use complex::add;
+use complex::constants::zero;
+use complex::div;
+use complex::mul;
+use complex::neg;
+use complex::sub;
+use expression::ExpressionFunction;
+use expression::InfixOperator;
+use expression::PrefixOperator;
+use expression::refusal::Operation;
+use sheet::Found;
+use sheet::Rows;
+use sheet::function_value;
+
+// A row's value, or the lack of one.
+fn ask(table: &[u64], rows: Rows, operation: Operation, x: Complex, y: Complex) -> Evaluation
+    ensures { λ r. ⌜ (Held (now (table .entry)) rows → r ≡ asked (rowsOf (now (table .entry)) rows) operation x y) ⌝ }
+{
+    let found = function_value(table, rows, operation, x, y);
+    match found {
+        Found::Value(z) => Evaluation::Value(z),
+        Found::Nothing => Evaluation::Need(operation, x, y),
+    }
+}
+
+fn imaginary_unit() -> Complex
+    ensures { λ r. ⌜ r ≡ imaginaryUnit ⌝ }
+{
+    Complex { re: 0.0, im: 1.0 }
+}
+
+// "cis x asks cos, then sin, and is cos + (0+1i)*sin."
+fn calculate_cis(table: &[u64], rows: Rows, x: Complex) -> Evaluation
+    ensures { λ r. ⌜ (Held (now (table .entry)) rows → r ≡ cis (rowsOf (now (table .entry)) rows) x) ⌝ }
+{
+    let first = ask(table, rows, Operation::Cosine, x, zero());
+    let Evaluation::Value(cosine) = first else {
+        return first;
+    };
+    let second = ask(table, rows, Operation::Sine, x, zero());
+    let Evaluation::Value(sine) = second else {
+        return second;
+    };
+    Evaluation::Value(add(cosine, mul(imaginary_unit(), sine)))
+}
+
+pub fn calculate_function(
+    table: &[u64],
+    rows: Rows,
+    function: ExpressionFunction,
+    argument: Complex,
+) -> Evaluation
+    ensures { λ r. ⌜ (Held (now (table .entry)) rows → r ≡ calculateFunction (rowsOf (now (table .entry)) rows) function argument) ⌝ }
+{
+    match function {
+        ExpressionFunction::Sine => ask(table, rows, Operation::Sine, argument, zero()),
+        ExpressionFunction::Cis => calculate_cis(table, rows, argument),
+        ExpressionFunction::Cosine => ask(table, rows, Operation::Cosine, argument, zero()),
+        ExpressionFunction::Exponent => ask(table, rows, Operation::Exponent, argument, zero()),
+        ExpressionFunction::SquareRoot => ask(table, rows, Operation::SquareRoot, argument, zero()),
+    }
+}
+
+pub fn calculate_infix(
+    table: &[u64],
+    rows: Rows,
+    left: Complex,
+    operator: InfixOperator,
+    right: Complex,
+) -> Evaluation
+    ensures { λ r. ⌜ (Held (now (table .entry)) rows → r ≡ calculateInfix (rowsOf (now (table .entry)) rows) operator left right) ⌝ }
+{
+    match operator {
+        InfixOperator::Caret => ask(table, rows, Operation::Power, left, right),
+        InfixOperator::Plus => Evaluation::Value(add(left, right)),
+        InfixOperator::Minus => Evaluation::Value(sub(left, right)),
+        InfixOperator::Slash => Evaluation::Value(div(left, right)),
+        InfixOperator::Star => Evaluation::Value(mul(left, right)),
+    }
+}
+
+pub fn calculate_prefix(operator: PrefixOperator, value: Complex) -> Complex
+    ensures { λ r. ⌜ r ≡ calculatePrefix operator value ⌝ }
+{
+    match operator {
+        PrefixOperator::Plus => value,
+        PrefixOperator::Minus => neg(value),
+    }
+}

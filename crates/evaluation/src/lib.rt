@@ -1,0 +1,89 @@
+// Evaluating an expression under a sheet's values, substituting for its variables, and reading it as a real number:
+// `evaluate`, `substitute_variables` and `to_real` of the Rust, over the nodes of a store.
+ghost use mathlib.Core.Path.{_≡_};
+ghost use Rattle.sheet.specs.Table.{seenFound};
+ghost use Rattle.evaluation.specs.Evaluating.{bound};
+ghost use Rattle.evaluation.specs.Run.{Evaluates};
+use calculate::calculate_function;
+use calculate::calculate_infix;
+use calculate::calculate_prefix;
+use complex::Complex;
+use complex::constants::pi;
+use expression::refusal::Operation;
+use sheet::Found;
+use sheet::Rows;
+use sheet::cell;
+use sheet::variable;
+use store::node::Expression;
+use store::reading::expression_at;
+
+pub mod calculate;
+pub mod real;
+pub mod substitution;
+
+// "Evaluation answers a value, Incomplete, or the function value it lacks."
+pub enum Evaluation {
+    Value(Complex),
+    Incomplete,
+    Need(Operation, Complex, Complex),
+}
+
+// A variable or a cell that is not bound is a lack.
+fn bound_value(found: Found) -> Evaluation
+    ensures { λ r. ⌜ r ≡ bound (seenFound found) ⌝ }
+{
+    match found {
+        Found::Value(z) => Evaluation::Value(z),
+        Found::Nothing => Evaluation::Incomplete,
+    }
+}
+
+// The value of a node, depth first, left before right, up to the first lack. A node is above its operands, so
+// `below` falls; one that is not below it is none of a store's.
+pub fn evaluate(
+    tag: &[u64],
+    first: &[u64],
+    second: &[u64],
+    table: &[u64],
+    rows: Rows,
+    node: usize,
+    below: usize,
+) -> Evaluation
+    ensures { λ r. ⌜ Evaluates (now (tag .entry)) (now (first .entry)) (now (second .entry)) (now (table .entry)) rows node below r ⌝ }
+{
+    if below <= node {
+        return Evaluation::Incomplete;
+    }
+    let e = expression_at(tag, first, second, node);
+    match e {
+        Expression::FunctionCall(function, child) => {
+            let x = evaluate(tag, first, second, table, rows, child, node);
+            let Evaluation::Value(argument) = x else {
+                return x;
+            };
+            calculate_function(table, rows, function, argument)
+        }
+        Expression::Infix(operator, left, right) => {
+            let x = evaluate(tag, first, second, table, rows, left, node);
+            let Evaluation::Value(l) = x else {
+                return x;
+            };
+            let y = evaluate(tag, first, second, table, rows, right, node);
+            let Evaluation::Value(r) = y else {
+                return y;
+            };
+            calculate_infix(table, rows, l, operator, r)
+        }
+        Expression::Prefix(operator, child) => {
+            let x = evaluate(tag, first, second, table, rows, child, node);
+            let Evaluation::Value(value) = x else {
+                return x;
+            };
+            Evaluation::Value(calculate_prefix(operator, value))
+        }
+        Expression::Variable(number) => bound_value(variable(table, rows, number)),
+        Expression::Address(region, index) => bound_value(cell(table, rows, region, index)),
+        Expression::PiConstant => Evaluation::Value(pi()),
+        Expression::Number(z) => Evaluation::Value(z),
+    }
+}
