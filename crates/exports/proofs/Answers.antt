@@ -1,0 +1,100 @@
+-- Six words, and what each answer makes of them. Assumes nothing.
+use mathlib.Core.Path.{_≡_, refl, sym, ap, _∙_}
+use Prim.Native.Nat.{ℕ, suc}
+use mathlib.Core.List.{List, [], _∷_}
+use native.Mathlib.Omega.{arith}
+use lib.ListN.{length, set}
+use lib.Ieee.{Float}
+use denote.Enum.Declared.{tagOf}
+use types.Run.{OneOf, miss}
+use Rattle.complex.specs.declared.Complex.{Complex}
+use Rattle.complex.specs.Bits.{bitsOf}
+use Rattle.expression.specs.declared.refusal.Operation.{Operation}
+use Rattle.expression.specs.declared.refusal.Refusal.{Refusal}
+use Rattle.expression.proofs.refusal.Refusal.{the-type}
+use Rattle.expression.specs.Refusals.{numberOf, placeOf}
+use Rattle.listing.specs.declared.writing.Written.{Written}
+use Rattle.sheet.specs.Rows.{operationNumber}
+use Rattle.evaluation.specs.declared.real.Real.{Real}
+use Rattle.calls.specs.declared.Evaluated.{Evaluated}
+use Rattle.calls.specs.Lent.{Work, capacity, zeroed}
+use Rattle.calls.specs.Calls.{evaluateCall, substituteCall, toRealCall}
+use Rattle.calls.specs.Frame as Frame
+use Rattle.exports.specs.Words.{words, carriedWords, refusalWords, evaluatedWords, realWords, writtenWords, firstWord, Answered, Evaluates, Substitutes, ReadsReal}
+
+-- all six are written
+pub six : (s : List ℕ) (a b c d e f : ℕ) → length s ≡ 6 → set (set (set (set (set (set s 0 a) 1 b) 2 c) 3 d) 4 e) 5 f ≡ words a b c d e f
+six [] a b c d e f p = absurd (omega (arith, p))
+six (x₀ ∷ []) a b c d e f p = absurd (omega (arith, p))
+six (x₀ ∷ x₁ ∷ []) a b c d e f p = absurd (omega (arith, p))
+six (x₀ ∷ x₁ ∷ x₂ ∷ []) a b c d e f p = absurd (omega (arith, p))
+six (x₀ ∷ x₁ ∷ x₂ ∷ x₃ ∷ []) a b c d e f p = absurd (omega (arith, p))
+six (x₀ ∷ x₁ ∷ x₂ ∷ x₃ ∷ x₄ ∷ []) a b c d e f p = absurd (omega (arith, p))
+six (x₀ ∷ x₁ ∷ x₂ ∷ x₃ ∷ x₄ ∷ x₅ ∷ []) a b c d e f p = refl
+six (x₀ ∷ x₁ ∷ x₂ ∷ x₃ ∷ x₄ ∷ x₅ ∷ x₆ ∷ s) a b c d e f p = absurd (omega (arith, p))
+
+pub put : (s : List ℕ) (a b c d e f : ℕ) → length s ≡ 6 → Answered (words a b c d e f) a (set (set (set (set (set (set s 0 a) 1 b) 2 c) 3 d) 4 e) 5 f)
+unfolding firstWord
+put s a b c d e f p = record { words = six s a b c d e f p; number = refl }
+
+-- the same words by another name
+pub known-as : {want want′ : List ℕ} {r : ℕ} {answer : List ℕ} → want ≡ want′ → Answered want r answer → Answered want′ r answer
+known-as e a = rw e at a
+
+-- ---- refusals
+
+is-placed : (why : Refusal) → OneOf (0 ∷ 1 ∷ 2 ∷ 3 ∷ 4 ∷ 5 ∷ 6 ∷ 7 ∷ 9 ∷ 10 ∷ 11 ∷ 12 ∷ 13 ∷ 14 ∷ []) (tagOf the-type why)
+    → words (numberOf why) (placeOf why) 0 0 0 0 ≡ refusalWords why
+unfolding carriedWords
+is-placed (Refusal.BadList line) k = refl
+is-placed (Refusal.LongList line) k = refl
+is-placed (Refusal.BadSheet line) k = refl
+is-placed (Refusal.LongSheet line) k = refl
+is-placed Refusal.BadLimit k = refl
+is-placed Refusal.Big k = refl
+is-placed Refusal.Deep k = refl
+is-placed Refusal.Room k = refl
+is-placed (Refusal.Need operation x y) k = absurd (miss (0 ∷ 1 ∷ 2 ∷ 3 ∷ 4 ∷ 5 ∷ 6 ∷ 7 ∷ 9 ∷ 10 ∷ 11 ∷ 12 ∷ 13 ∷ 14 ∷ []) 8 tt k)
+is-placed Refusal.Incomplete k = refl
+is-placed Refusal.NotReal k = refl
+is-placed Refusal.NotANumber k = refl
+is-placed Refusal.OutRoom k = refl
+is-placed Refusal.LongTape k = refl
+is-placed (Refusal.BadTape step) k = refl
+
+pub placed : (why : Refusal) {number detail r : ℕ} {answer : List ℕ}
+    → OneOf (0 ∷ 1 ∷ 2 ∷ 3 ∷ 4 ∷ 5 ∷ 6 ∷ 7 ∷ 9 ∷ 10 ∷ 11 ∷ 12 ∷ 13 ∷ 14 ∷ []) (tagOf the-type why) → number ≡ numberOf why → detail ≡ placeOf why
+    → Answered (words number detail 0 0 0 0) r answer → Answered (refusalWords why) r answer
+placed why k p q a = known-as ((λ i. words (p i) (q i) 0 0 0 0) ∙ is-placed why k) a
+
+pub lacks : {why : Refusal} {operation : Operation} {x y : Complex} {number detail re im re2 im2 r : ℕ} {answer : List ℕ} → why ≡ Refusal.Need operation x y
+    → number ≡ 9 → detail ≡ operationNumber operation → re ≡ bitsOf (x .re) → im ≡ bitsOf (x .im) → re2 ≡ bitsOf (y .re) → im2 ≡ bitsOf (y .im)
+    → Answered (words number detail re im re2 im2) r answer → Answered (refusalWords why) r answer
+unfolding carriedWords
+lacks told n d p q p2 q2 a = known-as ((λ i. words (n i) (d i) (p i) (q i) (p2 i) (q2 i)) ∙ ap refusalWords (sym told)) a
+
+-- ---- values
+
+pub has-value : {e : Evaluated} {z : Complex} {re im r : ℕ} {answer : List ℕ} → e ≡ Evaluated.Value z → re ≡ bitsOf (z .re) → im ≡ bitsOf (z .im)
+    → Answered (words 0 0 re im 0 0) r answer → Answered (evaluatedWords e) r answer
+unfolding evaluatedWords
+has-value told p q a = known-as ((λ i. words 0 0 (p i) (q i) 0 0) ∙ ap evaluatedWords (sym told)) a
+
+pub has-real : {e : Real} {x : Float} {re r : ℕ} {answer : List ℕ} → e ≡ Real.Number x → re ≡ bitsOf x
+    → Answered (words 0 0 re 0 0 0) r answer → Answered (realWords e) r answer
+unfolding realWords
+has-real told p a = known-as ((λ i. words 0 0 (p i) 0 0 0) ∙ ap realWords (sym told)) a
+
+-- ---- the calls
+
+pub evaluates : {list values : List ℕ} {w w′ : Work} {e : Evaluated} {r : ℕ} {answer : List ℕ} → Frame.Evaluates list values w e w′
+    → Answered (evaluatedWords e) r answer → Evaluates list values w r answer w′
+evaluates p a = record { answered = known-as (ap (λ x. evaluatedWords (x .0)) p) a; left = ap (λ x. x .1) p }
+
+pub substitutes : {list out : List ℕ} {w w′ : Work} {e : Written} {r : ℕ} {answer out′ : List ℕ} → Frame.Substitutes list out w e out′ w′
+    → Answered (writtenWords e) r answer → Substitutes list out w r answer out′ w′
+substitutes p a = record { answered = known-as (ap (λ x. writtenWords (x .0 .0)) p) a; output = ap (λ x. x .0 .1) p; left = ap (λ x. x .1) p }
+
+pub reads-real : {list : List ℕ} {w w′ : Work} {e : Real} {r : ℕ} {answer : List ℕ} → Frame.ReadsReal list w e w′
+    → Answered (realWords e) r answer → ReadsReal list w r answer w′
+reads-real p a = record { answered = known-as (ap (λ x. realWords (x .0)) p) a; left = ap (λ x. x .1) p }

@@ -1,0 +1,21 @@
+-- Any two answers that the contract of an exported call allows are equal, with their words, output bytes and work memory. Assumes nothing.
+use mathlib.Core.Path.{_≡_, sym, _∙_}
+use Prim.Native.Nat.{ℕ}
+use mathlib.Core.List.{List}
+use Rattle.calls.specs.Lent.{Work}
+use Rattle.exports.specs.Words.{Answered, Evaluates, Substitutes, ReadsReal}
+
+one-words : {want : List ℕ} {r r′ : ℕ} {a a′ : List ℕ} → Answered want r a → Answered want r′ a′ → (r ≡ r′) × (a ≡ a′)
+one-words p q = (p .number ∙ sym (q .number), p .words ∙ sym (q .words))
+
+pub one-evaluated : {list values : List ℕ} {w : Work} {r r′ : ℕ} {a a′ : List ℕ} {w₁ w₂ : Work}
+    → Evaluates list values w r a w₁ → Evaluates list values w r′ a′ w₂ → ((r ≡ r′) × (a ≡ a′)) × (w₁ ≡ w₂)
+one-evaluated p q = (one-words (p .answered) (q .answered), p .left ∙ sym (q .left))
+
+pub one-substituted : {list out : List ℕ} {w : Work} {r r′ : ℕ} {a a′ out₁ out₂ : List ℕ} {w₁ w₂ : Work}
+    → Substitutes list out w r a out₁ w₁ → Substitutes list out w r′ a′ out₂ w₂ → ((r ≡ r′) × (a ≡ a′)) × (out₁ ≡ out₂) × (w₁ ≡ w₂)
+one-substituted p q = (one-words (p .answered) (q .answered), p .output ∙ sym (q .output), p .left ∙ sym (q .left))
+
+pub one-real : {list : List ℕ} {w : Work} {r r′ : ℕ} {a a′ : List ℕ} {w₁ w₂ : Work} → ReadsReal list w r a w₁ → ReadsReal list w r′ a′ w₂
+    → ((r ≡ r′) × (a ≡ a′)) × (w₁ ≡ w₂)
+one-real p q = (one-words (p .answered) (q .answered), p .left ∙ sym (q .left))

@@ -1,0 +1,61 @@
+-- The calls for other languages: each answer as six words, and each call's promise. Definitions only.
+use mathlib.Core.Path.{_≡_}
+use Prim.Native.Nat.{ℕ}
+use mathlib.Core.List.{List, [], _∷_}
+use Rattle.complex.specs.declared.Complex.{Complex}
+use Rattle.complex.specs.Bits.{bitsOf}
+use Rattle.expression.specs.declared.refusal.Refusal.{Refusal}
+use Rattle.expression.specs.Refusals.{numberOf, Carried, place, lacking, carries}
+use Rattle.listing.specs.declared.writing.Written.{Written}
+use Rattle.sheet.specs.Rows.{operationNumber}
+use Rattle.evaluation.specs.declared.real.Real.{Real}
+use Rattle.calls.specs.declared.Evaluated.{Evaluated}
+use Rattle.calls.specs.Lent.{Work, capacity, zeroed}
+use Rattle.calls.specs.Calls.{evaluateCall, substituteCall, toRealCall}
+
+-- 0 or the refusal's number; then a count, a place or an operation; two numbers as the bits of their parts
+abbrev pub words : (number detail re im re2 im2 : ℕ) → List ℕ
+words number detail re im re2 im2 = number ∷ detail ∷ re ∷ im ∷ re2 ∷ im2 ∷ []
+
+unfoldable pub carriedWords : (number : ℕ) → Carried → List ℕ
+carriedWords number (place k) = words number k 0 0 0 0
+carriedWords number (lacking operation x y) = words number (operationNumber operation) (bitsOf (x .re)) (bitsOf (x .im)) (bitsOf (y .re)) (bitsOf (y .im))
+
+abbrev pub refusalWords : Refusal → List ℕ
+refusalWords why = carriedWords (numberOf why) (carries why)
+
+unfoldable pub evaluatedWords : Evaluated → List ℕ
+evaluatedWords (Evaluated.Value z) = words 0 0 (bitsOf (z .re)) (bitsOf (z .im)) 0 0
+evaluatedWords (Evaluated.Refused why) = refusalWords why
+
+unfoldable pub realWords : Real → List ℕ
+realWords (Real.Number x) = words 0 0 (bitsOf x) 0 0 0
+realWords (Real.Refused why) = refusalWords why
+
+unfoldable pub writtenWords : Written → List ℕ
+writtenWords (Written.Bytes count) = words 0 count 0 0 0 0
+writtenWords (Written.Refused why) = refusalWords why
+
+-- what is returned is the first word
+unfoldable pub firstWord : List ℕ → ℕ
+firstWord [] = 0
+firstWord (n ∷ ns) = n
+
+pub record Answered (want : List ℕ) (r : ℕ) (answer : List ℕ) : Type 0 where
+  pub words : answer ≡ want
+  pub number : r ≡ firstWord want
+
+-- ---- the promises: answer words, output bytes and work memory, for all inputs
+
+pub record Evaluates (list values : List ℕ) (w : Work) (r : ℕ) (answer : List ℕ) (w′ : Work) : Type 0 where
+  pub answered : Answered (evaluatedWords (evaluateCall (capacity w) list values)) r answer
+  pub left : w′ ≡ zeroed w
+
+pub record Substitutes (list out : List ℕ) (w : Work) (r : ℕ) (answer out′ : List ℕ) (w′ : Work) : Type 0 where
+  pub answered : Answered (writtenWords (substituteCall (capacity w) list out .0)) r answer
+  pub output : out′ ≡ substituteCall (capacity w) list out .1
+  pub left : w′ ≡ zeroed w
+
+pub record ReadsReal (list : List ℕ) (w : Work) (r : ℕ) (answer : List ℕ) (w′ : Work) : Type 0 where
+  pub answered : Answered (realWords (toRealCall (capacity w) list)) r answer
+  pub left : w′ ≡ zeroed w
