@@ -1,5 +1,5 @@
 -- What the steps of a call make together: the texts, the operation, the result, and the memory. Assumes nothing.
-use mathlib.Core.Path.{_≡_, refl, sym, ap, _∙_}
+use mathlib.Core.Path.{_≡_, refl, ap, _∙_}
 use Prim.Native.Nat.{ℕ, _≤_, _<_}
 use mathlib.Core.List.{List}
 use mathlib.Core.Bool.{Bool, true, false}
@@ -9,11 +9,9 @@ use Rattle.expression.specs.Trees.{Tree}
 use Rattle.store.specs.declared.Added.{Added}
 use Rattle.store.specs.Storing.{State, Answer, fresh}
 use Rattle.store.specs.Memory.{Memory, memory, room, cleared, treeAt, stateOf}
-use Rattle.store.specs.Held.{Holds, Step, Built, seen}
-use Rattle.text.specs.Lines as Lines
+use Rattle.store.specs.Held.{Holds, Built}
 use Rattle.listing.specs.declared.Listing.{Listing}
 use Rattle.listing.specs.declared.writing.Written.{Written}
-use Rattle.listing.specs.Listings as Listings
 use Rattle.listing.specs.Listings.{Swap, listing}
 use Rattle.listing.specs.Tables.{Reads, Lists, swapTrees}
 use Rattle.listing.specs.Ordering.{Writes}

@@ -2,3 +2,4 @@
 mod Valued
 mod Replacing
 mod Parts
+mod Examples

@@ -1,8 +1,8 @@
 -- What reading as a real gives at a node, by its kind: each return of `to_real` and `real_part`. Assumes nothing.
 use mathlib.Core.Path.{_≡_, refl, ap, _∙_}
-use mathlib.Core.Bool.{true, false, cond, _&&_}
+use mathlib.Core.Bool.{true, false}
 use Prim.Native.Nat.{ℕ, _<_}
-use lib.Ieee.{Float, lt, neg}
+use lib.Ieee.{lt, neg}
 use Rattle.complex.specs.declared.Complex.{Complex}
 use Rattle.complex.specs.Constants.{piNumber}
 use Rattle.expression.specs.declared.refusal.Refusal.{Refusal}

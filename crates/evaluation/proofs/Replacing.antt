@@ -1,7 +1,7 @@
 -- What substituting does at a node, by its operands: each return of `substitute_variables` and of what it calls. Assumes nothing.
 use mathlib.Core.Path.{_≡_, refl, sym, ap, _∙_, subst}
 use mathlib.Core.List.{List, [], _∷_}
-use Prim.Native.Nat.{ℕ, _≤_, _<_, _+_, _*_}
+use Prim.Native.Nat.{ℕ, _<_, _+_, _*_}
 use native.Mathlib.Omega.{arith}
 use lib.ListN.{getD}
 use denote.Enum.Declared.{tagOf}
@@ -14,13 +14,12 @@ use Rattle.store.proofs.node.Expression.{the-type}
 use Rattle.store.specs.Nodes.{expressionOf, grown, Within}
 use Rattle.store.specs.Storing.{State, Answer, gives, andThen, intern}
 use Rattle.store.specs.Memory.{Memory, fieldsAt, treeAt, treeOf, stateOf}
-use Rattle.store.specs.Held.{Holds, Step, Built}
+use Rattle.store.specs.Held.{Step, Built}
 use Rattle.store.proofs.Building.{older, named, turned, stays, then-node, then-refused}
 use Rattle.table.proofs.Values.{upTo-alike}
-use Rattle.listing.specs.declared.Swap.{Swap}
 use Rattle.listing.specs.Listings as Listings
 use Rattle.listing.specs.Listings.{swap, names, nothing, swapFor}
-use Rattle.listing.specs.Tables.{Lists, swapTrees, LooksUp}
+use Rattle.listing.specs.Tables.{Lists, swapTrees}
 use Rattle.evaluation.specs.declared.substitution.Operands.{Operands}
 use Rattle.evaluation.specs.Substituting.{putIn, putInLeaf, substitute}
 use Rattle.evaluation.specs.Run.{operandsOf, rebuiltOf, Rebuilds}
@@ -230,13 +229,13 @@ module _ {m m′ : Memory} {table : List ℕ} {n n′ swaps i : ℕ} (li : Lists
 
 -- ---- an operation on what its last operand became
 
-rebuilt-built : {want : Answer} {n : ℕ} {m m₁ m₂ : Memory} (swaps : List Listings.Swap) (e : Expression) (left : ℕ) (t : Tree) (x r : Added) → Built want x n m m₁
+rebuilt-built : {want : Answer} {n : ℕ} {m m₁ m₂ : Memory} (e : Expression) (left : ℕ) (t : Tree) (x r : Added) → Built want x n m m₁
     → ((i k : ℕ) → Step n m i k m₁ → LeftIn e m₁ k left t) → Rebuilds e left x r m₁ m₂ → Built (andThen want (λ u s. intern (wrap e t u) s)) r n m m₂
-rebuilt-built {m₁ = m₁} swaps e left t (Added.Node i k c) r b l q =
+rebuilt-built {m₁ = m₁} e left t (Added.Node i k c) r b l q =
     then-node (λ u s. intern (wrap e t u) s) b refl λ p.
     named (ap (λ u. intern u (stateOf m₁ k c)) (rebuilt-tree m₁ e left i ∙ wrap-left e m₁ k left t (treeAt m₁ i) (l i k p)))
     (q (p .holds) (within-rebuilt e m₁ k left i t (l i k p) (p .inside)))
-rebuilt-built swaps e left t (Added.Refused why) r b l q =
+rebuilt-built e left t (Added.Refused why) r b l q =
     turned (sym q) (record { answer = then-refused (λ u s. intern (wrap e t u) s) b refl .answer; after = tt })
 
 -- ---- the returns of `substitute_variables`
@@ -265,7 +264,7 @@ module _ {m : Memory} {table : List ℕ} {n swaps node : ℕ} (li : Lists m tabl
     one-built {a} {x} {r} {m₁} told b q =
         let o = sym o-is ∙ told in
         named (of-node (one-step (swapTrees m table swaps) m (stateOf m n calls) e a (leaf pi) o))
-        (rebuilt-built (swapTrees m table swaps) e 0 (leaf pi) x r b (λ i k p. left-none e a o m₁ k 0 (leaf pi)) q)
+        (rebuilt-built e 0 (leaf pi) x r b (λ i k p. left-none e a o m₁ k 0 (leaf pi)) q)
 
     module _ {a b : ℕ} {x : Added} {m₁ : Memory} (told : operands ≡ Operands.Two a b)
         (first : Built (substitute (swapTrees m table swaps) (treeAt m a) (stateOf m n calls)) x n m m₁) where
@@ -285,5 +284,5 @@ module _ {m : Memory} {table : List ℕ} {n swaps node : ℕ} (li : Lists m tabl
           let inside : b < n = omega (arith, two-inside told .1, l) in
           let same : substitute (swapTrees m₁ table swaps) (treeAt m₁ b) (stateOf m₁ k c) ≡ substitute (swapTrees m table swaps) (treeAt m b) (stateOf m₁ k c)
           = λ v. substitute (swaps-on li p v) (p .stays b inside v) (stateOf m₁ k c) in
-          rebuilt-built (swapTrees m table swaps) e left (treeAt m₁ left) y r (named same (second (lists-on li p) (older p inside)))
+          rebuilt-built e left (treeAt m₁ left) y r (named same (second (lists-on li p) (older p inside)))
           (λ i j p₂. left-in e m₂ j left (treeAt m₁ left) (older p₂ (p .inside)) (p₂ .stays left (p .inside))) q)

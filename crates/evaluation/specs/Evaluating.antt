@@ -1,5 +1,4 @@
 -- Evaluating a tree under the rows of a sheet: its value, or the first lack. Definitions only.
-use Prim.Native.Nat.{ℕ}
 use Rattle.complex.specs.declared.Complex.{Complex}
 use Rattle.complex.specs.Arithmetic.{plus, minus, times, over, negated}
 use Rattle.complex.specs.Constants.{ofParts, zeroNumber, piNumber}

@@ -5,7 +5,7 @@ use Rattle.complex.specs.declared.Complex.{Complex}
 use Rattle.complex.specs.Bits.{doubleOf}
 use Rattle.complex.specs.Constants.{piNumber}
 use Rattle.expression.specs.declared.refusal.Refusal.{Refusal}
-use Rattle.expression.specs.Trees.{Tree, Leaf, number, pi, variable, cell, leaf, functionCall, prefixed, infixed}
+use Rattle.expression.specs.Trees.{Tree, number, pi, variable, cell, leaf, functionCall, prefixed, infixed}
 use Rattle.evaluation.specs.declared.real.Real.{Real}
 
 -- the double nearest 1e-16

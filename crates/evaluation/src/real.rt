@@ -17,10 +17,8 @@ pub enum Real {
 fn real_part(z: Complex) -> Real
     ensures { λ r. ⌜ r ≡ realPart z ⌝ }
 {
-    if -1e-16 < z.im {
-        if z.im < 1e-16 {
-            return Real::Number(z.re);
-        }
+    if -1e-16 < z.im && z.im < 1e-16 {
+        return Real::Number(z.re);
     }
     Real::Refused(Refusal::NotReal)
 }

@@ -1,6 +1,6 @@
 -- Six words, and what each answer makes of them. Assumes nothing.
 use mathlib.Core.Path.{_≡_, refl, sym, ap, _∙_}
-use Prim.Native.Nat.{ℕ, suc}
+use Prim.Native.Nat.{ℕ}
 use mathlib.Core.List.{List, [], _∷_}
 use native.Mathlib.Omega.{arith}
 use lib.ListN.{length, set}
@@ -17,8 +17,7 @@ use Rattle.listing.specs.declared.writing.Written.{Written}
 use Rattle.sheet.specs.Rows.{operationNumber}
 use Rattle.evaluation.specs.declared.real.Real.{Real}
 use Rattle.calls.specs.declared.Evaluated.{Evaluated}
-use Rattle.calls.specs.Lent.{Work, capacity, zeroed}
-use Rattle.calls.specs.Calls.{evaluateCall, substituteCall, toRealCall}
+use Rattle.calls.specs.Lent.{Work}
 use Rattle.calls.specs.Frame as Frame
 use Rattle.exports.specs.Words.{words, carriedWords, refusalWords, evaluatedWords, realWords, writtenWords, firstWord, Answered, Evaluates, Substitutes, ReadsReal}
 
