@@ -1,0 +1,37 @@
+// What is said on standard error where no command is given, or none that is known.
+use libc::STDERR_FILENO;
+
+fn line(text: &[u8]) {
+    io::write_all(STDERR_FILENO, text);
+    io::write_all(STDERR_FILENO, b"\n");
+}
+
+fn commands() {
+    line(
+        b"  evaluate    reads a listing and, after an empty line, a sheet of values; prints the expression's value",
+    );
+    line(
+        b"  substitute  reads a listing with s lines; prints the listing with the variables replaced",
+    );
+    line(
+        b"  real        reads a listing; prints the real number that its expression is, if it is a number or pi",
+    );
+}
+
+fn answers() {
+    line(
+        b"A job that has no answer prints incomplete, or need and the function value that is lacking, or refused, the",
+    );
+    line(
+        b"refusal's number and the place: a line counted from 0. The sentence on standard error counts lines from 1.",
+    );
+}
+
+pub fn print() {
+    line(b"use: ./run rack COMMAND < JOB, where COMMAND is one of:");
+    commands();
+    answers();
+    line(
+        b"Example, half of pi: printf 'p\\nn\\t4000000000000000\\t0000000000000000\\nb\\t/\\t0\\t1\\n' | ./run rack evaluate",
+    );
+}

@@ -1,0 +1,69 @@
+// One tool for the bench: its command word says what is to be done with the job on standard input. Each command has
+// a file of its own; another one takes such a file, its word in command.rt, a line in `obey` and one in help.rt.
+use command::Command;
+use command::Given;
+use command::given_command;
+use input::Input;
+
+mod command;
+mod evaluate;
+mod explain;
+mod help;
+mod input;
+mod real;
+mod say;
+mod substitute;
+
+// A byte more than an input may have, so that a longer one shows.
+const ROOM: usize = 262_145;
+
+fn obey(
+    command: Command,
+    text: &[u8],
+    tag: &mut [u64],
+    first: &mut [u64],
+    second: &mut [u64],
+    link: &mut [u64],
+    table: &mut [u64; 8192],
+) {
+    match command {
+        Command::Evaluate => evaluate::run(text, tag, first, second, link, table),
+        Command::Substitute => substitute::run(text, tag, first, second, link, table),
+        Command::Real => real::run(text, tag, first, second, link, table),
+    }
+}
+
+fn run(command: Command, text: &[u8]) {
+    let mut tag = [0; 4096];
+    let mut first = [0; 4096];
+    let mut second = [0; 4096];
+    let mut link = [0; 4096];
+    let mut table = [0; 8192];
+    obey(
+        command,
+        text,
+        &mut tag,
+        &mut first,
+        &mut second,
+        &mut link,
+        &mut table,
+    );
+}
+
+fn main() {
+    let given = given_command();
+    let Given::Known(command) = given else {
+        help::print();
+        return;
+    };
+    let mut space = [0u8; ROOM];
+    let read = input::read(&mut space);
+    match read {
+        Input::Whole(length) => {
+            let n = input::part(&space, length);
+            run(command, &space[..n]);
+        }
+        Input::TooLong => say::too_long(),
+        Input::Failed => explain::unread(),
+    }
+}

@@ -1,0 +1,99 @@
+// A line of the list of cases: two letters and ten fields of 16 digits, parted by tabs. What they stand for is said in
+// tests/rust/README.md.
+use super::answer::Answer;
+
+const LENGTH: usize = 173;
+
+pub struct Line {
+    pub kind: u8,
+    pub junk: u64,
+    pub lent: u64,
+    pub texts: u64,
+    pub outputs: u64,
+    pub wanted: Answer,
+}
+
+impl Line {
+    // What stands at the end of the list.
+    fn none() -> Self {
+        Self {
+            kind: 0,
+            junk: 0,
+            lent: 0,
+            texts: 0,
+            outputs: 0,
+            wanted: Answer::none(),
+        }
+    }
+
+    pub fn is_none(self) -> bool {
+        self.kind == 0
+    }
+
+    pub fn listing_length(self) -> usize {
+        (self.texts / 4294967296) as usize
+    }
+
+    pub fn sheet_length(self) -> usize {
+        (self.texts % 4294967296) as usize
+    }
+
+    pub fn output_length(self) -> usize {
+        (self.outputs / 4294967296) as usize
+    }
+
+    pub fn written_length(self) -> usize {
+        (self.outputs % 4294967296) as usize
+    }
+}
+
+fn digit(c: u8) -> u64 {
+    if c < b'0' {
+        return 0;
+    }
+    if c <= b'9' {
+        return (c - b'0') as u64;
+    }
+    if c < b'a' {
+        return 0;
+    }
+    (c - b'a') as u64 % 6 + 10
+}
+
+fn number(digits: &[u8]) -> u64 {
+    let mut v: u64 = 0;
+    let mut i = 0;
+    while i < digits.len() {
+        v = (v << 4) | digit(digits[i]);
+        i += 1;
+    }
+    v
+}
+
+fn line_of(bytes: &[u8]) -> Line {
+    if bytes.len() < LENGTH {
+        return Line::none();
+    }
+    Line {
+        kind: bytes[0],
+        junk: number(&bytes[3..19]),
+        lent: number(&bytes[20..36]),
+        texts: number(&bytes[37..53]),
+        outputs: number(&bytes[54..70]),
+        wanted: Answer {
+            number: number(&bytes[71..87]),
+            place: number(&bytes[88..104]),
+            a: number(&bytes[105..121]),
+            b: number(&bytes[122..138]),
+            c: number(&bytes[139..155]),
+            d: number(&bytes[156..172]),
+        },
+    }
+}
+
+// The next line of the list, or none where there is no whole line.
+pub fn next_line(list: i32) -> Line {
+    let mut bytes = [0u8; 173];
+    let n = io::read_full(list, &mut bytes);
+    line_of(&bytes[..n])
+}

@@ -1,0 +1,115 @@
+/* Findavoreb for C and for all that calls C: expressions evaluated, substituted and read as real numbers.
+ *
+ * The functions are those of the static library that `rt staticlib exports` writes, target/staticlib/libexports.a, for x86-64. A
+ * listing, a sheet and the written result are texts as the rules have them (README.md says where those are); what is named here is
+ * what a caller lends and what comes back.
+ *
+ * What a function asks of its caller: nothing of the bytes and nothing of the lengths. Whatever the texts, the work memory and the
+ * answer hold at entry, a function returns, and its answer is what the rules say. It keeps nothing between calls and allocates
+ * nothing, so that calls with memory of their own may run at the same time.
+ *
+ * What C has a caller see to: a pointer is not null and is aligned for what it points to, also where its length is 0; there are as
+ * many elements behind it as its length, or the parameter's comment, says; and the lent memory (tag, first, second, link, table,
+ * out, answer) overlaps neither itself nor a text.
+ *
+ * What holds at every return, also after a refusal: each word of tag, first, second, link and table is 0. After a refusal, out is as
+ * it was; after a success its first bytes are the result, and the rest is as it was. */
+#ifndef FINDAVOREB_H
+#define FINDAVOREB_H
+
+#include <stddef.h>
+#include <stdint.h>
+
+#ifdef __cplusplus
+extern "C" {
+#endif
+
+/* answer[0], which is also what each function returns: 0 for a success, else why the job is refused. The numbers and the names are
+ * those of the rules. Those marked with a star belong to functions that are not here yet. */
+enum findavoreb_refusal {
+    FINDAVOREB_DONE = 0,
+    FINDAVOREB_BAD_LIST = 1,     /* a line of the listing is malformed, out of order or without its line feed; or no node line */
+    FINDAVOREB_LONG_LIST = 2,    /* the 1025th node line or the 257th s line; or a result of more than 1024 lines, with place 0 */
+    FINDAVOREB_BAD_SHEET = 3,    /* a line of the sheet is malformed, out of order or without its line feed */
+    FINDAVOREB_LONG_SHEET = 4,   /* the 257th v line, the 1025th m line or the 257th t line */
+    FINDAVOREB_BAD_LIMIT = 5,    /* * a limit above 10 */
+    FINDAVOREB_BIG = 6,          /* a new node of a size above 1,000,000 */
+    FINDAVOREB_DEEP = 7,         /* a new node of a depth above 64 */
+    FINDAVOREB_ROOM = 8,         /* a new node, and the store is full */
+    FINDAVOREB_NEED = 9,         /* the sheet has no t row for this function value */
+    FINDAVOREB_INCOMPLETE = 10,  /* evaluation met a variable or a memory cell that the sheet does not bind */
+    FINDAVOREB_NOT_REAL = 11,    /* the number's imaginary part is not below 1e-16 in magnitude */
+    FINDAVOREB_NOT_A_NUMBER = 12, /* the expression is neither a number nor pi */
+    FINDAVOREB_OUT_ROOM = 13,    /* out is shorter than the result */
+    FINDAVOREB_LONG_TAPE = 14,   /* * an expression of a size above 512 */
+    FINDAVOREB_BAD_TAPE = 15     /* * an unsound tape */
+};
+
+/* answer[1] after FINDAVOREB_NEED: which function value is lacking. */
+enum findavoreb_operation {
+    FINDAVOREB_SIN = 1,
+    FINDAVOREB_COS = 2,
+    FINDAVOREB_EXP = 3,
+    FINDAVOREB_SQRT = 4,
+    FINDAVOREB_POW = 5
+};
+
+/* Sizes. tag, first, second and link together are the store of nodes: as many fit as the shortest of the four has words, and no more
+ * than 4096. The table and the answer have exactly the size that is given here. No result is longer than 1024 lines of 36 bytes. */
+enum {
+    FINDAVOREB_STORE_WORDS = 4096,
+    FINDAVOREB_TABLE_WORDS = 8192,
+    FINDAVOREB_ANSWER_WORDS = 6,
+    FINDAVOREB_OUT_BYTES = 36864
+};
+
+/* The answer's words; those that are not used are 0.
+ *
+ *   [0]       0, or the number of the refusal; it is returned as well
+ *   [1]       after a success: how many bytes were written to out, 0 for a function without out
+ *             after FINDAVOREB_NEED: the operation
+ *             after another refusal: the line of the listing or of the sheet, counted from 0, if the refusal carries one
+ *   [2], [3]  after a success: the bits of the value's real and imaginary part; of the real number and 0 from to_real; 0, 0 from
+ *             substitute
+ *             after FINDAVOREB_NEED: the bits of the real and imaginary part of the operand, for pow of the first one
+ *   [4], [5]  after FINDAVOREB_NEED: the same of the second operand, 0, 0 unless the operation is pow
+ *
+ * Bits are those of IEEE 754 binary64; a NaN is always 7FF8000000000000. */
+
+/* The value of the listing's expression under the sheet. The sheet may be empty. */
+uint64_t findavoreb_evaluate(
+    const uint8_t *listing, size_t listing_length,
+    const uint8_t *sheet, size_t sheet_length,
+    uint64_t *tag, size_t tag_length,
+    uint64_t *first, size_t first_length,
+    uint64_t *second, size_t second_length,
+    uint64_t *link, size_t link_length,
+    uint64_t *table,   /* FINDAVOREB_TABLE_WORDS words */
+    uint64_t *answer); /* FINDAVOREB_ANSWER_WORDS words */
+
+/* The listing's expression with its variables replaced as the listing's s lines say, all at once, written to out as a listing. */
+uint64_t findavoreb_substitute(
+    const uint8_t *listing, size_t listing_length,
+    uint64_t *tag, size_t tag_length,
+    uint64_t *first, size_t first_length,
+    uint64_t *second, size_t second_length,
+    uint64_t *link, size_t link_length,
+    uint64_t *table,   /* FINDAVOREB_TABLE_WORDS words */
+    uint8_t *out, size_t out_length,
+    uint64_t *answer); /* FINDAVOREB_ANSWER_WORDS words */
+
+/* The real number that the listing's expression is, if it is a number or pi; nothing is worked out. */
+uint64_t findavoreb_to_real(
+    const uint8_t *listing, size_t listing_length,
+    uint64_t *tag, size_t tag_length,
+    uint64_t *first, size_t first_length,
+    uint64_t *second, size_t second_length,
+    uint64_t *link, size_t link_length,
+    uint64_t *table,   /* FINDAVOREB_TABLE_WORDS words */
+    uint64_t *answer); /* FINDAVOREB_ANSWER_WORDS words */
+
+#ifdef __cplusplus
+}
+#endif
+
+#endif

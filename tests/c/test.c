@@ -1,0 +1,404 @@
+/* Calls the functions of findavoreb.h with jobs whose answers are known from the rules, and compares every word of the answer, the
+ * output and the work memory. Each call finds junk in all the memory that it is lent. The last line counts what was tried. */
+#include <stdio.h>
+#include <stdlib.h>
+#include <string.h>
+
+#include "findavoreb.h"
+
+/* ---- the memory that is lent, with words after it that nothing may touch */
+
+enum { GUARD = 8, TEXT = 1 << 17, PAPER = FINDAVOREB_OUT_BYTES + 4096 };
+
+static const uint64_t JUNK = 0xDEADBEEF00010001;
+static const uint8_t BLANK = 0xA5;
+
+static uint64_t store[4][FINDAVOREB_STORE_WORDS + GUARD];
+static uint64_t table[FINDAVOREB_TABLE_WORDS + GUARD];
+static uint64_t answer[FINDAVOREB_ANSWER_WORDS + GUARD];
+static uint8_t out[PAPER];
+
+/* How much of the memory a call is lent. */
+struct lent {
+    size_t words[4];
+    size_t bytes;
+};
+
+static const struct lent ALL = {{4096, 4096, 4096, 4096}, PAPER};
+
+/* ---- what is counted and said */
+
+static unsigned calls, wrong;
+
+static void complain(const char *name, const char *what)
+{
+    printf("%s: %s\n", name, what);
+    wrong++;
+}
+
+/* ---- filling and looking */
+
+static void fill(uint64_t *words, size_t count, uint64_t word)
+{
+    for (size_t i = 0; i < count; i++)
+        words[i] = word;
+}
+
+static int all_are(const uint64_t *words, size_t from, size_t to, uint64_t word)
+{
+    for (size_t i = from; i < to; i++)
+        if (words[i] != word)
+            return 0;
+    return 1;
+}
+
+static int is_blank_from(size_t from)
+{
+    for (size_t i = from; i < PAPER; i++)
+        if (out[i] != BLANK)
+            return 0;
+    return 1;
+}
+
+static void prepare(void)
+{
+    for (int k = 0; k < 4; k++)
+        fill(store[k], FINDAVOREB_STORE_WORDS + GUARD, JUNK + (uint64_t)k);
+    fill(table, FINDAVOREB_TABLE_WORDS + GUARD, JUNK);
+    fill(answer, FINDAVOREB_ANSWER_WORDS + GUARD, JUNK);
+    memset(out, BLANK, PAPER);
+}
+
+/* "Every lent work slice is zero over its whole length", and what was not lent is as it was. */
+static void check_memory(const char *name, struct lent lent)
+{
+    for (int k = 0; k < 4; k++) {
+        if (!all_are(store[k], 0, lent.words[k], 0))
+            complain(name, "a work slice is not zero");
+        if (!all_are(store[k], lent.words[k], FINDAVOREB_STORE_WORDS + GUARD, JUNK + (uint64_t)k))
+            complain(name, "a word past a work slice was changed");
+    }
+    if (!all_are(table, 0, FINDAVOREB_TABLE_WORDS, 0))
+        complain(name, "the table is not zero");
+    if (!all_are(table, FINDAVOREB_TABLE_WORDS, FINDAVOREB_TABLE_WORDS + GUARD, JUNK))
+        complain(name, "a word past the table was changed");
+    if (!all_are(answer, FINDAVOREB_ANSWER_WORDS, FINDAVOREB_ANSWER_WORDS + GUARD, JUNK))
+        complain(name, "a word past the answer was changed");
+}
+
+static void check_answer(const char *name, uint64_t returned, const uint64_t *want)
+{
+    calls++;
+    if (returned != want[0])
+        complain(name, "another number is returned");
+    for (int i = 0; i < FINDAVOREB_ANSWER_WORDS; i++)
+        if (answer[i] != want[i]) {
+            printf("%s: answer[%d] is %016llX, not %016llX\n", name, i, (unsigned long long)answer[i], (unsigned long long)want[i]);
+            wrong++;
+        }
+}
+
+/* ---- one call each; a text ends where its string does */
+
+static const uint8_t *bytes(const char *text)
+{
+    return (const uint8_t *)text;
+}
+
+static void evaluate_in(const char *name, struct lent lent, const char *listing, const char *sheet, const uint64_t *want)
+{
+    prepare();
+    uint64_t returned = findavoreb_evaluate(
+        bytes(listing), strlen(listing), bytes(sheet), strlen(sheet), store[0], lent.words[0], store[1], lent.words[1], store[2],
+        lent.words[2], store[3], lent.words[3], table, answer);
+    check_answer(name, returned, want);
+    check_memory(name, lent);
+    if (!is_blank_from(0))
+        complain(name, "the output was changed");
+}
+
+static void to_real_in(const char *name, struct lent lent, const char *listing, const uint64_t *want)
+{
+    prepare();
+    uint64_t returned = findavoreb_to_real(
+        bytes(listing), strlen(listing), store[0], lent.words[0], store[1], lent.words[1], store[2], lent.words[2], store[3],
+        lent.words[3], table, answer);
+    check_answer(name, returned, want);
+    check_memory(name, lent);
+    if (!is_blank_from(0))
+        complain(name, "the output was changed");
+}
+
+/* The output is the text that is written, and blank from there on; the text is empty after a refusal. */
+static void substitute_in(const char *name, struct lent lent, const char *listing, const char *written, const uint64_t *want)
+{
+    prepare();
+    uint64_t returned = findavoreb_substitute(
+        bytes(listing), strlen(listing), store[0], lent.words[0], store[1], lent.words[1], store[2], lent.words[2], store[3],
+        lent.words[3], table, out, lent.bytes, answer);
+    check_answer(name, returned, want);
+    check_memory(name, lent);
+    if (memcmp(out, written, strlen(written)) != 0)
+        complain(name, "the output is another text");
+    if (!is_blank_from(strlen(written)))
+        complain(name, "the output was changed past the result");
+}
+
+/* ---- the same with all the memory, and what is wanted in a few words */
+
+static void value(const char *name, const char *listing, const char *sheet, uint64_t re, uint64_t im)
+{
+    evaluate_in(name, ALL, listing, sheet, (uint64_t[]){0, 0, re, im, 0, 0});
+}
+
+static void no_value(const char *name, const char *listing, const char *sheet, uint64_t refusal, uint64_t place)
+{
+    evaluate_in(name, ALL, listing, sheet, (uint64_t[]){refusal, place, 0, 0, 0, 0});
+}
+
+static void need(const char *name, const char *listing, const char *sheet, uint64_t operation, const uint64_t *operands)
+{
+    evaluate_in(
+        name, ALL, listing, sheet,
+        (uint64_t[]){FINDAVOREB_NEED, operation, operands[0], operands[1], operands[2], operands[3]});
+}
+
+static void result(const char *name, const char *listing, const char *written)
+{
+    substitute_in(name, ALL, listing, written, (uint64_t[]){0, strlen(written), 0, 0, 0, 0});
+}
+
+static void no_result(const char *name, const char *listing, uint64_t refusal, uint64_t place)
+{
+    substitute_in(name, ALL, listing, "", (uint64_t[]){refusal, place, 0, 0, 0, 0});
+}
+
+static void real(const char *name, const char *listing, uint64_t bits)
+{
+    to_real_in(name, ALL, listing, (uint64_t[]){0, 0, bits, 0, 0, 0});
+}
+
+static void no_real(const char *name, const char *listing, uint64_t refusal, uint64_t place)
+{
+    to_real_in(name, ALL, listing, (uint64_t[]){refusal, place, 0, 0, 0, 0});
+}
+
+/* ---- pieces of texts: doubles by their bits */
+
+#define ZERO "0000000000000000"
+#define HALF "3FE0000000000000"
+#define ONE "3FF0000000000000"
+#define TWO "4000000000000000"
+#define THREE "4008000000000000"
+#define A_NAN "FFF0000000000001"
+#define NUMBER(re, im) "n\t" re "\t" im "\n"
+#define INFIX(op, left, right) "b\t" op "\t" left "\t" right "\n"
+#define BOUND(variable, re) "v\t" variable "\t" re "\t" ZERO "\n"
+#define ROW(name, x, y, re, im) "t\t" name "\t" x "\t" ZERO "\t" y "\t" ZERO "\t" re "\t" im "\n"
+
+/* (theta - phi) / 2, where theta is variable 0 and phi variable 1 */
+#define HALF_DIFFERENCE "v\t0\nv\t1\n" INFIX("-", "0", "1") NUMBER(TWO, ZERO) INFIX("/", "2", "3")
+
+/* the same with a node theta + 0.5, which is put in for theta, and what comes of it */
+#define SHIFT "v\t0\nv\t1\n" INFIX("-", "0", "1") NUMBER(TWO, ZERO) NUMBER(HALF, ZERO) INFIX("+", "0", "4") INFIX("/", "2", "3") "s\t0\t5\n"
+#define SHIFTED "v\t0\n" NUMBER(HALF, ZERO) INFIX("+", "0", "1") "v\t1\n" INFIX("-", "2", "3") NUMBER(TWO, ZERO) INFIX("/", "4", "5")
+
+#define COS_OF_HALF ROW("cos", HALF, ZERO, "3FEC1528065B7D50", "8000000000000000")
+#define SIN_OF_HALF ROW("sin", HALF, ZERO, "3FDEAEE8744B05F0", ZERO)
+
+static const uint64_t HALF_BITS = 0x3FE0000000000000, TWO_BITS = 0x4000000000000000, THREE_BITS = 0x4008000000000000,
+                      NAN_BITS = 0x7FF8000000000000, PI_BITS = 0x400921FB54442D18, MINUS_ZERO_BITS = 0x8000000000000000;
+
+/* ---- texts that are too long to be written out */
+
+static char text[TEXT];
+static size_t length;
+
+static void begin(void)
+{
+    length = 0;
+    text[0] = 0;
+}
+
+/* Adds a line; a format may use the number up to twice. */
+static void add(const char *format, unsigned a, unsigned b)
+{
+    length += (size_t)snprintf(text + length, TEXT - length, format, a, b);
+}
+
+static const char *many(const char *head, const char *format, unsigned count)
+{
+    begin();
+    add(head, 0, 0);
+    for (unsigned i = 0; i < count; i++)
+        add(format, i, i);
+    return text;
+}
+
+/* 300 sums of the variable and a number, and the sum of them all, which is put in for the variable. The listing has 900 node lines;
+ * 599 of the nodes have the variable below them and are made anew, so that the result has 1499. */
+static const char *grown(void)
+{
+    begin();
+    add("v\t0\n", 0, 0);
+    for (unsigned i = 1; i <= 300; i++)
+        add("n\t%016X\t" ZERO "\n", i, 0);
+    for (unsigned i = 1; i <= 300; i++)
+        add("b\t+\t0\t%u\n", i, 0);
+    for (unsigned i = 301; i < 899; i += 2)
+        add("b\t+\t%u\t%u\n", i, i + 1);
+    add("s\t0\t899\n", 0, 0);
+    return text;
+}
+
+/* ---- the jobs */
+
+static void evaluate_values(void)
+{
+    value("half of a difference", HALF_DIFFERENCE, BOUND("0", "3FF4000000000000") BOUND("1", HALF), 0x3FD8000000000000, 0);
+    value(
+        "cis", NUMBER(HALF, ZERO) "f\tcis\t0\n", SIN_OF_HALF COS_OF_HALF, 0x3FEC1528065B7D50, 0x3FDEAEE8744B05F0);
+    value("a power", NUMBER(TWO, ZERO) NUMBER(THREE, ZERO) INFIX("^", "0", "1"), ROW("pow", TWO, THREE, "4020000000000000", ZERO),
+          0x4020000000000000, 0);
+    value("a cell", "m\t3\t4294967295\nu\t-\t0\n", "m\t3\t4294967295\t" ONE "\n", 0xBFF0000000000000, MINUS_ZERO_BITS);
+    value("pi", "p\n", "", PI_BITS, 0);
+    value("zero by zero", NUMBER(ZERO, ZERO) INFIX("/", "0", "0"), "", NAN_BITS, NAN_BITS);
+    value("a zero keeps its sign", NUMBER("8000000000000000", ZERO), "", MINUS_ZERO_BITS, 0);
+    value("every NaN is one", NUMBER(A_NAN, ONE), "", NAN_BITS, 0x3FF0000000000000);
+    value("the first row counts", NUMBER(HALF, ZERO) "f\tsin\t0\n", SIN_OF_HALF ROW("sin", HALF, ZERO, ONE, ZERO),
+          0x3FDEAEE8744B05F0, 0);
+}
+
+static void evaluate_bad_texts(void)
+{
+    no_value("an empty listing", "", "", FINDAVOREB_BAD_LIST, 0);
+    no_value("a space for a tab", "v\t0\nv\t1\nb\t- 0\t1\n", "", FINDAVOREB_BAD_LIST, 2);
+    no_value("no line feed", "v\t0\np", "", FINDAVOREB_BAD_LIST, 1);
+    no_value("a child that is not earlier", "v\t0\nu\t-\t1\n", "", FINDAVOREB_BAD_LIST, 1);
+    no_value("an s line", "v\t0\ns\t0\t0\n", "", FINDAVOREB_BAD_LIST, 1);
+    no_value("the listing speaks first", "q\n", "q\n", FINDAVOREB_BAD_LIST, 0);
+    no_value("1025 lines", many("p\n", "v\t%u\n", 1024), "", FINDAVOREB_LONG_LIST, 1024);
+    no_value("bytes that are no text", "\001\377\n", "", FINDAVOREB_BAD_LIST, 0);
+    no_value("a sheet with an empty line", "p\n", BOUND("0", ONE) "\n", FINDAVOREB_BAD_SHEET, 1);
+    no_value("variables that fall", "p\n", BOUND("1", ONE) BOUND("0", ONE), FINDAVOREB_BAD_SHEET, 1);
+    no_value("a second operand for sin", "p\n", ROW("sin", HALF, HALF, ONE, ZERO), FINDAVOREB_BAD_SHEET, 0);
+    no_value("257 variables", "p\n", many("", "v\t%u\t" ONE "\t" ZERO "\n", 257), FINDAVOREB_LONG_SHEET, 256);
+    no_value("1025 cells", "p\n", many("", "m\t0\t%u\t" ONE "\n", 1025), FINDAVOREB_LONG_SHEET, 1024);
+    no_value("257 rows", "p\n", many("", SIN_OF_HALF, 257), FINDAVOREB_LONG_SHEET, 256);
+}
+
+static void evaluate_limits(void)
+{
+    many("", "p\n", 1024);
+    add("q\n", 0, 0);
+    no_value("a malformed 1025th line", text, "", FINDAVOREB_LONG_LIST, 1024);
+    value("1024 lines", many("p\n", "n\t%016X\t" ZERO "\n", 1023), "", 1022, 0);
+    no_value("a size of 1048575", many("v\t0\n", INFIX("+", "%u", "%u"), 19), BOUND("0", ONE), FINDAVOREB_BIG, 0);
+    value("a size of 524287", many("v\t0\n", INFIX("+", "%u", "%u"), 18), BOUND("0", ONE), 0x4110000000000000, 0);
+    no_value("a depth of 65", many("p\n", "u\t-\t%u\n", 64), "", FINDAVOREB_DEEP, 0);
+    value("a depth of 64", many("p\n", "u\t+\t%u\n", 63), "", PI_BITS, 0);
+}
+
+static void evaluate_lacks(void)
+{
+    const uint64_t half[] = {HALF_BITS, 0, 0, 0};
+    need("no sine", NUMBER(HALF, ZERO) "f\tsin\t0\n", COS_OF_HALF, FINDAVOREB_SIN, half);
+    need("no cosine", NUMBER(HALF, ZERO) "f\tcos\t0\n", SIN_OF_HALF, FINDAVOREB_COS, half);
+    need("no exponent", NUMBER(HALF, ZERO) "f\texp\t0\n", "", FINDAVOREB_EXP, half);
+    need("no root", NUMBER(HALF, ZERO) "f\tsqrt\t0\n", "", FINDAVOREB_SQRT, half);
+    need("no power", NUMBER(TWO, HALF) NUMBER(THREE, A_NAN) INFIX("^", "0", "1"), "", FINDAVOREB_POW,
+         (uint64_t[]){TWO_BITS, HALF_BITS, THREE_BITS, NAN_BITS});
+    need("cis asks cos first", NUMBER(HALF, ZERO) "f\tcis\t0\n", "", FINDAVOREB_COS, half);
+    need("then sin", NUMBER(HALF, ZERO) "f\tcis\t0\n", COS_OF_HALF, FINDAVOREB_SIN, half);
+    need("a zero of the other sign", NUMBER(HALF, "8000000000000000") "f\tsin\t0\n", SIN_OF_HALF, FINDAVOREB_SIN,
+         (uint64_t[]){HALF_BITS, MINUS_ZERO_BITS, 0, 0});
+    no_value("a free variable", HALF_DIFFERENCE, BOUND("0", ONE), FINDAVOREB_INCOMPLETE, 0);
+    no_value("a free cell", "m\t0\t1\n", "m\t0\t0\t" ONE "\n", FINDAVOREB_INCOMPLETE, 0);
+    no_value("the left lack first", "v\t0\n" NUMBER(HALF, ZERO) "f\tsin\t1\n" INFIX("+", "0", "2"), "", FINDAVOREB_INCOMPLETE, 0);
+}
+
+static void substitute_results(void)
+{
+    result("a shift", SHIFT, SHIFTED);
+    result("a swap", "v\t0\nv\t1\n" INFIX("-", "0", "1") "s\t0\t1\ns\t1\t0\n", "v\t1\nv\t0\n" INFIX("-", "0", "1"));
+    result("equal and unused lines", "v\t0\nv\t7\nv\t0\n" INFIX("*", "0", "2"), "v\t0\n" INFIX("*", "0", "0"));
+    result("a leaf", "p\nv\t0\ns\t0\t0\n", "p\n");
+}
+
+static void substitute_refusals(void)
+{
+    no_result("an empty listing", "", FINDAVOREB_BAD_LIST, 0);
+    no_result("s lines alone", "s\t0\t0\n", FINDAVOREB_BAD_LIST, 0);
+    no_result("s lines that fall", "v\t0\ns\t1\t0\ns\t0\t0\n", FINDAVOREB_BAD_LIST, 2);
+    no_result("a node after an s line", "v\t0\ns\t0\t0\np\n", FINDAVOREB_BAD_LIST, 2);
+    no_result("257 s lines", many("v\t0\n", "s\t%u\t0\n", 257), FINDAVOREB_LONG_LIST, 257);
+    no_result("1499 lines of result", grown(), FINDAVOREB_LONG_LIST, 0);
+    many("v\t0\n", "u\t-\t%u\n", 63);
+    add("s\t0\t1\n", 0, 0);
+    no_result("a result of depth 65", text, FINDAVOREB_DEEP, 0);
+}
+
+static void to_real_jobs(void)
+{
+    real("pi", "p\n", PI_BITS);
+    real("a number", NUMBER(HALF, ZERO), HALF_BITS);
+    real("an imaginary part of 1e-17", NUMBER(HALF, "3C670EF54646D497"), HALF_BITS);
+    real("one of -1e-17", NUMBER(HALF, "BC670EF54646D497"), HALF_BITS);
+    real("a real part that is a NaN", NUMBER(A_NAN, ZERO), NAN_BITS);
+    no_real("an imaginary part of 1e-16", NUMBER(HALF, "3C9CD2B297D889BC"), FINDAVOREB_NOT_REAL, 0);
+    no_real("one of -1e-16", NUMBER(HALF, "BC9CD2B297D889BC"), FINDAVOREB_NOT_REAL, 0);
+    no_real("one that is a NaN", NUMBER(HALF, A_NAN), FINDAVOREB_NOT_REAL, 0);
+    no_real("a variable", "v\t0\n", FINDAVOREB_NOT_A_NUMBER, 0);
+    no_real("a number with a sign", NUMBER(HALF, ZERO) "u\t+\t0\n", FINDAVOREB_NOT_A_NUMBER, 0);
+    no_real("an empty listing", "", FINDAVOREB_BAD_LIST, 0);
+    no_real("an empty line", "p\n\n", FINDAVOREB_BAD_LIST, 1);
+    no_real("an s line", "p\ns\t0\t0\n", FINDAVOREB_BAD_LIST, 1);
+    no_real("1025 lines", many("p\n", "v\t%u\n", 1024), FINDAVOREB_LONG_LIST, 1024);
+}
+
+/* With each of the four slices as the shortest: room for two nodes, for one, for none. */
+static void short_slices(void)
+{
+    const uint64_t full[] = {FINDAVOREB_ROOM, 0, 0, 0, 0, 0};
+    for (int k = 0; k < 4; k++) {
+        struct lent lent = ALL;
+        lent.words[k] = 2;
+        evaluate_in("room for two of three", lent, "p\nv\t0\nv\t1\n", BOUND("1", ONE), full);
+        evaluate_in("two of two", lent, "p\np\nu\t+\t1\n", "", (uint64_t[]){0, 0, PI_BITS, 0, 0, 0});
+        substitute_in("two of three to replace", lent, "p\nv\t0\nu\t-\t1\ns\t0\t0\n", "", full);
+        lent.words[k] = 1;
+        to_real_in("one of one", lent, "p\np\n", (uint64_t[]){0, 0, PI_BITS, 0, 0, 0});
+        lent.words[k] = 0;
+        to_real_in("none", lent, "p\n", full);
+        substitute_in("none to replace", lent, "v\t0\n", "", full);
+        evaluate_in("a bad line before a full store", lent, "p", "", (uint64_t[]){FINDAVOREB_BAD_LIST, 0, 0, 0, 0, 0});
+    }
+}
+
+/* The shift has 7 nodes, and two more are made; its result is of a known length. */
+static void short_memory(void)
+{
+    struct lent lent = {{9, 9, 9, 9}, strlen(SHIFTED)};
+    substitute_in("just enough", lent, SHIFT, SHIFTED, (uint64_t[]){0, strlen(SHIFTED), 0, 0, 0, 0});
+    lent.bytes = strlen(SHIFTED) - 1;
+    substitute_in("an output too short", lent, SHIFT, "", (uint64_t[]){FINDAVOREB_OUT_ROOM, 0, 0, 0, 0, 0});
+    lent.bytes = 0;
+    substitute_in("an empty output", lent, SHIFT, "", (uint64_t[]){FINDAVOREB_OUT_ROOM, 0, 0, 0, 0, 0});
+    lent.words[2] = 8;
+    substitute_in("full before it is written", lent, SHIFT, "", (uint64_t[]){FINDAVOREB_ROOM, 0, 0, 0, 0, 0});
+}
+
+int main(void)
+{
+    evaluate_values();
+    evaluate_bad_texts();
+    evaluate_limits();
+    evaluate_lacks();
+    substitute_results();
+    substitute_refusals();
+    to_real_jobs();
+    short_slices();
+    short_memory();
+    printf("%u calls, %u wrong\n", calls, wrong);
+    return wrong == 0 ? EXIT_SUCCESS : EXIT_FAILURE;
+}

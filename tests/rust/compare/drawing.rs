@@ -1,0 +1,96 @@
+// Questions as they are drawn around a case: how much memory is lent, and which rows a sheet has.
+use crate::cases::Case;
+use crate::question::{Kind, Question};
+use crate::random::{Numbers, Random};
+use crate::rust::Rust;
+use crate::store::MOST;
+use crate::texts::{bindings, listing, row};
+use num_complex::Complex64;
+use oracle::trace::{Asked, OPERATIONS, Operation};
+use std::collections::HashSet;
+
+pub const ROWS: usize = 256; // that a sheet may have
+const ROUNDS: usize = 40; // after which rows that are asked for are given beforehand
+
+fn lengths(random: &mut Random, needed: usize, most: usize) -> [usize; 4] {
+    let mut all = [0; 4].map(|_| (needed + random.below(20)).min(most));
+    match random.below(12) {
+        0 => all[random.below(4)] = random.below(needed.max(1)),
+        1 => all[random.below(4)] = needed.saturating_sub(1),
+        2..=4 => all[random.below(4)] = needed,
+        5 => all = [MOST; 4],
+        6 => all = [0, 1, 2, 3].map(|i| (MOST + 300 * i).min(most)),
+        _ => {}
+    }
+    all
+}
+
+fn junk(random: &mut Random) -> u64 {
+    let any = random.next();
+    random.pick(&[0, 1, u64::MAX, 0x0001_0001_0001_0001, 0xDEAD_BEEF_0001_0001, any])
+}
+
+pub fn out_length(random: &mut Random, exact: usize) -> usize {
+    match random.below(10) {
+        0 => exact - 1,
+        1 => random.below(exact),
+        2 => 0,
+        3 | 4 => exact,
+        _ => exact + random.below(100),
+    }
+}
+
+pub fn question(random: &mut Random, kind: Kind, case: &Case, rust: &Rust, most: usize) -> Question {
+    let (needed, _) = rust.needed(kind);
+    Question {
+        kind,
+        listing: listing(&case.nodes, &case.swaps),
+        sheet: bindings(case),
+        lengths: lengths(random, needed, most),
+        out: 0,
+        junk: junk(random),
+    }
+}
+
+// A row that nothing asks for.
+fn stray(random: &mut Random, asked: &[Asked]) -> Option<Asked> {
+    let (x, y) = (random.complex(Numbers::Wild), random.complex(Numbers::Plane));
+    let operation = random.pick(&OPERATIONS);
+    let zero = Complex64::new(0.0, 0.0);
+    let power = operation == Operation::Power;
+    let stray = Asked::new(operation, x, if power { y } else { zero });
+    (!asked.contains(&stray)).then_some(stray)
+}
+
+// Rows that a sheet has from the beginning: some that will be asked for, and strays.
+pub fn rows_before(random: &mut Random, asked: &[Asked]) -> Vec<Asked> {
+    let mut all = asked.to_vec();
+    random.shuffle(&mut all);
+    let some = if random.once_in(4) { random.below(all.len() + 1) } else { 0 };
+    all.truncate(some.max(asked.len().saturating_sub(ROUNDS)).min(ROWS - 6));
+    if random.once_in(3) {
+        all.extend(stray(random, asked));
+    }
+    random.shuffle(&mut all);
+    all
+}
+
+pub fn rows_text(random: &mut Random, rows: &[Asked], asked: &HashSet<Asked>) -> String {
+    let text = |row_: &Asked, random: &mut Random| {
+        row(*row_, if asked.contains(row_) { row_.value() } else { random.complex(Numbers::Wild) })
+    };
+    rows.iter().map(|r| text(r, random)).collect()
+}
+
+// The same rows in another order, or with others after them that match and do not count.
+pub fn rearranged(random: &mut Random, rows: &[Asked], asked: &HashSet<Asked>) -> String {
+    let mut rows = rows.to_vec();
+    if random.once_in(2) {
+        random.shuffle(&mut rows);
+    }
+    let mut text = rows_text(random, &rows, asked);
+    for again in rows.iter().take(ROWS - rows.len()) {
+        text += &row(*again, random.complex(Numbers::Plane));
+    }
+    text
+}

@@ -1,0 +1,124 @@
+// The proved port, called as C calls it. Around each lent slice stand words that have to stay as they are.
+use crate::question::{Answer, Kind, NEED, Question};
+
+#[rustfmt::skip]
+unsafe extern "C" {
+    fn findavoreb_evaluate(
+        listing: *const u8, listing_length: usize, sheet: *const u8, sheet_length: usize,
+        tag: *mut u64, tag_length: usize, first: *mut u64, first_length: usize,
+        second: *mut u64, second_length: usize, link: *mut u64, link_length: usize,
+        table: *mut u64, answer: *mut u64,
+    ) -> u64;
+    fn findavoreb_substitute(
+        listing: *const u8, listing_length: usize,
+        tag: *mut u64, tag_length: usize, first: *mut u64, first_length: usize,
+        second: *mut u64, second_length: usize, link: *mut u64, link_length: usize,
+        table: *mut u64, out: *mut u8, out_length: usize, answer: *mut u64,
+    ) -> u64;
+    fn findavoreb_to_real(
+        listing: *const u8, listing_length: usize,
+        tag: *mut u64, tag_length: usize, first: *mut u64, first_length: usize,
+        second: *mut u64, second_length: usize, link: *mut u64, link_length: usize,
+        table: *mut u64, answer: *mut u64,
+    ) -> u64;
+}
+
+const TABLE: usize = 8192;
+const ANSWER: usize = 6;
+const EDGE: usize = 4; // words, or bytes, before and after a slice
+const BLANK: u8 = 0xA5;
+
+struct Words {
+    all: Vec<u64>,
+    junk: u64,
+}
+
+impl Words {
+    fn new(length: usize, junk: u64) -> Self {
+        Self { all: vec![junk; length + 2 * EDGE], junk }
+    }
+
+    fn lent(&mut self) -> &mut [u64] {
+        let end = self.all.len() - EDGE;
+        &mut self.all[EDGE..end]
+    }
+
+    fn edges_kept(&self) -> bool {
+        let end = self.all.len() - EDGE;
+        self.all[..EDGE].iter().chain(&self.all[end..]).all(|w| *w == self.junk)
+    }
+
+    fn is_zero(&mut self) -> bool {
+        self.edges_kept() && self.lent().iter().all(|w| *w == 0)
+    }
+}
+
+// The output: what is lent of it has a pattern at entry.
+struct Paper(Vec<u8>);
+
+impl Paper {
+    fn new(length: usize) -> Self {
+        Self(vec![BLANK; length + 2 * EDGE])
+    }
+
+    fn lent(&mut self) -> &mut [u8] {
+        let end = self.0.len() - EDGE;
+        &mut self.0[EDGE..end]
+    }
+
+    // The first n bytes, if all others are as they were.
+    fn written(&self, n: usize) -> Option<Vec<u8>> {
+        let end = EDGE.checked_add(n).filter(|end| *end <= self.0.len() - EDGE)?;
+        let others = self.0[..EDGE].iter().chain(&self.0[end..]);
+        others.into_iter().all(|b| *b == BLANK).then(|| self.0[EDGE..end].to_vec())
+    }
+}
+
+// Rust's empty slices have no address of their own; all the same it is not null.
+fn call(q: &Question, work: &mut [Words; 4], table: &mut Words, paper: &mut Paper, answer: &mut Words) -> u64 {
+    let (text, length) = (q.listing.as_ptr(), q.listing.len());
+    let [(a, al), (b, bl), (c, cl), (d, dl)] = work.each_mut().map(|w| (w.lent().as_mut_ptr(), w.lent().len()));
+    let (table, answer) = (table.lent().as_mut_ptr(), answer.lent().as_mut_ptr());
+    unsafe {
+        match q.kind {
+            Kind::Evaluate => {
+                let (sheet, sheet_length) = (q.sheet.as_ptr(), q.sheet.len());
+                findavoreb_evaluate(text, length, sheet, sheet_length, a, al, b, bl, c, cl, d, dl, table, answer)
+            }
+            Kind::Substitute => {
+                let (out, out_length) = (paper.lent().as_mut_ptr(), q.out);
+                findavoreb_substitute(text, length, a, al, b, bl, c, cl, d, dl, table, out, out_length, answer)
+            }
+            Kind::ToReal => findavoreb_to_real(text, length, a, al, b, bl, c, cl, d, dl, table, answer),
+        }
+    }
+}
+
+// The answer, or what was wrong about the memory after the call.
+pub fn ask(q: &Question) -> Result<Answer, &'static str> {
+    let mut work = q.lengths.map(|n| Words::new(n, q.junk));
+    let (mut table, mut answer) = (Words::new(TABLE, q.junk), Words::new(ANSWER, !q.junk));
+    let mut paper = Paper::new(if q.kind == Kind::Substitute { q.out } else { 0 });
+    let number = call(q, &mut work, &mut table, &mut paper, &mut answer);
+    if !work.iter_mut().all(Words::is_zero) {
+        return Err("the work slices are not zero");
+    }
+    if !table.is_zero() {
+        return Err("the table is not zero");
+    }
+    if !answer.edges_kept() {
+        return Err("words beside the answer were changed");
+    }
+    let [first, place, words @ ..] = answer.lent() else { return Err("no answer") };
+    if *first != number {
+        return Err("the answer's first word is not what was returned");
+    }
+    let (place, words) = (*place, [words[0], words[1], words[2], words[3]]);
+    let written = if number == 0 { place as usize } else { 0 };
+    let bytes = paper.written(written).ok_or("bytes of the output beside the result were changed")?;
+    if number != 0 && number != NEED && words != [0; 4] {
+        return Err("words of the answer that are not used are not zero");
+    }
+    let place = if number == 0 { 0 } else { place };
+    Ok(Answer { number, place, words, bytes })
+}

@@ -1,0 +1,55 @@
+// What is asked of the port and what it answers, in the form that both sides of the comparison use.
+use crate::store::MOST;
+
+#[derive(Clone, Copy, Debug, PartialEq, Eq)]
+pub enum Kind {
+    Evaluate,
+    Substitute,
+    ToReal,
+}
+
+// The two texts; how long the four work slices and the output are; what they hold at entry.
+#[derive(Clone, Debug)]
+pub struct Question {
+    pub kind: Kind,
+    pub listing: String,
+    pub sheet: String,
+    pub lengths: [usize; 4],
+    pub out: usize,
+    pub junk: u64,
+}
+
+impl Question {
+    pub fn capacity(&self) -> usize {
+        self.lengths.into_iter().min().unwrap_or(0).min(MOST)
+    }
+}
+
+// A refusal's number or 0; the operation that NEED names, or the line; a value's bits or NEED's operands; the bytes.
+#[derive(Clone, Debug, Default, PartialEq, Eq)]
+pub struct Answer {
+    pub number: u64,
+    pub place: u64,
+    pub words: [u64; 4],
+    pub bytes: Vec<u8>,
+}
+
+pub const NEED: u64 = 9;
+pub const INCOMPLETE: u64 = 10;
+pub const NOT_REAL: u64 = 11;
+pub const NOT_A_NUMBER: u64 = 12;
+pub const OUT_ROOM: u64 = 13;
+
+impl Answer {
+    pub fn refusal(number: u64) -> Self {
+        Self { number, ..Self::default() }
+    }
+
+    // The same answer with zeros of either sign as one, where it is a value.
+    pub fn with_one_zero(mut self) -> Self {
+        if self.number == 0 {
+            self.words = self.words.map(|w| if w == 1 << 63 { 0 } else { w });
+        }
+        self
+    }
+}
