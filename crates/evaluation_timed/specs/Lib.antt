@@ -1,0 +1,2 @@
+-- What the contracts of `evaluation_timed` cite.
+pub mod Packed
