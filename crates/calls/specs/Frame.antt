@@ -1,4 +1,4 @@
--- What the steps of a call ensure, and each call's promise as one equation. Only connecting.
+-- What the steps of a call ensure, which only connects; and at the end each call's promise as one equation, which is to be believed.
 use mathlib.Core.Path.{_≡_}
 use Prim.Native.Nat.{ℕ, _<_}
 use mathlib.Core.List.{List}
