@@ -1,0 +1,140 @@
+-- What a test of a node or of its operands shows. Assumes nothing.
+use mathlib.Core.Path.{_≡_, refl, sym, ap, _∙_, subst}
+use mathlib.Core.Bool.{Bool, true, false, not}
+use Prim.Native.Nat.{ℕ, _<_}
+use native.Mathlib.Omega.{arith}
+use lib.Dec.{T}
+use mathlib.Core.List.{List}
+use Rattle.complex.specs.declared.Complex.{Complex}
+use Rattle.expression.specs.declared.InfixOperator.{InfixOperator}
+use Rattle.expression.specs.Trees.{Tree, Leaf, number, pi, variable, cell, leaf, functionCall, prefixed, infixed}
+use Rattle.expression.specs.Alike.{equal}
+use Rattle.store.specs.declared.node.Expression.{Expression}
+use Rattle.store.specs.Nodes.{expressionOf, Within}
+use Rattle.store.specs.Memory.{Memory, memory, fieldsAt, treeAt, treeOf}
+use Rattle.store.specs.Held.{Holds, ComparesIn, Compares}
+use Rattle.store.proofs.Stored.{read-node}
+use Rattle.arms.specs.Looks.{both, either, isNumberOf, isNumber, numberIn, isNegation, isInfix, left, right, mulMatches}
+use Rattle.arms.specs.Choosing.{At, Sits}
+
+pub never : {A : Type 0} → false ≡ true → A
+never e = absurd (subst T (sym e) tt)
+
+-- what a callee tells, and how the test went
+pub so : {r t b : Bool} → r ≡ t → r ≡ b → t ≡ b
+so p q = sym p ∙ q
+
+-- ---- numbers
+
+pub number-of : (test : Complex → Bool) (t : Tree) → isNumber t ≡ true → test (numberIn t) ≡ isNumberOf test t
+unfolding isNumberOf numberIn
+number-of test (leaf (number z)) e = refl
+number-of test (leaf pi) e = never e
+number-of test (leaf (variable v)) e = never e
+number-of test (leaf (cell region index)) e = never e
+number-of test (functionCall f t) e = never e
+number-of test (prefixed o t) e = never e
+number-of test (infixed o l r) e = never e
+
+pub not-number : (test : Complex → Bool) (t : Tree) → isNumber t ≡ false → false ≡ isNumberOf test t
+unfolding isNumberOf
+not-number test (leaf (number z)) e = never (sym e)
+not-number test (leaf pi) e = refl
+not-number test (leaf (variable v)) e = refl
+not-number test (leaf (cell region index)) e = refl
+not-number test (functionCall f t) e = refl
+not-number test (prefixed o t) e = refl
+not-number test (infixed o l r) e = refl
+
+-- ---- of two tests
+
+pub first-of-both : (a b : Bool) → both a b ≡ true → a ≡ true
+unfolding both
+first-of-both true b e = refl
+first-of-both false b e = e
+
+pub second-of-both : (a b : Bool) → both a b ≡ true → b ≡ true
+unfolding both
+second-of-both true b e = e
+second-of-both false b e = never e
+
+-- the same of a callee that was told two answers
+pub first-told : {a p r : Bool} (b : Bool) → r ≡ both a b → a ≡ p → r ≡ true → p ≡ true
+first-told b e f g = sym f ∙ first-of-both _ b (so e g)
+
+pub second-told : {b p r : Bool} (a : Bool) → r ≡ both a b → b ≡ p → r ≡ true → p ≡ true
+second-told a e f g = sym f ∙ second-of-both a _ (so e g)
+
+pub other-of-either : (a b : Bool) → either a b ≡ true → b ≡ false → a ≡ true
+unfolding either
+other-of-either true b e f = refl
+other-of-either false b e f = never (sym f ∙ e)
+
+-- by the first of them
+pub both-yes : {a b c r : Bool} → a ≡ c → c ≡ true → r ≡ b → r ≡ both a b
+unfolding both
+both-yes e f g = rw (e ∙ f) g
+
+pub both-not : {a c : Bool} (b : Bool) → a ≡ c → c ≡ false → false ≡ both a b
+unfolding both
+both-not b e f = rw (e ∙ f) refl
+
+pub both-of : {a b p q r : Bool} → r ≡ both a b → a ≡ p → b ≡ q → r ≡ both p q
+both-of e f g = e ∙ (λ i. both (f i) (g i))
+
+pub either-of : {a b p q r : Bool} → r ≡ either a b → a ≡ p → b ≡ q → r ≡ either p q
+either-of e f g = e ∙ (λ i. either (f i) (g i))
+
+pub either-yes : {a c : Bool} (b : Bool) → a ≡ c → c ≡ true → true ≡ either a b
+unfolding either
+either-yes b e f = rw (e ∙ f) refl
+
+pub either-not : {a b c r : Bool} → a ≡ c → c ≡ false → r ≡ b → r ≡ either a b
+unfolding either
+either-not e f g = rw (e ∙ f) g
+
+pub not-true : (b : Bool) → not b ≡ true → b ≡ false
+not-true true e = never e
+not-true false e = refl
+
+pub not-false : (b : Bool) → not b ≡ false → b ≡ true
+not-false true e = refl
+not-false false e = sym e
+
+-- ---- nodes and their trees
+
+within-more : (n k : ℕ) (e : Expression) → k < n → Within k e → Within n e
+within-more n k (Expression.Number z) l w = tt
+within-more n k Expression.PiConstant l w = tt
+within-more n k (Expression.Variable v) l w = tt
+within-more n k (Expression.Address region index) l w = tt
+within-more n k (Expression.FunctionCall f a) l w = omega (arith, l, w)
+within-more n k (Expression.Prefix o a) l w = omega (arith, l, w)
+within-more n k (Expression.Infix o a b) l w = (omega (arith, l, w .0), omega (arith, l, w .1))
+
+module _ {m : Memory} {n : ℕ} where
+  pub here : {k : ℕ} → k < n → At m n k (treeAt m k)
+  here l = record { inside = l; tree = refl }
+
+  pub at-named : {k : ℕ} {t u : Tree} → t ≡ u → At m n k t → At m n k u
+  at-named e a = record { inside = a .inside; tree = a .tree ∙ e }
+
+  -- a node that was read
+  pub tree-of : Holds m n → {k : ℕ} {e : Expression} → k < n → e ≡ expressionOf (fieldsAt m k) → treeOf m e ≡ treeAt m k
+  tree-of h {k} l p = read-node h k l p .1
+
+  pub within-of : Holds m n → {k : ℕ} {e : Expression} → k < n → e ≡ expressionOf (fieldsAt m k) → Within n e
+  within-of h {k} {e} l p = within-more n k e l (read-node h k l p .0)
+
+  pub sits : Holds m n → {k : ℕ} {e : Expression} → k < n → e ≡ expressionOf (fieldsAt m k) → Sits m n k e
+  sits h l p = record { at = record { inside = l; tree = sym (tree-of h l p) }; within = within-of h l p }
+
+-- two nodes that were compared
+pub compared : {tag first second link : List ℕ} {n a b : ℕ} {r : Bool} {t u : Tree} → Compares link a b r → Holds (memory tag first second link) n
+    → At (memory tag first second link) n a t → At (memory tag first second link) n b u → r ≡ equal t u
+compared {tag} {first} {second} {link} {n} c h a b = c tag first second n h (a .inside) (b .inside) ∙ (λ i. equal (a .tree i) (b .tree i))
+
+-- a test of two nodes by their numbers, as one of their trees
+pub likened : (test : Tree → Tree → Bool) {m : Memory} {n a b : ℕ} {r : Bool} {t u : Tree} → (a < n → b < n → r ≡ test (treeAt m a) (treeAt m b))
+    → At m n a t → At m n b u → r ≡ test t u
+likened test c a b = c (a .inside) (b .inside) ∙ (λ i. test (a .tree i) (b .tree i))

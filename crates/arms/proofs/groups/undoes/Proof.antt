@@ -1,0 +1,22 @@
+-- `undoes` meets its contract. Assumes nothing.
+use mathlib.Core.Path.{refl}
+use Rattle.arms.specs.Arms.{undoes}
+use borrow.Author.Needs.{needs}
+use Rattle.arms.proofs.groups.undoes.Statement.{statement}
+use Rattle.arms.proofs.groups.undoes.Tie as tie
+
+pub undoes-spec : {M : Type 1} → statement M
+unfolding undoes
+undoes-spec =
+    tie.close
+    (tie.spec
+    (λ c. search needs)
+    (λ c. search needs)
+    (λ c. search needs)
+    (λ c. search needs)
+    (λ c. search needs)
+    (λ c. rw (c .enum-told .given .1) refl)
+    (λ c. rw (c .enum-told2 .given .1) refl)
+    (λ c. rw (c .enum-told3 .given .1) refl)
+    (λ c. rw (c .enum-told4 .given .1) refl)
+    (λ c. rw (c .enum-told5 .given .1) refl))

@@ -1,0 +1,311 @@
+-- 01's arms in 01's order and by 01's numbers: which plan is made for an operation whose operands are simplified. Trees alone are looked at.
+-- Definitions only.
+use mathlib.Core.Bool.{Bool, true, false, cond}
+use lib.Dec.{ltb}
+use Rattle.complex.specs.declared.Complex.{Complex}
+use Rattle.complex.specs.Arithmetic.{negated}
+use Rattle.complex.specs.Constants.{zeroNumber, oneNumber, twoNumber, minusOneNumber, nanNumber}
+use Rattle.expression.specs.declared.InfixOperator.{InfixOperator}
+use Rattle.expression.specs.declared.PrefixOperator.{PrefixOperator}
+use Rattle.expression.specs.declared.ExpressionFunction.{ExpressionFunction}
+use Rattle.expression.specs.Trees.{Tree, number, leaf, functionCall, prefixed, infixed, size}
+use Rattle.expression.specs.Alike.{equal}
+use Rattle.arms.specs.Looks.{both, either, isNumber, isZeroNumber, isOneNumber, numberIn, isNegation, under, isInfix, left, right, bothInfix, eitherInfix, beginsWith, endsWith, mulMatches}
+
+-- What an arm wants. It is carried out from left to right, operands before their node, each node just before its own S call.
+pub data Plan : Type 0 where
+  the : Tree → Plan  -- a tree that is stored
+  new : Tree → Plan  -- a tree whose operands are stored; it is stored now
+  folded : InfixOperator → (x y : Complex) → Plan  -- the number that the operator gives for two numbers
+  called : ExpressionFunction → (x : Complex) → Plan  -- the number that the function gives for a number
+  negation : Plan → Plan  -- -e
+  combined : InfixOperator → Plan → Plan → Plan  -- b op c
+  S : Plan → Plan  -- simplified again
+  lesser : Plan → Plan → Plan  -- min
+  affine : (a a′ x b b′ : Tree) → Plan  -- S(S(S(a+a')*x)+S(b+b')), sums first
+
+-- an arm, or else the arms after it
+unfoldable pub pick : Bool → (arm rest : Plan) → Plan
+pick true arm rest = arm
+pick false arm rest = rest
+
+-- min is `smaller`; "a `min_by_key` tie keeps the first"
+unfoldable pub smaller : Tree → Tree → Tree
+smaller t u = cond (ltb (size u) (size t)) u t
+
+-- ---- what the arms write
+
+abbrev pub constant : Complex → Plan
+constant z = new (leaf (number z))
+
+abbrev pub minus : Tree → Tree
+minus t = prefixed PrefixOperator.Minus t
+
+abbrev pub sum : Tree → Tree → Tree
+sum = infixed InfixOperator.Plus
+
+abbrev pub difference : Tree → Tree → Tree
+difference = infixed InfixOperator.Minus
+
+abbrev pub product : Tree → Tree → Tree
+product = infixed InfixOperator.Star
+
+abbrev pub quotient : Tree → Tree → Tree
+quotient = infixed InfixOperator.Slash
+
+-- ---- arms of more than one operator
+
+abbrev pub bothNumbers : Tree → Tree → Bool
+bothNumbers l r = both (isNumber l) (isNumber r)
+
+abbrev pub bothNegations : Tree → Tree → Bool
+bothNegations l r = both (isNegation l) (isNegation r)
+
+abbrev pub eitherNegation : Tree → Tree → Bool
+eitherNegation l r = either (isNegation l) (isNegation r)
+
+-- 17. Two numbers: fold
+abbrev pub folding : InfixOperator → Tree → Tree → Plan
+folding op l r = folded op (numberIn l) (numberIn r)
+
+-- inv of arm 31 and op' of arm 32: "+ for -, * for /, else op"
+unfoldable pub undone : InfixOperator → InfixOperator
+undone InfixOperator.Plus = InfixOperator.Plus
+undone InfixOperator.Minus = InfixOperator.Plus
+undone InfixOperator.Star = InfixOperator.Star
+undone InfixOperator.Slash = InfixOperator.Star
+undone InfixOperator.Caret = InfixOperator.Caret
+
+unfoldable pub undoes : InfixOperator → Bool
+undoes InfixOperator.Plus = false
+undoes InfixOperator.Minus = true
+undoes InfixOperator.Star = false
+undoes InfixOperator.Slash = true
+undoes InfixOperator.Caret = false
+
+-- 30. l op (b op c), + or *: min(l op r, S(S(l op b) op c))
+-- 31. The same, - or /: min(l op r, S(S(l inv c) op b))
+unfoldable pub groupedRight : InfixOperator → Tree → Tree → Plan
+groupedRight op l r =
+    pick (undoes op)
+    (lesser (new (infixed op l r)) (S (combined op (S (new (infixed (undone op) l (right r)))) (the (left r)))))
+    (lesser (new (infixed op l r)) (S (combined op (S (new (infixed op l (left r)))) (the (right r)))))
+
+-- 30, 31; 32. (a op b) op r, + * - /: min(l op r, S(a op' S(b op r)))
+unfoldable pub grouped : InfixOperator → Tree → Tree → Plan
+grouped op l r =
+    pick (isInfix op r) (groupedRight op l r)
+    (lesser (new (infixed op l r)) (S (combined (undone op) (the (left l)) (S (new (infixed op (right l) r))))))
+
+-- 25. l op -e, op * or /: min(l*r, S(S(-l) op e))
+-- 26. (-e) op r, same ops: min(l*r, S(e op S(-r)))
+unfoldable pub moved : InfixOperator → Tree → Tree → Plan
+moved op l r =
+    pick (isNegation r) (lesser (new (product l r)) (S (combined op (S (new (minus l))) (the (under r)))))
+    (lesser (new (product l r)) (S (combined op (the (under l)) (S (new (minus r))))))
+
+-- 22. (-a)*(-b), (-a)/(-b): S(a op b)
+abbrev pub unsigned : InfixOperator → Tree → Tree → Plan
+unsigned op l r = S (new (infixed op (under l) (under r)))
+
+-- ---- addition
+
+-- 27. (p*q+b)+(p'*q'+b') with a shared factor, "tried as p=p', p=q', q=p', q=q'", "taken as p, p, q, q' in the four cases"
+unfoldable pub sharing : (p q p′ q′ b b′ : Tree) → Plan
+sharing p q p′ q′ b b′ =
+    pick (equal p p′) (affine q q′ p b b′)
+    (pick (equal p q′) (affine q p′ p b b′)
+    (pick (equal q p′) (affine p q′ q b b′)
+    (affine p p′ q′ b b′)))
+
+abbrev pub shared : Tree → Tree → Plan
+shared l r = sharing (left (left l)) (right (left l)) (left (left r)) (right (left r)) (right l) (right r)
+
+-- the tests of arms 27, 28 and 29
+abbrev pub affineTest : Tree → Tree → Bool
+affineTest l r = both (bothInfix InfixOperator.Plus l r) (mulMatches (left l) (left r))
+
+abbrev pub likeProducts : Tree → Tree → Bool
+likeProducts l r = both (bothInfix InfixOperator.Star l r) (equal (right l) (right r))
+
+abbrev pub likeSums : Tree → Tree → Bool
+likeSums l r = both (bothInfix InfixOperator.Plus l r) (equal (left l) (left r))
+
+unfoldable pub affineSum : Tree → Tree → Plan
+affineSum l r =
+    -- 27
+    pick (affineTest l r) (shared l r)
+    -- 28. a*x+b*x: S(S(a+b)*x)
+    (pick (likeProducts l r) (S (combined InfixOperator.Star (S (new (sum (left l) (left r)))) (the (right l))))
+    -- 29. (x+a)+(x+b): S(S(2*x)+S(a+b))
+    (pick (likeSums l r) (S (combined InfixOperator.Plus (S (combined InfixOperator.Star (constant twoNumber) (the (left l)))) (S (new (sum (right l) (right r))))))
+    -- 30, 32
+    (pick (eitherInfix InfixOperator.Plus l r) (grouped InfixOperator.Plus l r)
+    -- 41. Rebuild
+    (new (sum l r)))))
+
+unfoldable pub sumPlan : Tree → Tree → Plan
+sumPlan l r =
+    -- 1. 0+r: r
+    pick (isZeroNumber l) (the r)
+    -- 2. l+0: l
+    (pick (isZeroNumber r) (the l)
+    -- 17
+    (pick (bothNumbers l r) (folding InfixOperator.Plus l r)
+    -- 18. l+(-e): S(l-e)
+    (pick (isNegation r) (S (new (difference l (under r))))
+    -- 19. (-e)+r: S(r-e)
+    (pick (isNegation l) (S (new (difference r (under l))))
+    (affineSum l r)))))
+
+-- ---- subtraction
+
+unfoldable pub signedDifference : Tree → Tree → Plan
+signedDifference l r =
+    -- 20. l-(-e): S(l+e)
+    pick (isNegation r) (S (new (sum l (under r))))
+    -- 21. (-e)-r: min(l-r, S(-S(e+r)))
+    (pick (isNegation l) (lesser (new (difference l r)) (S (negation (S (new (sum (under l) r))))))
+    -- 31, 32
+    (pick (eitherInfix InfixOperator.Minus l r) (grouped InfixOperator.Minus l r)
+    -- 41
+    (new (difference l r))))
+
+unfoldable pub differencePlan : Tree → Tree → Plan
+differencePlan l r =
+    -- 3. 0-r: S(-r)
+    pick (isZeroNumber l) (S (new (minus r)))
+    -- 4. l-0: l
+    (pick (isZeroNumber r) (the l)
+    -- 5. l-l: 0
+    (pick (equal l r) (constant zeroNumber)
+    -- 17
+    (pick (bothNumbers l r) (folding InfixOperator.Minus l r)
+    (signedDifference l r))))
+
+-- ---- multiplication
+
+unfoldable pub signedProduct : Tree → Tree → Plan
+signedProduct l r = pick (bothNegations l r) (unsigned InfixOperator.Star l r) (moved InfixOperator.Star l r)
+
+unfoldable pub distributed : Tree → Tree → Plan
+distributed l r =
+    -- 33. l*(b+c): min(l*r, S(S(l*b)+S(l*c)))
+    pick (isInfix InfixOperator.Plus r) (lesser (new (product l r)) (S (combined InfixOperator.Plus (S (new (product l (left r)))) (S (new (product l (right r)))))))
+    -- 34. (a+b)*r likewise
+    (pick (isInfix InfixOperator.Plus l) (lesser (new (product l r)) (S (combined InfixOperator.Plus (S (new (product (left l) r))) (S (new (product (right l) r))))))
+    -- 39. (o/r)*r: o
+    (pick (endsWith InfixOperator.Slash l r) (the (left l))
+    -- 40. l*(o/l): o
+    (pick (endsWith InfixOperator.Slash r l) (the (left r))
+    -- 41
+    (new (product l r)))))
+
+unfoldable pub productPlan : Tree → Tree → Plan
+productPlan l r =
+    -- 6. 0*r, l*0: 0
+    pick (either (isZeroNumber l) (isZeroNumber r)) (constant zeroNumber)
+    -- 7. 1*r: r
+    (pick (isOneNumber l) (the r)
+    -- 8. l*1: l
+    (pick (isOneNumber r) (the l)
+    -- 17
+    (pick (bothNumbers l r) (folding InfixOperator.Star l r)
+    -- 22, 25, 26
+    (pick (eitherNegation l r) (signedProduct l r)
+    -- 30, 32
+    (pick (eitherInfix InfixOperator.Star l r) (grouped InfixOperator.Star l r)
+    (distributed l r))))))
+
+-- ---- division
+
+-- t is -k, for a tree equal to k
+abbrev pub cancelsNegation : (t k : Tree) → Bool
+cancelsNegation t k = both (isNegation t) (equal (under t) k)
+
+unfoldable pub signedQuotient : Tree → Tree → Plan
+signedQuotient l r =
+    -- 22
+    pick (bothNegations l r) (unsigned InfixOperator.Slash l r)
+    -- 23. l/(-l): -1, "the negation of 1, so its imaginary part is -0"
+    (pick (cancelsNegation r l) (constant minusOneNumber)
+    -- 24. (-r)/r: the same
+    (pick (cancelsNegation l r) (constant minusOneNumber)
+    -- 25, 26
+    (moved InfixOperator.Slash l r)))
+
+unfoldable pub split : Tree → Tree → Plan
+split l r =
+    -- 37. (m*n)/r: min(l/r, S(m*S(n/r)))
+    pick (isInfix InfixOperator.Star l) (lesser (new (quotient l r)) (S (combined InfixOperator.Star (the (left l)) (S (new (quotient (right l) r))))))
+    -- 38. l/(m*n): min(l/r, S(S(l/m)/n))
+    (pick (isInfix InfixOperator.Star r) (lesser (new (quotient l r)) (S (combined InfixOperator.Slash (S (new (quotient l (left r)))) (the (right r)))))
+    -- 41
+    (new (quotient l r)))
+
+unfoldable pub cancelled : Tree → Tree → Plan
+cancelled l r =
+    -- 35. (s*o)/s, (o*s)/s: o
+    pick (beginsWith InfixOperator.Star l r) (the (right l))
+    (pick (endsWith InfixOperator.Star l r) (the (left l))
+    -- 36. l/(l*o), l/(o*l): S(1/o)
+    (pick (beginsWith InfixOperator.Star r l) (S (combined InfixOperator.Slash (constant oneNumber) (the (right r))))
+    (pick (endsWith InfixOperator.Star r l) (S (combined InfixOperator.Slash (constant oneNumber) (the (left r))))
+    (split l r))))
+
+unfoldable pub quotientPlan : Tree → Tree → Plan
+quotientPlan l r =
+    -- 9. 0/r: 0
+    pick (isZeroNumber l) (constant zeroNumber)
+    -- 10. l/0: NaN, imaginary 0
+    (pick (isZeroNumber r) (constant nanNumber)
+    -- 11. l/1: l
+    (pick (isOneNumber r) (the l)
+    -- 12. l/l: 1
+    (pick (equal l r) (constant oneNumber)
+    -- 17
+    (pick (bothNumbers l r) (folding InfixOperator.Slash l r)
+    -- 22 to 26
+    (pick (eitherNegation l r) (signedQuotient l r)
+    -- 31, 32
+    (pick (eitherInfix InfixOperator.Slash l r) (grouped InfixOperator.Slash l r)
+    (cancelled l r)))))))
+
+-- ---- powers
+
+unfoldable pub powerPlan : Tree → Tree → Plan
+powerPlan l r =
+    -- 13. 0^r: 0
+    pick (isZeroNumber l) (constant zeroNumber)
+    -- 14. l^0: 1
+    (pick (isZeroNumber r) (constant oneNumber)
+    -- 15. 1^r: 1
+    (pick (isOneNumber l) (constant oneNumber)
+    -- 16. l^1: l
+    (pick (isOneNumber r) (the l)
+    -- 17
+    (pick (bothNumbers l r) (folding InfixOperator.Caret l r)
+    -- 41
+    (new (infixed InfixOperator.Caret l r))))))
+
+-- ---- the arms of an operation
+
+-- "Infix, l and r simplified, first match"
+unfoldable pub infixPlan : InfixOperator → Tree → Tree → Plan
+infixPlan InfixOperator.Plus l r = sumPlan l r
+infixPlan InfixOperator.Minus l r = differencePlan l r
+infixPlan InfixOperator.Star l r = productPlan l r
+infixPlan InfixOperator.Slash l r = quotientPlan l r
+infixPlan InfixOperator.Caret l r = powerPlan l r
+
+-- "Function: a number is folded, else rebuilt"
+unfoldable pub functionPlan : ExpressionFunction → Tree → Plan
+functionPlan f x = pick (isNumber x) (called f (numberIn x)) (new (functionCall f x))
+
+-- "Prefix + gives the child. Prefix - negates a number, strips an inner -, else rebuilds"
+unfoldable pub minusPlan : Tree → Plan
+minusPlan x = pick (isNumber x) (constant (negated (numberIn x))) (pick (isNegation x) (the (under x)) (new (minus x)))
+
+unfoldable pub prefixPlan : PrefixOperator → Tree → Plan
+prefixPlan PrefixOperator.Plus x = the x
+prefixPlan PrefixOperator.Minus x = minusPlan x

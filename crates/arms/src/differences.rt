@@ -1,0 +1,68 @@
+// The arms of -: 3 to 5, 17, 20, 21, 31, 32 and 41.
+ghost use Rattle.arms.specs.Arms.{signedDifference, differencePlan};
+ghost use Rattle.arms.specs.Choosing.{ChoosesWhere, Chooses, always};
+use super::Arm;
+use super::Outer;
+use super::groups::choose_grouped;
+use super::looks::are_numbers;
+use super::looks::has_infix;
+use super::looks::is_negation;
+use super::looks::is_zero_number;
+use super::looks::number_in;
+use super::looks::operand_in;
+use complex::constants::zero;
+use expression::InfixOperator;
+use expression::PrefixOperator;
+use store::equal_at;
+use store::node::Expression;
+
+// Arms 20, 21, 31, 32 and 41.
+fn choose_signed_difference(l: usize, r: usize, left: Expression, right: Expression) -> Arm
+    ensures { λ arm. ⌜ ChoosesWhere always signedDifference l r left right arm ⌝ }
+{
+    // 20
+    if is_negation(right) {
+        return Arm::Again(Expression::Infix(InfixOperator::Plus, l, operand_in(right)));
+    }
+    // 21
+    if is_negation(left) {
+        return Arm::Smaller(
+            Expression::Infix(InfixOperator::Minus, l, r),
+            Expression::Infix(InfixOperator::Plus, operand_in(left), r),
+            Outer::Negated,
+        );
+    }
+    // 31, 32
+    if has_infix(left, right, InfixOperator::Minus) {
+        return choose_grouped(InfixOperator::Minus, l, r, left, right);
+    }
+    // 41
+    Arm::Build(Expression::Infix(InfixOperator::Minus, l, r))
+}
+
+pub fn choose_difference(
+    link: &[u64],
+    l: usize,
+    r: usize,
+    left: Expression,
+    right: Expression,
+) -> Arm
+    ensures { λ arm. ⌜ Chooses differencePlan (now (link .entry)) l r left right arm ⌝ }
+{
+    // 3, 4
+    if is_zero_number(left) {
+        return Arm::Again(Expression::Prefix(PrefixOperator::Minus, r));
+    }
+    if is_zero_number(right) {
+        return Arm::Use(l);
+    }
+    // 5
+    if equal_at(link, l, r) {
+        return Arm::Build(Expression::Number(zero()));
+    }
+    // 17
+    if are_numbers(left, right) {
+        return Arm::Fold(InfixOperator::Minus, number_in(left), number_in(right));
+    }
+    choose_signed_difference(l, r, left, right)
+}

@@ -1,0 +1,211 @@
+// What the arms look at in a node. A test needs the node's fields alone; what compares operands reads their classes.
+ghost use mathlib.Core.Path.{_≡_};
+ghost use lib.Dec.{eqb};
+ghost use Prim.Native.Nat.{ℕ};
+ghost use Rattle.complex.specs.Zero as Zero;
+ghost use Rattle.expression.specs.Codes.{infixCode};
+ghost use Rattle.expression.specs.Alike.{equal};
+ghost use Rattle.store.specs.Nodes.{Within};
+ghost use Rattle.store.specs.Memory.{Memory, treeOf};
+ghost use Rattle.arms.specs.Looks.{both as bothOf, either as eitherOf, isNumber, isZeroNumber, isOneNumber, numberIn, isNegation, under, isInfix, left as leftOf, right as rightOf, bothInfix, eitherInfix, beginsWith, endsWith};
+ghost use Rattle.arms.specs.Arms.{bothNumbers};
+ghost use Rattle.arms.specs.Choosing.{Tells, TellsBoth, Parts, Likens, LikensTo};
+use complex::Complex;
+use complex::constants::zero;
+use complex::zero::is_one;
+use complex::zero::is_zero;
+use expression::InfixOperator;
+use expression::PrefixOperator;
+use store::equal_at;
+use store::node::Expression;
+
+pub fn is_number(e: Expression) -> bool
+    ensures { λ r. ⌜ Tells isNumber e r ⌝ }
+{
+    match e {
+        Expression::Number(_) => true,
+        Expression::Address(_, _) => false,
+        Expression::FunctionCall(_, _) => false,
+        Expression::Infix(_, _, _) => false,
+        Expression::PiConstant => false,
+        Expression::Prefix(_, _) => false,
+        Expression::Variable(_) => false,
+    }
+}
+
+pub fn number_in(e: Expression) -> Complex
+    ensures { λ r. ⌜ ((m : Memory) → r ≡ numberIn (treeOf m e)) ⌝ }
+{
+    match e {
+        Expression::Number(z) => z,
+        Expression::Address(_, _) => zero(),
+        Expression::FunctionCall(_, _) => zero(),
+        Expression::Infix(_, _, _) => zero(),
+        Expression::PiConstant => zero(),
+        Expression::Prefix(_, _) => zero(),
+        Expression::Variable(_) => zero(),
+    }
+}
+
+// "0" of the arms.
+pub fn is_zero_number(e: Expression) -> bool
+    ensures { λ r. ⌜ Tells isZeroNumber e r ⌝ }
+{
+    if is_number(e) {
+        is_zero(number_in(e))
+    } else {
+        false
+    }
+}
+
+// "1" of the arms.
+pub fn is_one_number(e: Expression) -> bool
+    ensures { λ r. ⌜ Tells isOneNumber e r ⌝ }
+{
+    if is_number(e) {
+        is_one(number_in(e))
+    } else {
+        false
+    }
+}
+
+pub fn are_numbers(left: Expression, right: Expression) -> bool
+    ensures { λ r. ⌜ TellsBoth bothNumbers left right r ⌝ }
+{
+    if is_number(left) {
+        is_number(right)
+    } else {
+        false
+    }
+}
+
+pub fn is_minus(operator: PrefixOperator) -> bool
+    ensures { λ r. ⌜ ((m : Memory) (k : ℕ) → r ≡ isNegation (treeOf m (Expression.Prefix operator k))) ⌝ }
+{
+    match operator {
+        PrefixOperator::Plus => false,
+        PrefixOperator::Minus => true,
+    }
+}
+
+// -e
+pub fn is_negation(e: Expression) -> bool
+    ensures { λ r. ⌜ Tells isNegation e r ⌝ }
+{
+    match e {
+        Expression::Prefix(operator, _) => is_minus(operator),
+        Expression::Address(_, _) => false,
+        Expression::FunctionCall(_, _) => false,
+        Expression::Infix(_, _, _) => false,
+        Expression::Number(_) => false,
+        Expression::PiConstant => false,
+        Expression::Variable(_) => false,
+    }
+}
+
+// e of -e
+pub fn operand_in(e: Expression) -> usize
+    ensures { λ r. ⌜ Parts isNegation under e r ⌝ }
+{
+    match e {
+        Expression::Prefix(_, child) => child,
+        Expression::Address(_, _) => 0,
+        Expression::FunctionCall(_, _) => 0,
+        Expression::Infix(_, _, _) => 0,
+        Expression::Number(_) => 0,
+        Expression::PiConstant => 0,
+        Expression::Variable(_) => 0,
+    }
+}
+
+// b op c
+pub fn is_infix(e: Expression, operator: InfixOperator) -> bool
+    ensures { λ r. ⌜ Tells (isInfix operator) e r ⌝ }
+{
+    match e {
+        Expression::Infix(own, _, _) => operator.code() == own.code(),
+        Expression::Address(_, _) => false,
+        Expression::FunctionCall(_, _) => false,
+        Expression::Number(_) => false,
+        Expression::PiConstant => false,
+        Expression::Prefix(_, _) => false,
+        Expression::Variable(_) => false,
+    }
+}
+
+// b of b op c
+pub fn left_in(e: Expression) -> usize
+    ensures { λ r. ⌜ ((operator : InfixOperator) → Parts (isInfix operator) leftOf e r) ⌝ }
+{
+    match e {
+        Expression::Infix(_, left, _) => left,
+        Expression::Address(_, _) => 0,
+        Expression::FunctionCall(_, _) => 0,
+        Expression::Number(_) => 0,
+        Expression::PiConstant => 0,
+        Expression::Prefix(_, _) => 0,
+        Expression::Variable(_) => 0,
+    }
+}
+
+// c of b op c
+pub fn right_in(e: Expression) -> usize
+    ensures { λ r. ⌜ ((operator : InfixOperator) → Parts (isInfix operator) rightOf e r) ⌝ }
+{
+    match e {
+        Expression::Infix(_, _, right) => right,
+        Expression::Address(_, _) => 0,
+        Expression::FunctionCall(_, _) => 0,
+        Expression::Number(_) => 0,
+        Expression::PiConstant => 0,
+        Expression::Prefix(_, _) => 0,
+        Expression::Variable(_) => 0,
+    }
+}
+
+// Of two tests.
+pub fn both(a: bool, b: bool) -> bool
+    ensures { λ r. ⌜ r ≡ bothOf a b ⌝ }
+{
+    if a { b } else { false }
+}
+
+pub fn either(a: bool, b: bool) -> bool
+    ensures { λ r. ⌜ r ≡ eitherOf a b ⌝ }
+{
+    if a { true } else { b }
+}
+
+pub fn are_infix(left: Expression, right: Expression, operator: InfixOperator) -> bool
+    ensures { λ r. ⌜ TellsBoth (bothInfix operator) left right r ⌝ }
+{
+    both(is_infix(left, operator), is_infix(right, operator))
+}
+
+pub fn has_infix(left: Expression, right: Expression, operator: InfixOperator) -> bool
+    ensures { λ r. ⌜ TellsBoth (eitherInfix operator) left right r ⌝ }
+{
+    either(is_infix(left, operator), is_infix(right, operator))
+}
+
+// e is k op c, for a node equal to k.
+pub fn begins_with(link: &[u64], e: Expression, operator: InfixOperator, k: usize) -> bool
+    ensures { λ r. ⌜ LikensTo (beginsWith operator) (now (link .entry)) e k r ⌝ }
+{
+    if is_infix(e, operator) {
+        equal_at(link, left_in(e), k)
+    } else {
+        false
+    }
+}
+
+// e is b op k, for a node equal to k.
+pub fn ends_with(link: &[u64], e: Expression, operator: InfixOperator, k: usize) -> bool
+    ensures { λ r. ⌜ LikensTo (endsWith operator) (now (link .entry)) e k r ⌝ }
+{
+    if is_infix(e, operator) {
+        equal_at(link, right_in(e), k)
+    } else {
+        false
+    }
+}

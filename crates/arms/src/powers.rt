@@ -1,0 +1,37 @@
+// The arms of ^: 13 to 17 and 41.
+ghost use Rattle.arms.specs.Arms.{powerPlan};
+ghost use Rattle.arms.specs.Choosing.{ChoosesWhere, always};
+use super::Arm;
+use super::looks::are_numbers;
+use super::looks::is_one_number;
+use super::looks::is_zero_number;
+use super::looks::number_in;
+use complex::constants::one;
+use complex::constants::zero;
+use expression::InfixOperator;
+use store::node::Expression;
+
+pub fn choose_power(l: usize, r: usize, left: Expression, right: Expression) -> Arm
+    ensures { λ arm. ⌜ ChoosesWhere always powerPlan l r left right arm ⌝ }
+{
+    // 13, 14
+    if is_zero_number(left) {
+        return Arm::Build(Expression::Number(zero()));
+    }
+    if is_zero_number(right) {
+        return Arm::Build(Expression::Number(one()));
+    }
+    // 15, 16
+    if is_one_number(left) {
+        return Arm::Build(Expression::Number(one()));
+    }
+    if is_one_number(right) {
+        return Arm::Use(l);
+    }
+    // 17
+    if are_numbers(left, right) {
+        return Arm::Fold(InfixOperator::Caret, number_in(left), number_in(right));
+    }
+    // 41
+    Arm::Build(Expression::Infix(InfixOperator::Caret, l, r))
+}

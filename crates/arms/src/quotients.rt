@@ -1,0 +1,146 @@
+// The arms of /: 9 to 12, 17, 22 to 26, 31, 32, 35 to 38 and 41.
+ghost use Rattle.arms.specs.Arms.{eitherNegation, cancelsNegation, signedQuotient, split, cancelled, quotientPlan};
+ghost use Rattle.arms.specs.Choosing.{LikensTo, Chooses, ChoosesLinked, ChoosesWhere, always};
+use super::Arm;
+use super::Outer;
+use super::groups::choose_grouped;
+use super::groups::choose_moved;
+use super::looks::are_numbers;
+use super::looks::begins_with;
+use super::looks::both;
+use super::looks::either;
+use super::looks::ends_with;
+use super::looks::has_infix;
+use super::looks::is_infix;
+use super::looks::is_negation;
+use super::looks::is_one_number;
+use super::looks::is_zero_number;
+use super::looks::left_in;
+use super::looks::number_in;
+use super::looks::operand_in;
+use super::looks::right_in;
+use complex::constants::minus_one;
+use complex::constants::not_a_number;
+use complex::constants::one;
+use complex::constants::zero;
+use expression::InfixOperator;
+use store::equal_at;
+use store::node::Expression;
+
+// e is -k, for a node equal to k.
+fn negates(link: &[u64], e: Expression, k: usize) -> bool
+    ensures { λ r. ⌜ LikensTo cancelsNegation (now (link .entry)) e k r ⌝ }
+{
+    if is_negation(e) {
+        equal_at(link, operand_in(e), k)
+    } else {
+        false
+    }
+}
+
+// Arms 22 to 26: l or r is -e.
+fn choose_signed_quotient(
+    link: &[u64],
+    l: usize,
+    r: usize,
+    left: Expression,
+    right: Expression,
+) -> Arm
+    ensures { λ arm. ⌜ ChoosesLinked eitherNegation signedQuotient (now (link .entry)) l r left right arm ⌝ }
+{
+    // 22
+    if both(is_negation(left), is_negation(right)) {
+        return Arm::Again(Expression::Infix(
+            InfixOperator::Slash,
+            operand_in(left),
+            operand_in(right),
+        ));
+    }
+    // 23, 24
+    if negates(link, right, l) {
+        return Arm::Build(Expression::Number(minus_one()));
+    }
+    if negates(link, left, r) {
+        return Arm::Build(Expression::Number(minus_one()));
+    }
+    // 25, 26
+    choose_moved(InfixOperator::Slash, l, r, left, right)
+}
+
+// Arms 37, 38 and 41.
+fn choose_split(l: usize, r: usize, left: Expression, right: Expression) -> Arm
+    ensures { λ arm. ⌜ ChoosesWhere always split l r left right arm ⌝ }
+{
+    let original = Expression::Infix(InfixOperator::Slash, l, r);
+    // 37
+    if is_infix(left, InfixOperator::Star) {
+        return Arm::Smaller(
+            original,
+            Expression::Infix(InfixOperator::Slash, right_in(left), r),
+            Outer::After(left_in(left), InfixOperator::Star),
+        );
+    }
+    // 38
+    if is_infix(right, InfixOperator::Star) {
+        return Arm::Smaller(
+            original,
+            Expression::Infix(InfixOperator::Slash, l, left_in(right)),
+            Outer::Before(InfixOperator::Slash, right_in(right)),
+        );
+    }
+    // 41
+    Arm::Build(original)
+}
+
+// Arms 35 to 38 and 41.
+fn choose_cancelled(link: &[u64], l: usize, r: usize, left: Expression, right: Expression) -> Arm
+    ensures { λ arm. ⌜ Chooses cancelled (now (link .entry)) l r left right arm ⌝ }
+{
+    // 35
+    if begins_with(link, left, InfixOperator::Star, r) {
+        return Arm::Use(right_in(left));
+    }
+    if ends_with(link, left, InfixOperator::Star, r) {
+        return Arm::Use(left_in(left));
+    }
+    // 36
+    if begins_with(link, right, InfixOperator::Star, l) {
+        return Arm::Inverse(right_in(right));
+    }
+    if ends_with(link, right, InfixOperator::Star, l) {
+        return Arm::Inverse(left_in(right));
+    }
+    choose_split(l, r, left, right)
+}
+
+pub fn choose_quotient(link: &[u64], l: usize, r: usize, left: Expression, right: Expression) -> Arm
+    ensures { λ arm. ⌜ Chooses quotientPlan (now (link .entry)) l r left right arm ⌝ }
+{
+    // 9, 10
+    if is_zero_number(left) {
+        return Arm::Build(Expression::Number(zero()));
+    }
+    if is_zero_number(right) {
+        return Arm::Build(Expression::Number(not_a_number()));
+    }
+    // 11, 12
+    if is_one_number(right) {
+        return Arm::Use(l);
+    }
+    if equal_at(link, l, r) {
+        return Arm::Build(Expression::Number(one()));
+    }
+    // 17
+    if are_numbers(left, right) {
+        return Arm::Fold(InfixOperator::Slash, number_in(left), number_in(right));
+    }
+    // 22 to 26
+    if either(is_negation(left), is_negation(right)) {
+        return choose_signed_quotient(link, l, r, left, right);
+    }
+    // 31, 32
+    if has_infix(left, right, InfixOperator::Slash) {
+        return choose_grouped(InfixOperator::Slash, l, r, left, right);
+    }
+    choose_cancelled(link, l, r, left, right)
+}
