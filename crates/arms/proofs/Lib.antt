@@ -1,3 +1,3 @@
 -- The laws that the proofs of this crate, and where `pub` of its callers, cite.
-mod Looking
+pub mod Looking
 mod Choosing

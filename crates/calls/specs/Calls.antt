@@ -1,11 +1,12 @@
 -- The public calls, on bytes: the answer and the output for all texts, with the refusals in 01's order. Definitions only.
 use Prim.Native.Nat.{ℕ}
 use mathlib.Core.List.{List}
-use mathlib.Core.Bool.{true, false}
+use mathlib.Core.Bool.{true, false, cond}
+use lib.Dec.{ltb}
 use Rattle.expression.specs.declared.refusal.Refusal.{Refusal}
 use Rattle.expression.specs.Trees.{Tree}
 use Rattle.store.specs.Storing as Storing
-use Rattle.store.specs.Storing.{State, Answer, fresh}
+use Rattle.store.specs.Storing.{State, state, Answer, fresh}
 use Rattle.text.specs.Lines as Lines
 use Rattle.text.specs.Lines.{Whole}
 use Rattle.listing.specs.declared.writing.Written.{Written}
@@ -18,7 +19,9 @@ use Rattle.evaluation.specs.declared.real.Real.{Real}
 use Rattle.evaluation.specs.Evaluating.{evaluate}
 use Rattle.evaluation.specs.Substituting.{substitute}
 use Rattle.evaluation.specs.Reals.{toReal}
+use Rattle.simplification.specs.Simplifying.{simplify}
 use Rattle.calls.specs.declared.Evaluated.{Evaluated}
+use Rattle.calls.specs.declared.Simplified.{Simplified}
 
 -- ---- the texts: "listing line by line", then "sheet line by line"
 
@@ -69,3 +72,23 @@ substituteCall room list out =
 -- reading as a real takes none either
 unfoldable pub toRealCall : (room : ℕ) (list : List ℕ) → Real
 toRealCall room list = afterListing Real.Refused (listing false list (fresh room 0)) λ root swaps store. toReal root
+
+-- simplifying: "The answer carries the number of simplify calls made", and the length written
+unfoldable pub withCalls : (calls : ℕ) → Written → Simplified
+withCalls calls (Written.Bytes bytes) = Simplified.Bytes bytes calls
+withCalls calls (Written.Refused why) = Simplified.Refused why
+
+unfoldable pub callsIn : Answer → ℕ
+callsIn (Storing.gives t (state room stored kept calls)) = calls
+callsIn (Storing.refused why) = 0
+
+abbrev pub simplifiedAnswer : (out : List ℕ) → Answer → Simplified × List ℕ
+simplifiedAnswer out answer = (withCalls (callsIn answer) (writtenAnswer out answer .0), writtenAnswer out answer .1)
+
+unfoldable pub simplifyJob : (limit : ℕ) (out : List ℕ) → Job → Simplified × List ℕ
+simplifyJob limit out (ready root store rows) = simplifiedAnswer out (simplify rows limit root store)
+simplifyJob limit out (refused why) = (Simplified.Refused why, out)
+
+-- "Order: limit; listing line by line; sheet line by line; the operation in its running order; 2 for a result; 13"
+unfoldable pub simplifyCall : (room limit : ℕ) (list values out : List ℕ) → Simplified × List ℕ
+simplifyCall room limit list values out = cond (ltb 10 limit) (Simplified.Refused Refusal.BadLimit, out) (simplifyJob limit out (job room list values))

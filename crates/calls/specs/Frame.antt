@@ -10,10 +10,11 @@ use Rattle.sheet.specs.declared.Sheet.{Sheet}
 use Rattle.sheet.specs.Table.{rowsOf, Held}
 use Rattle.evaluation.specs.declared.real.Real.{Real}
 use Rattle.calls.specs.declared.Evaluated.{Evaluated}
+use Rattle.calls.specs.declared.Simplified.{Simplified}
 use Rattle.calls.specs.declared.Job.{Job}
 use Rattle.calls.specs.Lent.{Work, capacity, zeroed}
 use Rattle.calls.specs.Calls as Calls
-use Rattle.calls.specs.Calls.{ready, job, writtenAnswer, evaluateCall, substituteCall, toRealCall}
+use Rattle.calls.specs.Calls.{ready, job, writtenAnswer, evaluateCall, substituteCall, toRealCall, simplifyCall}
 
 -- ---- a job that was read
 
@@ -44,6 +45,11 @@ abbrev pub WritesAnswer : (tag first second : List ℕ) (x : Added) (r : Written
 WritesAnswer tag first second x r out out′ =
     (link : List ℕ) → Within (memory tag first second link) x → (r, out′) ≡ writtenAnswer out (seen x (memory tag first second link))
 
+-- the calls that were counted
+abbrev pub callsOf : Added → ℕ
+callsOf (Added.Node i n calls) = calls
+callsOf (Added.Refused why) = 0
+
 -- ---- the promises: answer, output bytes and work memory
 
 abbrev pub Evaluates : (list values : List ℕ) (w : Work) (r : Evaluated) (w′ : Work) → Type 0
@@ -58,3 +64,10 @@ SubstitutesTexts list out w r out′ = _≡_ {A = Written × List ℕ} (r, out�
 
 abbrev pub ReadsReal : (list : List ℕ) (w : Work) (r : Real) (w′ : Work) → Type 0
 ReadsReal list w r w′ = _≡_ {A = Real × Work} (r, w′) (toRealCall (capacity w) list, zeroed w)
+
+abbrev pub Simplifies : (limit : ℕ) (list values out : List ℕ) (w : Work) (r : Simplified) (out′ : List ℕ) (w′ : Work) → Type 0
+Simplifies limit list values out w r out′ w′ = _≡_ {A = (Simplified × List ℕ) × Work} ((r, out′), w′) (simplifyCall (capacity w) limit list values out, zeroed w)
+
+-- before the memory is cleared
+abbrev pub SimplifiesTexts : (limit : ℕ) (list values out : List ℕ) (w : Work) (r : Simplified) (out′ : List ℕ) → Type 0
+SimplifiesTexts limit list values out w r out′ = _≡_ {A = Simplified × List ℕ} (r, out′) (simplifyCall (capacity w) limit list values out)

@@ -6,8 +6,8 @@ ghost use Prim.Native.Nat.{_≤_};
 ghost use lib.ListN.{length};
 ghost use Rattle.store.specs.Memory.{memory};
 ghost use Rattle.calls.specs.Lent.{work, capacity};
-ghost use Rattle.calls.specs.Calls.{evaluated, evaluateCall, toRealCall};
-ghost use Rattle.calls.specs.Frame.{Evaluates, Substitutes, SubstitutesTexts, ReadsReal};
+ghost use Rattle.calls.specs.Calls.{evaluated, evaluateCall, toRealCall, withCalls};
+ghost use Rattle.calls.specs.Frame.{Evaluates, Substitutes, SubstitutesTexts, ReadsReal, callsOf, Simplifies, SimplifiesTexts};
 use complex::Complex;
 use evaluation::Evaluation;
 use evaluation::real::Real;
@@ -20,6 +20,8 @@ use listing::Listing;
 use listing::read_listing;
 use listing::writing::Written;
 use sheet::Rows;
+use simplification::limit::Limit;
+use store::Added;
 
 pub mod frame;
 
@@ -35,6 +37,12 @@ pub enum Job {
 
 pub enum Evaluated {
     Value(Complex),
+    Refused(Refusal),
+}
+
+// How many bytes of the output are the result, and how many simplify calls were made.
+pub enum Simplified {
+    Bytes { bytes: usize, calls: u64 },
     Refused(Refusal),
 }
 
@@ -177,6 +185,86 @@ pub fn to_real(
     ensures { λ r. ⌜ ReadsReal (now (list .entry)) (work (now (tag .entry)) (now (first .entry)) (now (second .entry)) (now (link .entry)) (now (table .entry))) r (work (now (tag .exit)) (now (first .exit)) (now (second .exit)) (now (link .exit)) (now (table .exit))) ⌝ }
 {
     let answer = real_of_text(list, tag, first, second, link, table);
+    clear_work(tag, first, second, link, table);
+    answer
+}
+
+fn calls_of(built: Added) -> u64
+    ensures { λ r. ⌜ r ≡ callsOf built ⌝ }
+{
+    match built {
+        Added::Node {
+            at: _,
+            nodes: _,
+            calls,
+        } => calls,
+        Added::Refused(_) => 0,
+    }
+}
+
+fn with_calls(calls: u64, answer: Written) -> Simplified
+    ensures { λ r. ⌜ r ≡ withCalls calls answer ⌝ }
+{
+    match answer {
+        Written::Bytes(bytes) => Simplified::Bytes { bytes, calls },
+        Written::Refused(why) => Simplified::Refused(why),
+    }
+}
+
+fn simplify_texts(
+    list: &[u8],
+    values: &[u8],
+    limit: u64,
+    tag: &mut [u64],
+    first: &mut [u64],
+    second: &mut [u64],
+    link: &mut [u64],
+    table: &mut [u64],
+    out: &mut [u8],
+) -> Simplified
+    requires { ⌜ 8192 ≤ length (now table) ⌝ }
+    ensures { λ r. ⌜ SimplifiesTexts limit (now (list .entry)) (now (values .entry)) (now (out .entry)) (work (now (tag .entry)) (now (first .entry)) (now (second .entry)) (now (link .entry)) (now (table .entry))) r (now (out .exit)) ⌝ }
+{
+    if 10 < limit {
+        return Simplified::Refused(Refusal::BadLimit);
+    }
+    let job = read_job(list, values, tag, first, second, link, table);
+    match job {
+        Job::Ready { root, nodes, rows } => {
+            let built = simplification::simplify(
+                Limit(limit),
+                tag,
+                first,
+                second,
+                link,
+                table,
+                rows,
+                root,
+                nodes,
+                0,
+            );
+            let answer = write_answer(tag, first, second, table, out, built);
+            with_calls(calls_of(built), answer)
+        }
+        Job::Refused(why) => Simplified::Refused(why),
+    }
+}
+
+// An expression simplified at a limit, written as a listing.
+pub fn simplify(
+    list: &[u8],
+    values: &[u8],
+    limit: u64,
+    tag: &mut [u64],
+    first: &mut [u64],
+    second: &mut [u64],
+    link: &mut [u64],
+    table: &mut [u64; 8192],
+    out: &mut [u8],
+) -> Simplified
+    ensures { λ r. ⌜ Simplifies limit (now (list .entry)) (now (values .entry)) (now (out .entry)) (work (now (tag .entry)) (now (first .entry)) (now (second .entry)) (now (link .entry)) (now (table .entry))) r (now (out .exit)) (work (now (tag .exit)) (now (first .exit)) (now (second .exit)) (now (link .exit)) (now (table .exit))) ⌝ }
+{
+    let answer = simplify_texts(list, values, limit, tag, first, second, link, table, out);
     clear_work(tag, first, second, link, table);
     answer
 }

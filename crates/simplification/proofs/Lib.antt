@@ -1,0 +1,4 @@
+-- The laws that the proofs of this crate, and where `pub` of its callers, cite.
+mod Carrying
+pub mod Operating
+pub mod Counting
