@@ -1,6 +1,7 @@
 -- What the steps of a call make together: the texts, the operation, the result, and the memory. Assumes nothing.
 use mathlib.Core.Path.{_≡_, refl, ap, _∙_}
 use Prim.Native.Nat.{ℕ, _≤_, _<_}
+use borrow.Author.Tests.{lt-ltb, le-ltb}
 use mathlib.Core.List.{List}
 use mathlib.Core.Bool.{Bool, true, false}
 use lib.ListN.{length, replicate}
@@ -9,7 +10,7 @@ use Rattle.expression.specs.Trees.{Tree}
 use Rattle.store.specs.declared.Added.{Added}
 use Rattle.store.specs.Storing.{State, Answer, fresh}
 use Rattle.store.specs.Memory.{Memory, memory, room, cleared, treeAt, stateOf}
-use Rattle.store.specs.Held.{Holds, Built}
+use Rattle.store.specs.Held.{Holds, Built, seen}
 use Rattle.listing.specs.declared.Listing.{Listing}
 use Rattle.listing.specs.declared.writing.Written.{Written}
 use Rattle.listing.specs.Listings.{Swap, listing}
@@ -25,12 +26,14 @@ use Rattle.evaluation.specs.declared.real.Real.{Real}
 use Rattle.evaluation.specs.Evaluating.{evaluate}
 use Rattle.evaluation.specs.Substituting.{substitute}
 use Rattle.evaluation.specs.Reals.{toReal}
+use Rattle.simplification.specs.Simplifying.{simplify}
 use Rattle.calls.specs.declared.Evaluated.{Evaluated}
+use Rattle.calls.specs.declared.Simplified.{Simplified}
 use Rattle.calls.specs.declared.Job.{Job}
 use Rattle.calls.specs.Lent.{Work, zeroed}
 use Rattle.calls.specs.Calls as Calls
-use Rattle.calls.specs.Calls.{afterListing, withSheet, job, writtenAnswer, evaluated, evaluateJob, evaluateCall, substituteCall, toRealCall}
-use Rattle.calls.specs.Frame.{sheetAdded, ReadsJob, Within, WritesAnswer}
+use Rattle.calls.specs.Calls.{afterListing, withSheet, job, writtenAnswer, evaluated, evaluateJob, evaluateCall, substituteCall, toRealCall, withCalls, callsIn, simplifiedAnswer, simplifyJob, simplifyCall}
+use Rattle.calls.specs.Frame.{sheetAdded, ReadsJob, Within, WritesAnswer, callsOf}
 
 -- ---- the memory
 
@@ -147,3 +150,34 @@ module _ {list : List ℕ} (out : List ℕ) {listed : Listing} {m m₁ : Memory}
   pub substitutes-refused : {why : Refusal} → listed ≡ Listing.Refused why → _≡_ {A = Written × List ℕ} (Written.Refused why, out) (substituteCall (room m) list out)
   unfolding substituteCall from-listing
   substitutes-refused told = after-refused p (λ why. (Written.Refused why, out)) from-listing told
+
+-- ---- simplifying
+
+seen-calls : (r : Added) (m : Memory) → callsOf r ≡ callsIn (seen r m)
+unfolding callsIn
+seen-calls (Added.Node i n c) m = refl
+seen-calls (Added.Refused why) m = refl
+
+pub simplifies-beyond : (room : ℕ) {limit : ℕ} (list values out : List ℕ) → 10 < limit
+    → _≡_ {A = Simplified × List ℕ} (Simplified.Refused Refusal.BadLimit, out) (simplifyCall room limit list values out)
+unfolding simplifyCall
+simplifies-beyond room {limit} list values out l = rw (lt-ltb 10 limit l) refl
+
+module _ (limit : ℕ) (few : limit ≤ 10) {list values : List ℕ} (out : List ℕ) {j : Job} {m m₁ : Memory} {table : List ℕ} (p : ReadsJob list values j m m₁ table) where
+  from-job : {r : Simplified × List ℕ} → r ≡ simplifyJob limit out (job (room m) list values) → r ≡ simplifyCall (room m) limit list values out
+  unfolding simplifyCall
+  from-job e = rw (le-ltb 10 limit few) e
+
+  pub simplifies : {root nodes calls : ℕ} {rows : Counts} {built : Added} {tag first second link : List ℕ} {r : Simplified} {w : Written} {out′ : List ℕ} → j ≡ Job.Ready root nodes rows
+      → Built (simplify (rowsOf table rows) limit (treeAt m₁ root) (stateOf m₁ nodes 0)) built nodes m₁ (memory tag first second link)
+      → WritesAnswer tag first second built w out out′ → calls ≡ callsOf built → r ≡ withCalls calls w
+      → _≡_ {A = Simplified × List ℕ} (r, out′) (simplifyCall (room m) limit list values out)
+  unfolding simplifyJob
+  simplifies {built = built} {tag} {first} {second} {link} {out′ = out′} told b w q e =
+      let x = q ∙ seen-calls built (memory tag first second link) in
+      let y = w link (built-within built b) in
+      ap (λ r. (r, out′)) e ∙ (λ i. (withCalls (x i) (y i .0), y i .1)) ∙ ap (simplifiedAnswer out) (b .answer) ∙ from-job (ap (simplifyJob limit out) (rw told at (p .answer)))
+
+  pub simplifies-refused : {why : Refusal} → j ≡ Job.Refused why → _≡_ {A = Simplified × List ℕ} (Simplified.Refused why, out) (simplifyCall (room m) limit list values out)
+  unfolding simplifyJob
+  simplifies-refused told = from-job (ap (simplifyJob limit out) (rw told at (p .answer)))

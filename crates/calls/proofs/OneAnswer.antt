@@ -6,8 +6,9 @@ use mathlib.Core.List.{List}
 use Rattle.listing.specs.declared.writing.Written.{Written}
 use Rattle.evaluation.specs.declared.real.Real.{Real}
 use Rattle.calls.specs.declared.Evaluated.{Evaluated}
+use Rattle.calls.specs.declared.Simplified.{Simplified}
 use Rattle.calls.specs.Lent.{Work}
-use Rattle.calls.specs.Frame.{Evaluates, Substitutes, ReadsReal}
+use Rattle.calls.specs.Frame.{Evaluates, Substitutes, ReadsReal, Simplifies}
 
 pub one-evaluated : (list values : List ℕ) (w : Work) {r r′ : Evaluated} {w₁ w₂ : Work}
     → Evaluates list values w r w₁ → Evaluates list values w r′ w₂ → _≡_ {A = Evaluated × Work} (r, w₁) (r′, w₂)
@@ -19,3 +20,7 @@ one-substituted list out w p q = p ∙ sym q
 
 pub one-real : (list : List ℕ) (w : Work) {r r′ : Real} {w₁ w₂ : Work} → ReadsReal list w r w₁ → ReadsReal list w r′ w₂ → _≡_ {A = Real × Work} (r, w₁) (r′, w₂)
 one-real list w p q = p ∙ sym q
+
+pub one-simplified : (limit : ℕ) (list values out : List ℕ) (w : Work) {r r′ : Simplified} {out₁ out₂ : List ℕ} {w₁ w₂ : Work}
+    → Simplifies limit list values out w r out₁ w₁ → Simplifies limit list values out w r′ out₂ w₂ → _≡_ {A = (Simplified × List ℕ) × Work} ((r, out₁), w₁) ((r′, out₂), w₂)
+one-simplified limit list values out w p q = p ∙ sym q

@@ -1,12 +1,11 @@
 -- The count of simplify calls is at most the bound of 01's recurrence: 244,531 at limit 10, so that it never comes near the largest word.
 -- Assumes nothing.
-use mathlib.Core.Path.{_≡_, refl, sym, subst}
+use mathlib.Core.Path.{_≡_, refl, ap, subst}
 use mathlib.Core.Bool.{Bool, true, false, cond}
 use mathlib.Core.List.{List, [], _∷_, _++_}
 use Prim.Native.Nat.{ℕ, zero, suc, _+_, _*_, _-_, _≤_}
 use native.Mathlib.Omega.{arith}
 use lib.Dec.{ltb}
-use native.Mathlib.Nat.{mul-le-mul}
 use lib.ListN.{length}
 use Rattle.expression.specs.declared.InfixOperator.{InfixOperator}
 use Rattle.expression.specs.declared.PrefixOperator.{PrefixOperator}
@@ -18,9 +17,10 @@ use Rattle.store.specs.Storing.{Kept, nothing, result, State, state, Answer, gi
 use Rattle.sheet.specs.Rows.{Rows}
 use Rattle.evaluation.specs.declared.Evaluation.{Evaluation}
 use Rattle.evaluation.specs.Evaluating.{calculateFunction, calculateInfix}
-use Rattle.arms.specs.Arms.{Plan, pick, smaller, undoes, groupedRight, grouped, moved, sharing, affineSum, sumPlan, signedDifference, differencePlan, signedProduct, distributed, productPlan, signedQuotient, split, cancelled, quotientPlan, powerPlan, infixPlan, functionPlan, minusPlan, prefixPlan, the, new, folded, called, negation, combined, S, lesser, affine, minus, sum, product}
+use Rattle.arms.specs.Arms.{Plan, smaller, infixPlan, functionPlan, prefixPlan, the, new, folded, called, negation, combined, S, lesser, affine, minus, sum, product}
 use Rattle.simplification.specs.Bounds.{bound}
 use Rattle.simplification.specs.Simplifying.{Simplifier, oneMore, counted, foldedTo, again, keeping, Task, number-of-pi, itself, calling, prefixing, infixing, taskAt, carryOut, simplifyFunctionCall, simplifyPrefix, simplifyInfix, perform, resume, step, simplify}
+use Rattle.simplification.proofs.Shapes.{weight, Closed, Fine, fine-infix, fine-function, fine-prefix}
 
 pub count : State → ℕ
 count (state room stored kept calls) = calls
@@ -39,24 +39,24 @@ unfolding Below
 more (gives t s) l b = omega (arith, l, b)
 more (refused why) l b = tt
 
-then-below : {n m : ℕ} (a : Answer) (f : Simplifier) → Below n a → ((t : Tree) (s : State) → count s ≤ n → Below m (f t s)) → Below m (andThen a f)
+then-below : (n m : ℕ) (a : Answer) (f : Simplifier) → Below n a → ((t : Tree) (s : State) → count s ≤ n → Below m (f t s)) → Below m (andThen a f)
 unfolding Below andThen
-then-below (gives t s) f b g = g t s b
-then-below (refused why) f b g = tt
+then-below n m (gives t s) f b g = g t s b
+then-below n m (refused why) f b g = tt
 
 -- ---- storing counts nothing
 
-either-way : {n : ℕ} (b : Bool) (x y : Answer) → Below n x → Below n y → Below n (cond b x y)
-either-way true x y p q = p
-either-way false x y p q = q
+either-way : (n : ℕ) (b : Bool) (x y : Answer) → Below n x → Below n y → Below n (cond b x y)
+either-way n true x y p q = p
+either-way n false x y p q = q
 
 stores : (t : Tree) (s : State) → Below (count s) (intern t s)
 unfolding Below count intern
 stores t (state room stored kept calls) =
-    either-way (among stored t) _ _ (omega arith)
-    (either-way (ltb largest (size t)) _ _ tt
-    (either-way (ltb deepest (depth t)) _ _ tt
-    (either-way (ltb (length stored) room) _ _ (omega arith) tt)))
+    either-way _ (among stored t) _ _ (omega arith)
+    (either-way _ (ltb largest (size t)) _ _ tt
+    (either-way _ (ltb deepest (depth t)) _ _ tt
+    (either-way _ (ltb (length stored) room) _ _ (omega arith) tt)))
 
 folds : (v : Evaluation) (s : State) → Below (count s) (foldedTo v s)
 unfolding foldedTo Below
@@ -64,23 +64,12 @@ folds (Evaluation.Value z) s = stores (leaf (number z)) s
 folds Evaluation.Incomplete s = tt
 folds (Evaluation.Need operation x y) s = tt
 
-keeps : {n : ℕ} (t : Tree) (a : Answer) → Below n a → Below n (keeping t a)
+keeps : (n : ℕ) (t : Tree) (a : Answer) → Below n a → Below n (keeping t a)
 unfolding keeping Below count keep andThen
-keeps t (gives u (state room stored kept calls)) b = b
-keeps t (refused why) b = tt
+keeps n t (gives u (state room stored kept calls)) b = b
+keeps n t (refused why) b = tt
 
--- ---- how many S calls a plan has
-
-weight : Plan → ℕ
-weight (the t) = 0
-weight (new t) = 0
-weight (folded op x y) = 0
-weight (called f x) = 0
-weight (negation p) = weight p
-weight (combined op p q) = weight p + weight q
-weight (S p) = weight p + 1
-weight (lesser p q) = weight p + weight q
-weight (affine a a′ x b b′) = 4
+-- ---- plans
 
 sum-le : (c a b n : ℕ) {x y : ℕ} → x ≤ c + a * n → y ≤ x + b * n → y ≤ c + (a + b) * n
 sum-le c a b n l k = omega (arith, l, k)
@@ -90,7 +79,7 @@ one-le c a n l = omega (arith, l)
 
 again-makes : (σ : Simplifier) (n : ℕ) → Makes σ n → Makes (again σ) n
 unfolding again Makes
-again-makes σ n f t s = then-below (intern t s) σ (stores t s) λ u s′ l. more (σ u s′) (omega (arith, l)) (f u s′)
+again-makes σ n f t s = then-below _ _ (intern t s) σ (stores t s) λ u s′ l. more (σ u s′) (omega (arith, l)) (f u s′)
 
 carries : (R : Rows) (σ : Simplifier) (n : ℕ) → Makes σ n → (p : Plan) (s : State) → Below (count s + weight p * n) (carryOut R σ p s)
 unfolding carryOut weight Makes Below
@@ -99,128 +88,49 @@ carries R σ n f (new t) s = more (intern t s) (omega arith) (stores t s)
 carries R σ n f (folded op x y) s = more (foldedTo (calculateInfix R op x y) s) (omega arith) (folds (calculateInfix R op x y) s)
 carries R σ n f (called g x) s = more (foldedTo (calculateFunction R g x) s) (omega arith) (folds (calculateFunction R g x) s)
 carries R σ n f (negation p) s =
-    then-below (carryOut R σ p s) (λ t s. intern (minus t) s) (carries R σ n f p s) λ t s′ l. more (intern (minus t) s′) l (stores (minus t) s′)
+    then-below _ _ (carryOut R σ p s) (λ t s. intern (minus t) s) (carries R σ n f p s) λ t s′ l. more (intern (minus t) s′) l (stores (minus t) s′)
 carries R σ n f (combined op p q) s =
-    then-below (carryOut R σ p s) (λ t s. andThen (carryOut R σ q s) λ u s. intern (infixed op t u) s) (carries R σ n f p s) λ t s′ l.
-    then-below (carryOut R σ q s′) (λ u s. intern (infixed op t u) s) (carries R σ n f q s′) λ u s″ k.
+    then-below _ _ (carryOut R σ p s) (λ t s. andThen (carryOut R σ q s) λ u s. intern (infixed op t u) s) (carries R σ n f p s) λ t s′ l.
+    then-below _ _ (carryOut R σ q s′) (λ u s. intern (infixed op t u) s) (carries R σ n f q s′) λ u s″ k.
     more (intern (infixed op t u) s″) (sum-le (count s) (weight p) (weight q) n l k) (stores (infixed op t u) s″)
 carries R σ n f (S p) s =
-    then-below (carryOut R σ p s) σ (carries R σ n f p s) λ t s′ l. more (σ t s′) (one-le (count s) (weight p) n l) (f t s′)
+    then-below _ _ (carryOut R σ p s) σ (carries R σ n f p s) λ t s′ l. more (σ t s′) (one-le (count s) (weight p) n l) (f t s′)
 carries R σ n f (lesser p q) s =
-    then-below (carryOut R σ p s) (λ t s. andThen (carryOut R σ q s) λ u s. gives (smaller t u) s) (carries R σ n f p s) λ t s′ l.
-    then-below (carryOut R σ q s′) (λ u s. gives (smaller t u) s) (carries R σ n f q s′) λ u s″ k.
+    then-below _ _ (carryOut R σ p s) (λ t s. andThen (carryOut R σ q s) λ u s. gives (smaller t u) s) (carries R σ n f p s) λ t s′ l.
+    then-below _ _ (carryOut R σ q s′) (λ u s. gives (smaller t u) s) (carries R σ n f q s′) λ u s″ k.
     sum-le (count s) (weight p) (weight q) n l k
 carries R σ n f (affine a a′ x b b′) s =
-    then-below (again σ (sum a a′) s) (λ u s. andThen (again σ (sum b b′) s) λ v s. andThen (again σ (product u x) s) λ w s. again σ (sum w v) s) (again-makes σ n f (sum a a′) s) λ u s₁ i.
-    then-below (again σ (sum b b′) s₁) (λ v s. andThen (again σ (product u x) s) λ w s. again σ (sum w v) s) (again-makes σ n f (sum b b′) s₁) λ v s₂ j.
-    then-below (again σ (product u x) s₂) (λ w s. again σ (sum w v) s) (again-makes σ n f (product u x) s₂) λ w s₃ k.
+    then-below _ _ (again σ (sum a a′) s) (λ u s. andThen (again σ (sum b b′) s) λ v s. andThen (again σ (product u x) s) λ w s. again σ (sum w v) s) (again-makes σ n f (sum a a′) s) λ u s₁ i.
+    then-below _ _ (again σ (sum b b′) s₁) (λ v s. andThen (again σ (product u x) s) λ w s. again σ (sum w v) s) (again-makes σ n f (sum b b′) s₁) λ v s₂ j.
+    then-below _ _ (again σ (product u x) s₂) (λ w s. again σ (sum w v) s) (again-makes σ n f (product u x) s₂) λ w s₃ k.
     more (again σ (sum w v) s₃) (omega (arith, i, j, k)) (again-makes σ n f (sum w v) s₃)
 
--- ---- no arm has more than four S calls
+-- of the arms' plans nothing else matters here
+Any : Tree → Type 0
+Any t = Unit {0}
 
-record Light (p : Plan) : Type 0 where
-  light : weight p ≤ 4
-
-ok : {p : Plan} → weight p ≤ 4 → Light p
-ok l = record { light = l }
-
-picked : (b : Bool) (p q : Plan) → Light p → Light q → Light (pick b p q)
-unfolding pick
-picked true p q x y = x
-picked false p q x y = y
-
-light-right : (op : InfixOperator) (l r : Tree) → Light (groupedRight op l r)
-unfolding groupedRight weight
-light-right op l r = picked _ _ _ (ok (omega arith)) (ok (omega arith))
-
-light-grouped : (op : InfixOperator) (l r : Tree) → Light (grouped op l r)
-unfolding grouped weight
-light-grouped op l r = picked _ _ _ (light-right op l r) (ok (omega arith))
-
-light-moved : (op : InfixOperator) (l r : Tree) → Light (moved op l r)
-unfolding moved weight
-light-moved op l r = picked _ _ _ (ok (omega arith)) (ok (omega arith))
-
-light-sharing : (p q p′ q′ b b′ : Tree) → Light (sharing p q p′ q′ b b′)
-unfolding sharing weight
-light-sharing p q p′ q′ b b′ = picked _ _ _ (ok (omega arith)) (picked _ _ _ (ok (omega arith)) (picked _ _ _ (ok (omega arith)) (ok (omega arith))))
-
-light-affine : (l r : Tree) → Light (affineSum l r)
-unfolding affineSum weight
-light-affine l r = picked _ _ _ (light-sharing _ _ _ _ _ _) (picked _ _ _ (ok (omega arith)) (picked _ _ _ (ok (omega arith)) (picked _ _ _ (light-grouped InfixOperator.Plus l r) (ok (omega arith)))))
-
-light-sum : (l r : Tree) → Light (sumPlan l r)
-unfolding sumPlan weight
-light-sum l r = picked _ _ _ (ok (omega arith)) (picked _ _ _ (ok (omega arith)) (picked _ _ _ (ok (omega arith)) (picked _ _ _ (ok (omega arith)) (picked _ _ _ (ok (omega arith)) (light-affine l r)))))
-
-light-signed-difference : (l r : Tree) → Light (signedDifference l r)
-unfolding signedDifference weight
-light-signed-difference l r = picked _ _ _ (ok (omega arith)) (picked _ _ _ (ok (omega arith)) (picked _ _ _ (light-grouped InfixOperator.Minus l r) (ok (omega arith))))
-
-light-difference : (l r : Tree) → Light (differencePlan l r)
-unfolding differencePlan weight
-light-difference l r = picked _ _ _ (ok (omega arith)) (picked _ _ _ (ok (omega arith)) (picked _ _ _ (ok (omega arith)) (picked _ _ _ (ok (omega arith)) (light-signed-difference l r))))
-
-light-signed-product : (l r : Tree) → Light (signedProduct l r)
-unfolding signedProduct weight
-light-signed-product l r = picked _ _ _ (ok (omega arith)) (light-moved InfixOperator.Star l r)
-
-light-distributed : (l r : Tree) → Light (distributed l r)
-unfolding distributed weight
-light-distributed l r = picked _ _ _ (ok (omega arith)) (picked _ _ _ (ok (omega arith)) (picked _ _ _ (ok (omega arith)) (picked _ _ _ (ok (omega arith)) (ok (omega arith)))))
-
-light-product : (l r : Tree) → Light (productPlan l r)
-unfolding productPlan weight
-light-product l r = picked _ _ _ (ok (omega arith)) (picked _ _ _ (ok (omega arith)) (picked _ _ _ (ok (omega arith)) (picked _ _ _ (ok (omega arith)) (picked _ _ _ (light-signed-product l r) (picked _ _ _ (light-grouped InfixOperator.Star l r) (light-distributed l r))))))
-
-light-signed-quotient : (l r : Tree) → Light (signedQuotient l r)
-unfolding signedQuotient weight
-light-signed-quotient l r = picked _ _ _ (ok (omega arith)) (picked _ _ _ (ok (omega arith)) (picked _ _ _ (ok (omega arith)) (light-moved InfixOperator.Slash l r)))
-
-light-split : (l r : Tree) → Light (split l r)
-unfolding split weight
-light-split l r = picked _ _ _ (ok (omega arith)) (picked _ _ _ (ok (omega arith)) (ok (omega arith)))
-
-light-cancelled : (l r : Tree) → Light (cancelled l r)
-unfolding cancelled weight
-light-cancelled l r = picked _ _ _ (ok (omega arith)) (picked _ _ _ (ok (omega arith)) (picked _ _ _ (ok (omega arith)) (picked _ _ _ (ok (omega arith)) (light-split l r))))
-
-light-quotient : (l r : Tree) → Light (quotientPlan l r)
-unfolding quotientPlan weight
-light-quotient l r = picked _ _ _ (ok (omega arith)) (picked _ _ _ (ok (omega arith)) (picked _ _ _ (ok (omega arith)) (picked _ _ _ (ok (omega arith)) (picked _ _ _ (ok (omega arith)) (picked _ _ _ (light-signed-quotient l r) (picked _ _ _ (light-grouped InfixOperator.Slash l r) (light-cancelled l r)))))))
-
-light-power : (l r : Tree) → Light (powerPlan l r)
-unfolding powerPlan weight
-light-power l r = picked _ _ _ (ok (omega arith)) (picked _ _ _ (ok (omega arith)) (picked _ _ _ (ok (omega arith)) (picked _ _ _ (ok (omega arith)) (picked _ _ _ (ok (omega arith)) (ok (omega arith))))))
-
-light-infix : (op : InfixOperator) (l r : Tree) → Light (infixPlan op l r)
-unfolding infixPlan
-light-infix InfixOperator.Plus l r = light-sum l r
-light-infix InfixOperator.Minus l r = light-difference l r
-light-infix InfixOperator.Star l r = light-product l r
-light-infix InfixOperator.Slash l r = light-quotient l r
-light-infix InfixOperator.Caret l r = light-power l r
-
-light-function : (f : ExpressionFunction) (x : Tree) → Light (functionPlan f x)
-unfolding functionPlan weight
-light-function f x = picked _ _ _ (ok (omega arith)) (ok (omega arith))
-
-light-minus : (x : Tree) → Light (minusPlan x)
-unfolding minusPlan weight
-light-minus x = picked _ _ _ (ok (omega arith)) (picked _ _ _ (ok (omega arith)) (ok (omega arith)))
-
-light-prefix : (o : PrefixOperator) (x : Tree) → Light (prefixPlan o x)
-unfolding prefixPlan weight
-light-prefix PrefixOperator.Plus x = ok (omega arith)
-light-prefix PrefixOperator.Minus x = light-minus x
+any : Closed Any
+unfolding Any
+any = record {
+  numeral = λ z. tt;
+  call = λ f x. tt;
+  minus-of = λ x. tt;
+  infix-of = λ op x y. tt;
+  under-of = λ t x. tt;
+  left-of = λ t x. tt;
+  right-of = λ t x. tt;
+}
 
 -- ---- one call of simplify
 
-four : (R : Rows) (σ : Simplifier) (n : ℕ) → Makes σ n → (p : Plan) → Light p → (s : State) → Below (count s + 4 * n) (carryOut R σ p s)
+four : (R : Rows) (σ : Simplifier) (n : ℕ) → Makes σ n → (p : Plan) → Fine Any p → (s : State) → Below (count s + 4 * n) (carryOut R σ p s)
 four R σ n f p x s = more (carryOut R σ p s) (heavy (count s) (weight p) n (x .light)) (carries R σ n f p s)
   where
+    rest : (a : ℕ) → a ≤ 4 → a + (4 - a) ≡ 4
+    rest a l = omega (arith, l)
+
     heavy : (c a n : ℕ) → a ≤ 4 → c + a * n ≤ c + 4 * n
-    heavy c a n l = omega (arith, mul-le-mul {a} {4} {n} {n} l (omega arith))
+    heavy c a n l = omega (arith, ap (λ x. x * n) (rest a l))
 
 once-more : (s : State) → count (counted s) ≤ count s + 1
 unfolding count counted oneMore
@@ -232,24 +142,24 @@ once-more (state room stored kept calls) = go (ltb calls 18446744073709551615)
 
 module _ (R : Rows) (b f : Simplifier) (m n : ℕ) (x : Makes b m) (y : Makes f n) where
   performs : (task : Task) (t : Tree) (s : State) → Below (count s + (2 * m + 4 * n)) (perform R b f task t s)
-  unfolding perform simplifyFunctionCall simplifyPrefix simplifyInfix Below Makes
+  unfolding perform simplifyFunctionCall simplifyPrefix simplifyInfix Below Makes Any
   performs number-of-pi t s = more (intern _ s) (omega arith) (stores _ s)
   performs itself t s = omega arith
   performs (calling g a) t s =
-      then-below (b a s) (λ z s. carryOut R f (functionPlan g z) s) (x a s) λ z s′ l.
-      more (carryOut R f (functionPlan g z) s′) (omega (arith, l)) (four R f n y (functionPlan g z) (light-function g z) s′)
+      then-below _ _ (b a s) (λ z s. carryOut R f (functionPlan g z) s) (x a s) λ z s′ l.
+      more (carryOut R f (functionPlan g z) s′) (omega (arith, l)) (four R f n y (functionPlan g z) (fine-function Any any g z tt) s′)
   performs (prefixing o a) t s =
-      then-below (b a s) (λ z s. carryOut R f (prefixPlan o z) s) (x a s) λ z s′ l.
-      more (carryOut R f (prefixPlan o z) s′) (omega (arith, l)) (four R f n y (prefixPlan o z) (light-prefix o z) s′)
+      then-below _ _ (b a s) (λ z s. carryOut R f (prefixPlan o z) s) (x a s) λ z s′ l.
+      more (carryOut R f (prefixPlan o z) s′) (omega (arith, l)) (four R f n y (prefixPlan o z) (fine-prefix Any any o z tt) s′)
   performs (infixing o a c) t s =
-      then-below (b a s) (λ z s. andThen (b c s) λ w s. carryOut R f (infixPlan o z w) s) (x a s) λ z s′ l.
-      then-below (b c s′) (λ w s. carryOut R f (infixPlan o z w) s) (x c s′) λ w s″ k.
-      more (carryOut R f (infixPlan o z w) s″) (omega (arith, l, k)) (four R f n y (infixPlan o z w) (light-infix o z w) s″)
+      then-below _ _ (b a s) (λ z s. andThen (b c s) λ w s. carryOut R f (infixPlan o z w) s) (x a s) λ z s′ l.
+      then-below _ _ (b c s′) (λ w s. carryOut R f (infixPlan o z w) s) (x c s′) λ w s″ k.
+      more (carryOut R f (infixPlan o z w) s″) (omega (arith, l, k)) (four R f n y (infixPlan o z w) (fine-infix Any any o z w tt tt) s″)
 
   resumes : (k : Kept) (limit : ℕ) (t : Tree) (s : State) → Below (count s + (2 * m + 4 * n)) (resume R b f k limit t s)
   unfolding resume Below
   resumes (result u) limit t s = omega arith
-  resumes nothing limit t s = keeps t (perform R b f (taskAt limit t) t s) (performs (taskAt limit t) t s)
+  resumes nothing limit t s = keeps _ t (perform R b f (taskAt limit t) t s) (performs (taskAt limit t) t s)
 
   steps : (limit : ℕ) → Makes (step R b f limit) (1 + 2 * m + 4 * n)
   unfolding step Makes
@@ -264,7 +174,7 @@ gives-makes t s = omega arith
 makes-bound : (R : Rows) (k : ℕ) → Makes (simplify R k) (bound k)
 unfolding simplify bound Makes
 makes-bound R zero t s = steps R gives gives 0 0 gives-makes gives-makes 0 t s
-makes-bound R (suc zero) t s = steps R (simplify R 0) (simplify R 0) 1 1 (makes-bound R 0) (makes-bound R 0) 1 t s
+makes-bound R (suc zero) t s = steps R (simplify R 0) (simplify R 0) 1 1 (makes-bound R zero) (makes-bound R zero) 1 t s
 makes-bound R (suc (suc k)) t s =
     steps R (simplify R (suc k)) (simplify R k) (bound (suc k)) (bound k) (makes-bound R (suc k)) (makes-bound R k) (suc (suc k)) t s
 
@@ -283,12 +193,18 @@ grows zero = omega arith
 grows (suc zero) = omega arith
 grows (suc (suc k)) = omega (arith, grows (suc k), grows k)
 
-grows-to : (k d : ℕ) → bound k ≤ bound (d + k)
-grows-to k zero = omega arith
-grows-to k (suc d) = omega (arith, grows-to k d, grows (d + k))
+grows-by : (k d e : ℕ) → e ≡ d + k → bound k ≤ bound e
+grows-by k zero e p = subst (λ n. bound k ≤ bound n) (same k e p) (omega arith)
+  where
+    same : (k e : ℕ) → e ≡ 0 + k → k ≡ e
+    same k e p = omega (arith, p)
+grows-by k (suc d) e p = subst (λ n. bound k ≤ bound n) (next k d e p) (omega (arith, grows-by k d (d + k) refl, grows (d + k)))
+  where
+    next : (k d e : ℕ) → e ≡ suc d + k → suc (d + k) ≡ e
+    next k d e p = omega (arith, p)
 
 pub bound-to-ten : (k : ℕ) → k ≤ 10 → bound k ≤ 244531
-bound-to-ten k l = let e = grows-to k (10 - k) in omega (arith, bound-at-ten, subst (λ n. bound k ≤ bound n) (back k l) e)
+bound-to-ten k l = omega (arith, bound-at-ten, grows-by k (10 - k) 10 (back k l))
   where
-    back : (k : ℕ) → k ≤ 10 → 10 - k + k ≡ 10
+    back : (k : ℕ) → k ≤ 10 → 10 ≡ 10 - k + k
     back k l = omega (arith, l)

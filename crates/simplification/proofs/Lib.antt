@@ -1,4 +1,6 @@
 -- The laws that the proofs of this crate, and where `pub` of its callers, cite.
 mod Carrying
 pub mod Operating
+mod Shapes
 pub mod Counting
+mod Examples
