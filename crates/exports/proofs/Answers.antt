@@ -17,9 +17,10 @@ use Rattle.listing.specs.declared.writing.Written.{Written}
 use Rattle.sheet.specs.Rows.{operationNumber}
 use Rattle.evaluation.specs.declared.real.Real.{Real}
 use Rattle.calls.specs.declared.Evaluated.{Evaluated}
+use Rattle.calls.specs.declared.Simplified.{Simplified}
 use Rattle.calls.specs.Lent.{Work}
 use Rattle.calls.specs.Frame as Frame
-use Rattle.exports.specs.Words.{words, carriedWords, refusalWords, evaluatedWords, realWords, writtenWords, firstWord, Answered, Evaluates, Substitutes, ReadsReal}
+use Rattle.exports.specs.Words.{words, carriedWords, refusalWords, evaluatedWords, realWords, writtenWords, simplifiedWords, firstWord, Answered, Evaluates, Substitutes, ReadsReal, Simplifies}
 
 -- all six are written
 pub six : (s : List ℕ) (a b c d e f : ℕ) → length s ≡ 6 → set (set (set (set (set (set s 0 a) 1 b) 2 c) 3 d) 4 e) 5 f ≡ words a b c d e f
@@ -97,3 +98,7 @@ substitutes p a = record { answered = known-as (ap (λ x. writtenWords (x .0 .0)
 pub reads-real : {list : List ℕ} {w w′ : Work} {e : Real} {r : ℕ} {answer : List ℕ} → Frame.ReadsReal list w e w′
     → Answered (realWords e) r answer → ReadsReal list w r answer w′
 reads-real p a = record { answered = known-as (ap (λ x. realWords (x .0)) p) a; left = ap (λ x. x .1) p }
+
+pub simplifies : {limit : ℕ} {list values out : List ℕ} {w w′ : Work} {e : Simplified} {r : ℕ} {answer out′ : List ℕ} → Frame.Simplifies limit list values out w e out′ w′
+    → Answered (simplifiedWords e) r answer → Simplifies limit list values out w r answer out′ w′
+simplifies p a = record { answered = known-as (ap (λ x. simplifiedWords (x .0 .0)) p) a; output = ap (λ x. x .0 .1) p; left = ap (λ x. x .1) p }

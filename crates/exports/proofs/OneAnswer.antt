@@ -3,7 +3,7 @@ use mathlib.Core.Path.{_≡_, sym, _∙_}
 use Prim.Native.Nat.{ℕ}
 use mathlib.Core.List.{List}
 use Rattle.calls.specs.Lent.{Work}
-use Rattle.exports.specs.Words.{Answered, Evaluates, Substitutes, ReadsReal}
+use Rattle.exports.specs.Words.{Answered, Evaluates, Substitutes, ReadsReal, Simplifies}
 
 one-words : {want : List ℕ} {r r′ : ℕ} {a a′ : List ℕ} → Answered want r a → Answered want r′ a′ → (r ≡ r′) × (a ≡ a′)
 one-words p q = (p .number ∙ sym (q .number), p .words ∙ sym (q .words))
@@ -19,3 +19,7 @@ one-substituted p q = (one-words (p .answered) (q .answered), p .output ∙ sym 
 pub one-real : {list : List ℕ} {w : Work} {r r′ : ℕ} {a a′ : List ℕ} {w₁ w₂ : Work} → ReadsReal list w r a w₁ → ReadsReal list w r′ a′ w₂
     → ((r ≡ r′) × (a ≡ a′)) × (w₁ ≡ w₂)
 one-real p q = (one-words (p .answered) (q .answered), p .left ∙ sym (q .left))
+
+pub one-simplified : {limit : ℕ} {list values out : List ℕ} {w : Work} {r r′ : ℕ} {a a′ out₁ out₂ : List ℕ} {w₁ w₂ : Work}
+    → Simplifies limit list values out w r a out₁ w₁ → Simplifies limit list values out w r′ a′ out₂ w₂ → ((r ≡ r′) × (a ≡ a′)) × (out₁ ≡ out₂) × (w₁ ≡ w₂)
+one-simplified p q = (one-words (p .answered) (q .answered), p .output ∙ sym (q .output), p .left ∙ sym (q .left))

@@ -9,8 +9,9 @@ use Rattle.listing.specs.declared.writing.Written.{Written}
 use Rattle.sheet.specs.Rows.{operationNumber}
 use Rattle.evaluation.specs.declared.real.Real.{Real}
 use Rattle.calls.specs.declared.Evaluated.{Evaluated}
+use Rattle.calls.specs.declared.Simplified.{Simplified}
 use Rattle.calls.specs.Lent.{Work, capacity, zeroed}
-use Rattle.calls.specs.Calls.{evaluateCall, substituteCall, toRealCall}
+use Rattle.calls.specs.Calls.{evaluateCall, substituteCall, toRealCall, simplifyCall}
 
 -- 0 or the refusal's number; then a count, a place or an operation; two numbers as the bits of their parts
 abbrev pub words : (number detail re im re2 im2 : ℕ) → List ℕ
@@ -35,6 +36,11 @@ unfoldable pub writtenWords : Written → List ℕ
 writtenWords (Written.Bytes count) = words 0 count 0 0 0 0
 writtenWords (Written.Refused why) = refusalWords why
 
+-- the bytes, then the number of simplify calls
+unfoldable pub simplifiedWords : Simplified → List ℕ
+simplifiedWords (Simplified.Bytes count calls) = words 0 count calls 0 0 0
+simplifiedWords (Simplified.Refused why) = refusalWords why
+
 -- what is returned is the first word
 unfoldable pub firstWord : List ℕ → ℕ
 firstWord [] = 0
@@ -57,4 +63,9 @@ pub record Substitutes (list out : List ℕ) (w : Work) (r : ℕ) (answer out′
 
 pub record ReadsReal (list : List ℕ) (w : Work) (r : ℕ) (answer : List ℕ) (w′ : Work) : Type 0 where
   pub answered : Answered (realWords (toRealCall (capacity w) list)) r answer
+  pub left : w′ ≡ zeroed w
+
+pub record Simplifies (limit : ℕ) (list values out : List ℕ) (w : Work) (r : ℕ) (answer out′ : List ℕ) (w′ : Work) : Type 0 where
+  pub answered : Answered (simplifiedWords (simplifyCall (capacity w) limit list values out .0)) r answer
+  pub output : out′ ≡ simplifyCall (capacity w) limit list values out .1
   pub left : w′ ≡ zeroed w

@@ -2,8 +2,9 @@
 ghost use mathlib.Core.Path.{_≡_};
 ghost use lib.ListN.{length};
 ghost use Rattle.sheet.specs.Rows.{operationNumber};
-ghost use Rattle.exports.specs.Words.{Answered, words, refusalWords, evaluatedWords, realWords, writtenWords};
+ghost use Rattle.exports.specs.Words.{Answered, words, refusalWords, evaluatedWords, realWords, writtenWords, simplifiedWords};
 use calls::Evaluated;
+use calls::Simplified;
 use complex::bits::to_bits;
 use evaluation::real::Real;
 use expression::refusal::Operation;
@@ -90,5 +91,15 @@ pub fn put_written(answer: &mut [u64], written: Written) -> u64
     match written {
         Written::Bytes(count) => put_words(answer, 0, count as u64, 0, 0, 0, 0),
         Written::Refused(why) => put_refusal(answer, why),
+    }
+}
+
+pub fn put_simplified(answer: &mut [u64], simplified: Simplified) -> u64
+    requires { ⌜ length (now answer) ≡ 6 ⌝ }
+    ensures { λ r. ⌜ Answered (simplifiedWords simplified) r (now (answer .exit)) ⌝ }
+{
+    match simplified {
+        Simplified::Bytes { bytes, calls } => put_words(answer, 0, bytes as u64, calls, 0, 0, 0),
+        Simplified::Refused(why) => put_refusal(answer, why),
     }
 }
