@@ -1,3 +1,4 @@
 -- The laws that the proofs of this crate cite, and the theorems about its public calls.
 mod Framing
 pub mod OneAnswer
+pub mod Results

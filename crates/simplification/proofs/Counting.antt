@@ -22,11 +22,11 @@ use Rattle.simplification.specs.Bounds.{bound}
 use Rattle.simplification.specs.Simplifying.{Simplifier, oneMore, counted, foldedTo, again, keeping, Task, number-of-pi, itself, calling, prefixing, infixing, taskAt, carryOut, simplifyFunctionCall, simplifyPrefix, simplifyInfix, perform, resume, step, simplify}
 use Rattle.simplification.proofs.Shapes.{weight, Closed, Fine, fine-infix, fine-function, fine-prefix}
 
-pub count : State → ℕ
+unfoldable pub count : State → ℕ
 count (state room stored kept calls) = calls
 
 -- the count of an answer is at most n
-pub Below : ℕ → Answer → Type 0
+unfoldable pub Below : ℕ → Answer → Type 0
 Below n (gives t s) = count s ≤ n
 Below n (refused why) = Unit {0}
 

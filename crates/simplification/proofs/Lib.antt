@@ -4,3 +4,4 @@ pub mod Operating
 mod Shapes
 pub mod Counting
 mod Examples
+pub mod Pi

@@ -1,0 +1,202 @@
+-- What a call of `simplify` answers: a count within 01's bound, and a result that is stored, within the limits, and reads back. Assumes nothing.
+use mathlib.Core.Path.{_≡_, refl, sym, ap, _∙_, subst}
+use mathlib.Core.Bool.{Bool, true, false, cond, _&&_}
+use mathlib.Core.List.{List, [], _∷_, _++_}
+use Prim.Native.Nat.{ℕ, zero, suc, _+_, _≤_, _<_}
+use native.Mathlib.Omega.{arith}
+use borrow.Author.Tests.{ltb-false}
+use lib.Dec.{ltb, eqb}
+use lib.ListN.{length}
+use Rattle.expression.specs.declared.refusal.Refusal.{Refusal}
+use Rattle.expression.specs.Trees.{Tree, size, depth}
+use Rattle.expression.specs.Limits.{Limited, Proper, largest, deepest}
+use Rattle.text.specs.Reading.{Read, is, bad}
+use Rattle.text.specs.Lines as Lines
+use Rattle.text.specs.Lines.{Line, goes, stops, Whole, afterLine, atLine, lines}
+use Rattle.store.specs.declared.Added.{Added}
+use Rattle.store.specs.Storing as Storing
+use Rattle.store.specs.Storing.{Kept, nothing, State, state, Answer, gives, among, intern, recall, fresh}
+use Rattle.store.specs.Memory.{Memory, room, trees, treeAt, stateOf}
+use Rattle.store.specs.Held.{Built}
+use Rattle.store.proofs.Stored.{stored as stored-in, limited, proper}
+use Rattle.listing.specs.declared.writing.Written.{Written}
+use Rattle.listing.specs.Listings as Listings
+use Rattle.listing.specs.Listings.{Listing, Swap, accepted, Known, known, none, stored, formed, mostNodes, mostSwaps, nodeFields, nodeLine, above, swapFields, swapped, swapLine, listingLine, rooted, whole, listing}
+use Rattle.listing.specs.Order.{order, textOf}
+use Rattle.listing.proofs.Fits.{written-reads-back}
+use Rattle.sheet.specs.Rows.{Rows, sheet}
+use Rattle.simplification.specs.Bounds.{bound}
+use Rattle.simplification.specs.Simplifying.{simplify}
+use Rattle.simplification.proofs.Counting.{count, Below, bounded, bound-to-ten}
+use Rattle.calls.specs.declared.Simplified.{Simplified}
+use Rattle.calls.specs.Lent.{Work, capacity}
+use Rattle.calls.specs.Calls as Calls
+use Rattle.calls.specs.Calls.{Job, ready, afterListing, withSheet, job, writtenAnswer, withCalls, callsIn, simplifyJob, simplifyCall}
+use Rattle.calls.specs.Frame.{Simplifies}
+
+-- ---- a store into which a listing was read: nothing is counted, and nothing kept
+
+pub record Fresh (s : State) : Type 0 where
+  pub uncounted : count s ≡ 0
+  pub unkept : (t : Tree) → recall t s ≡ nothing
+
+FreshIn : Answer → Type 0
+FreshIn (gives t s) = Fresh s
+FreshIn (Storing.refused why) = Unit {0}
+
+either-way : (b : Bool) (x y : Answer) → FreshIn x → FreshIn y → FreshIn (cond b x y)
+either-way true x y p q = p
+either-way false x y p q = q
+
+stores : (t : Tree) (s : State) → Fresh s → FreshIn (intern t s)
+unfolding intern FreshIn count recall
+stores t (state room ts kept calls) f =
+    either-way (among ts t) _ _ f
+    (either-way (ltb largest (size t)) _ _ tt
+    (either-way (ltb deepest (depth t)) _ _ tt
+    (either-way (ltb (length ts) room) _ _ (record { uncounted = f .uncounted; unkept = f .unkept }) tt)))
+
+-- what holds after each line holds at the end
+module _ {S R : Type 0} (P : S → Type 0) where
+  InLine : Line S R → Type 0
+  InLine (goes s rest) = P s
+  InLine (stops why) = Unit {0}
+
+  InWhole : Whole S R → Type 0
+  InWhole (Lines.read s) = P s
+  InWhole (Lines.refused why) = Unit {0}
+
+  after : (l : Line S R) (next : S → List ℕ → Whole S R) → InLine l → ((s : S) (bs : List ℕ) → P s → InWhole (next s bs)) → InWhole (afterLine l next)
+  unfolding afterLine InLine InWhole
+  after (goes s rest) next x f = f s rest x
+  after (stops why) next x f = tt
+
+  to-the-end : (line : S → ℕ → List ℕ → Line S R) → ((s : S) (b : ℕ) (bs : List ℕ) → P s → InLine (line s b bs))
+      → (fuel : ℕ) (s : S) (bs : List ℕ) → P s → InWhole (lines line fuel s bs)
+  unfolding lines atLine InWhole
+  to-the-end line f zero s bs x = x
+  to-the-end line f (suc fuel) s [] x = x
+  to-the-end line f (suc fuel) s (b ∷ bs) x = after (line s b bs) (λ s bs. lines line fuel s bs) (f s b bs x) λ s bs y. to-the-end line f fuel s bs y
+
+FreshKnown : Known → Type 0
+FreshKnown k = Fresh (k .store)
+
+line-either : (b : Bool) (x y : Line Known Refusal) → InLine FreshKnown x → InLine FreshKnown y → InLine FreshKnown (cond b x y)
+line-either true x y p q = p
+line-either false x y p q = q
+
+stored-fresh : (k : Known) (rest : List ℕ) (a : Answer) → FreshIn a → InLine FreshKnown (stored k rest a)
+unfolding stored FreshIn InLine FreshKnown
+stored-fresh k rest (gives t s) x = x
+stored-fresh k rest (Storing.refused why) x = tt
+
+formed-fresh : (k : Known) (r : Read Tree) → Fresh (k .store) → InLine FreshKnown (formed k r)
+unfolding formed InLine
+formed-fresh k bad f = tt
+formed-fresh k (is t rest) f = stored-fresh k rest (intern t (k .store)) (stores t (k .store) f)
+
+swapped-fresh : (substituting : Bool) (k : Known) (r : Read Swap) → Fresh (k .store) → InLine FreshKnown (swapped substituting k r)
+unfolding swapped InLine FreshKnown
+swapped-fresh substituting k bad f = tt
+swapped-fresh substituting k (is s rest) f = line-either (substituting && above (k .swaps) s) _ _ f tt
+
+line-fresh : (substituting : Bool) (k : Known) (first : ℕ) (bs : List ℕ) → FreshKnown k → InLine FreshKnown (listingLine substituting k first bs)
+unfolding listingLine swapLine nodeLine InLine FreshKnown
+line-fresh substituting k first bs f =
+    line-either (eqb first 115) _ _
+    (line-either (ltb (length (k .swaps)) mostSwaps) _ _ (swapped-fresh substituting k (swapFields (k .nodes) first bs) f) tt)
+    (line-either (ltb (length (k .nodes)) mostNodes) _ _ (formed-fresh k (cond (none (k .swaps)) (nodeFields (k .nodes) first bs) bad) f) tt)
+
+FreshListing : Listing → Type 0
+FreshListing (accepted root swaps store) = Fresh store
+FreshListing (Listings.refused why) = Unit {0}
+
+rooted-fresh : (ts : List Tree) (swaps : List Swap) (store : State) → Fresh store → FreshListing (rooted ts swaps store)
+unfolding rooted FreshListing
+rooted-fresh [] swaps store f = tt
+rooted-fresh (t ∷ ts) swaps store f = f
+
+whole-fresh : (w : Whole Known Refusal) → InWhole FreshKnown w → FreshListing (whole w)
+unfolding whole InWhole FreshKnown FreshListing
+whole-fresh (Lines.read k) f = rooted-fresh (k .nodes) (k .swaps) (k .store) f
+whole-fresh (Lines.refused why) f = tt
+
+fresh-is : (room : ℕ) → Fresh (fresh room 0)
+unfolding count recall
+fresh-is room = record { uncounted = refl; unkept = λ t. refl }
+
+listing-fresh : (substituting : Bool) (bs : List ℕ) (room : ℕ) → FreshListing (listing substituting bs (fresh room 0))
+unfolding listing FreshKnown
+listing-fresh substituting bs room =
+    whole-fresh (lines (listingLine substituting) 1281 (known [] [] (fresh room 0)) bs)
+    (to-the-end FreshKnown (listingLine substituting) (line-fresh substituting) 1281 (known [] [] (fresh room 0)) bs (fresh-is room))
+
+unfoldable pub FreshJob : Job → Type 0
+FreshJob (ready root store rows) = Fresh store
+FreshJob (Calls.refused why) = Unit {0}
+
+sheet-fresh : (root : Tree) (store : State) (w : Whole Rows Refusal) → Fresh store → FreshJob (withSheet root store w)
+unfolding withSheet FreshJob
+sheet-fresh root store (Lines.read rows) f = f
+sheet-fresh root store (Lines.refused why) f = tt
+
+pub job-fresh : (room : ℕ) (list values : List ℕ) → FreshJob (job room list values)
+unfolding job
+job-fresh room list values = go (listing false list (fresh room 0)) (listing-fresh false list room)
+  where
+    go : (l : Listing) → FreshListing l → FreshJob (afterListing Calls.refused l λ root swaps store. withSheet root store (sheet values))
+    go (accepted root swaps store) f = sheet-fresh root store (sheet values) f
+    go (Listings.refused why) f = tt
+
+-- ---- the count
+
+unfoldable pub Within : Simplified → Type 0
+Within (Simplified.Bytes bytes calls) = calls ≤ 244531
+Within (Simplified.Refused why) = Unit {0}
+
+answer-within : (n : ℕ) (a : Answer) (w : Written) → n ≤ 244531 → Below n a → Within (withCalls (callsIn a) w)
+unfolding withCalls callsIn Below count Within
+answer-within n (gives t (state room ts kept calls)) (Written.Bytes bytes) l b = omega (arith, l, b)
+answer-within n (gives t (state room ts kept calls)) (Written.Refused why) l b = tt
+answer-within n (Storing.refused why) (Written.Bytes bytes) l b = omega arith
+answer-within n (Storing.refused why) (Written.Refused why′) l b = tt
+
+job-within : (limit : ℕ) (out : List ℕ) (j : Job) → limit ≤ 10 → FreshJob j → Within (simplifyJob limit out j .0)
+unfolding simplifyJob FreshJob Within
+job-within limit out (Calls.refused why) l f = tt
+job-within limit out (ready root store rows) l f =
+    let a = simplify rows limit root store in
+    answer-within (count store + bound limit) a (writtenAnswer out a .0) (omega (arith, f .uncounted, bound-to-ten limit l)) (bounded rows limit root store)
+
+-- "It is at most 244,531 at limit 10": so for every call
+pub calls-within : (room limit : ℕ) (list values out : List ℕ) → Within (simplifyCall room limit list values out .0)
+unfolding simplifyCall Within
+calls-within room limit list values out = go (ltb 10 limit) λ e. ltb-false 10 limit e
+  where
+    go : (b : Bool) → (b ≡ false → limit ≤ 10) → Within (cond b (Simplified.Refused Refusal.BadLimit, out) (simplifyJob limit out (job room list values)) .0)
+    go true l = tt
+    go false l = job-within limit out (job room list values) (l refl) (job-fresh room list values)
+
+pub at-most : (limit : ℕ) (list values out : List ℕ) (w : Work) {bytes calls : ℕ} {out′ : List ℕ} {w′ : Work}
+    → Simplifies limit list values out w (Simplified.Bytes bytes calls) out′ w′ → calls ≤ 244531
+unfolding Within
+at-most limit list values out w p = subst Within (sym (ap (λ x. x .0 .0) p)) (calls-within (capacity w) limit list values out)
+
+-- ---- the result
+
+module _ {want : Answer} {i n′ c n : ℕ} {m m′ : Memory} (b : Built want (Added.Node i n′ c) n m m′) where
+  pub result-is : want ≡ gives (treeAt m′ i) (stateOf m′ n′ c)
+  result-is = sym (b .answer)
+
+  pub result-stored : among (trees m′ n′) (treeAt m′ i) ≡ true
+  result-stored = stored-in (b .after .holds) i (b .after .inside)
+
+  pub result-limited : Limited (treeAt m′ i)
+  result-limited = limited (b .after .holds) i (b .after .inside)
+
+  pub result-proper : Proper (treeAt m′ i)
+  result-proper = proper (b .after .holds) i
+
+  pub result-reads-back : length (order (treeAt m′ i)) ≤ 1024 → (substituting : Bool) (room′ : ℕ) → room m′ ≤ room′
+      → listing substituting (textOf (treeAt m′ i)) (fresh room′ 0) ≡ accepted (treeAt m′ i) [] (state room′ (order (treeAt m′ i)) (λ u. nothing) 0)
+  result-reads-back = written-reads-back (b .after .holds) (b .after .inside)
