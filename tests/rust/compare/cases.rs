@@ -5,6 +5,8 @@ use oracle::expression::{ExpressionFunction, InfixOperator, PrefixOperator};
 use oracle::nodes::Node;
 use std::collections::BTreeSet;
 
+pub mod arms;
+
 pub const FUNCTIONS: [ExpressionFunction; 5] = [
     ExpressionFunction::Sine,
     ExpressionFunction::Cosine,
@@ -88,6 +90,7 @@ struct Maker<'a> {
     powers: usize,    // in a hundred
     names: Vec<u16>,
     far: bool, // whether there are cells beyond those that a sheet binds
+    shapes: Vec<arms::Shape>,
     nodes: Vec<Node>,
     size: Vec<usize>,
     depth: Vec<usize>,
@@ -103,7 +106,7 @@ impl<'a> Maker<'a> {
             names.extend([65535, 65534, random.next() as u16, random.next() as u16]);
         }
         let far = random.once_in(8);
-        Self { random, numbers, functions, powers, names, far, nodes: vec![], size: vec![], depth: vec![] }
+        Self { random, numbers, functions, powers, names, far, shapes: vec![], nodes: vec![], size: vec![], depth: vec![] }
     }
 
     fn push(&mut self, node: Node) -> usize {

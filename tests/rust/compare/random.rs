@@ -1,7 +1,7 @@
 // Random choices, and the numbers that cases are made of.
 use num_complex::Complex64;
 use oracle::trace::ONE_NAN;
-use std::f64::consts::{E, PI};
+use std::f64::consts::{E, FRAC_1_SQRT_2, PI};
 
 // Marsaglia's xorshift of 64 bits, with a multiplication against its weak low bits.
 pub struct Random(u64);
@@ -13,10 +13,12 @@ pub enum Numbers {
     Line,  // of moderate size, mostly real
     Wild,  // infinities, NaN, zeros of both signs, subnormals, the largest
     Few,   // 0 and -0, 1 and -1, 2 and infinity: many that are equal, or all but equal
+    Border, // on and around the tests for zero and one
     Bits,  // any bits
 }
 
 const SMALL: f64 = 1e-16; // to_real takes an imaginary part below it for zero
+const T: f64 = 1e-10; // a number is zero where its norm is below it
 const SPECIAL: [f64; 18] = [
     0.0,
     -0.0,
@@ -121,17 +123,52 @@ impl Random {
             Numbers::Plane | Numbers::Line => self.moderate(),
             Numbers::Wild => self.wild(),
             Numbers::Few => self.pick(&FEW),
+            Numbers::Border => self.around_zero(),
             Numbers::Bits => f64::from_bits(self.next()),
         }
     }
 
     pub fn complex(&mut self, numbers: Numbers) -> Complex64 {
+        if numbers == Numbers::Border {
+            return self.around_the_border();
+        }
         let (re, im) = (self.double(numbers), self.double(numbers));
         match numbers {
             Numbers::Line if !self.once_in(8) => Complex64::new(re, 0.0),
             Numbers::Wild if self.once_in(3) => Complex64::new(re, self.pick(&[0.0, -0.0])),
             _ => Complex64::new(re, im),
         }
+    }
+
+    // Some units of the last place from a double.
+    fn near(&mut self, x: f64) -> f64 {
+        f64::from_bits(x.to_bits() + self.below(5) as u64 - 2)
+    }
+
+    // What the test for zero compares with T: a magnitude near it, or one far below or above it.
+    fn around_zero(&mut self) -> f64 {
+        let magnitude = match self.below(8) {
+            0 | 1 => self.near(T),
+            2 => self.near(T * FRAC_1_SQRT_2),
+            3 => T * self.unit() * 1.5,
+            4 => self.subnormal().abs(),
+            5 => self.pick(&[1e-11, 1e-9, 1e-20, 1e-150, 1e-165, 2e-10]),
+            _ => 0.0,
+        };
+        if self.once_in(3) { -magnitude } else { magnitude }
+    }
+
+    fn around_the_border(&mut self) -> Complex64 {
+        let whole = self.pick(&[0.0, 0.0, 0.0, 0.0, 1.0, 1.0, 1.0, -1.0, 2.0, 3.0, -2.0, 0.5]);
+        let off = if self.once_in(2) { 0.0 } else { self.around_zero() };
+        let im = match self.below(8) {
+            0 => self.around_zero(),
+            1 => -0.0,
+            2 => self.pick(&[1.0, -1.0, 0.5]),
+            _ => 0.0,
+        };
+        let re = if self.once_in(8) { self.pick(&[f64::NAN, f64::INFINITY, f64::NEG_INFINITY, f64::MAX]) } else { whole + off };
+        if self.once_in(12) { Complex64::new(-0.0, im) } else { Complex64::new(re, im) }
     }
 
     // An imaginary part for to_real: small, not small, or near the border.

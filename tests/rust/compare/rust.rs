@@ -6,10 +6,13 @@ use crate::store::{MOST, Store};
 use crate::texts::{identical, in_order, listing, read_back};
 use internment::ArcIntern;
 use num_complex::Complex64;
-use oracle::expression::{EvaluationError, Expression};
+use oracle::expression::{EvaluationError, Expression, simplified};
 use oracle::nodes::{interned_trees, region_name, trees, variable_name};
 use oracle::trace::{Asked, Trace, bits};
+use oracle::watch::Watched;
 use std::collections::{HashMap, HashSet};
+
+const LIMIT: u64 = 10; // in by_hand.rs as it is
 
 pub struct Rust<'a> {
     case: &'a Case,
@@ -84,7 +87,7 @@ impl<'a> Rust<'a> {
         assert!(same_value(&traced, &value), "the trace does not go as the Rust's evaluate goes");
         let interned = interned_trees(&self.case.nodes);
         let interned = interned[interned.len() - 1].evaluate(&variables, &memory);
-        Evaluated { value, interned, asked: trace.asked }
+        Evaluated { value, interned, asked: trace.asks.list }
     }
 
     pub fn to_real(&self) -> Answer {
@@ -92,6 +95,17 @@ impl<'a> Rust<'a> {
             Ok(x) => value_answer([bits(x), 0, 0, 0]),
             Err(error) => refusal_of(error),
         }
+    }
+
+    // What simplifying to a limit gives in a copy of the Rust, and what was seen of it. To the Rust's own limit the file as
+    // it is has to give the same.
+    pub fn simplified(&self, limit: u64) -> (Expression, Watched) {
+        let (result, watched) = simplified(limit, self.root());
+        if limit == LIMIT {
+            let own = self.root().clone().into_simplified();
+            assert!(identical(&own, &result), "the copy does not simplify as the Rust does");
+        }
+        (result, watched)
     }
 
     pub fn substituted(&self) -> Expression {

@@ -1,5 +1,6 @@
-// The store of the rules, as plainly as can be: how many nodes a listing and its substitution need, and what is
-// refused.
+// The store of the rules, as plainly as can be: how many nodes a listing and its substitution need, what is refused, and
+// which nodes are equal.
+use num_complex::Complex64;
 use oracle::nodes::Node;
 use oracle::trace::bits;
 use std::collections::{HashMap, HashSet};
@@ -17,11 +18,19 @@ pub const LONG_LIST: u64 = 2;
 type Key = (u64, u64, u64);
 
 pub struct Store {
-    capacity: usize,
+    limits: Limits,
     known: HashMap<Key, usize>,
+    classes: HashMap<Key, usize>, // the first of the nodes that are equal
     nodes: Vec<Node>,
+    class: Vec<usize>,
     size: Vec<u64>,
     depth: Vec<u64>,
+}
+
+struct Limits {
+    capacity: usize,
+    size: u64,
+    depth: u64,
 }
 
 fn key(node: Node) -> Key {
@@ -36,7 +45,19 @@ fn key(node: Node) -> Key {
     }
 }
 
-fn children(node: Node) -> Vec<usize> {
+// A double whose bits are those of all doubles equal to it.
+fn of_class(x: f64) -> f64 {
+    if x == 0.0 { 0.0 } else { x }
+}
+
+fn with_one_zero(node: Node) -> Node {
+    match node {
+        Node::Number(z) => Node::Number(Complex64::new(of_class(z.re), of_class(z.im))),
+        other => other,
+    }
+}
+
+pub fn children(node: Node) -> Vec<usize> {
     match node {
         Node::Function(_, c) | Node::Prefix(_, c) => vec![c],
         Node::Infix(_, l, r) => vec![l, r],
@@ -44,7 +65,7 @@ fn children(node: Node) -> Vec<usize> {
     }
 }
 
-fn with_children(node: Node, of: impl Fn(usize) -> usize) -> Node {
+pub fn with_children(node: Node, of: impl Fn(usize) -> usize) -> Node {
     match node {
         Node::Function(f, c) => Node::Function(f, of(c)),
         Node::Prefix(o, c) => Node::Prefix(o, of(c)),
@@ -55,30 +76,54 @@ fn with_children(node: Node, of: impl Fn(usize) -> usize) -> Node {
 
 impl Store {
     pub fn new(capacity: usize) -> Self {
-        let capacity = capacity.min(MOST);
-        Self { capacity, known: HashMap::new(), nodes: vec![], size: vec![], depth: vec![] }
+        Self::within(Limits { capacity: capacity.min(MOST), size: LARGEST, depth: DEEPEST })
+    }
+
+    // One that refuses nothing, as the Rust does.
+    pub fn unlimited() -> Self {
+        Self::within(Limits { capacity: usize::MAX, size: u64::MAX, depth: u64::MAX })
+    }
+
+    fn within(limits: Limits) -> Self {
+        let (known, classes) = (HashMap::new(), HashMap::new());
+        Self { limits, known, classes, nodes: vec![], class: vec![], size: vec![], depth: vec![] }
     }
 
     pub fn len(&self) -> usize {
         self.nodes.len()
     }
 
-    fn add(&mut self, node: Node) -> Result<usize, u64> {
+    pub fn node(&self, at: usize) -> Node {
+        self.nodes[at]
+    }
+
+    pub fn size(&self, at: usize) -> u64 {
+        self.size[at]
+    }
+
+    // One number for all nodes that are equal to this one.
+    pub fn class(&self, at: usize) -> usize {
+        self.class[at]
+    }
+
+    pub fn add(&mut self, node: Node) -> Result<usize, u64> {
         if let Some(at) = self.known.get(&key(node)) {
             return Ok(*at);
         }
         let below = children(node);
-        let size = 1 + below.iter().map(|c| self.size[*c]).sum::<u64>();
+        let size = below.iter().fold(1u64, |sum, c| sum.saturating_add(self.size[*c]));
         let depth = 1 + below.iter().map(|c| self.depth[*c]).max().unwrap_or(0);
-        if size > LARGEST {
+        if size > self.limits.size {
             return Err(BIG);
         }
-        if depth > DEEPEST {
+        if depth > self.limits.depth {
             return Err(DEEP);
         }
-        if self.len() == self.capacity {
+        if self.len() == self.limits.capacity {
             return Err(ROOM);
         }
+        let class = key(with_children(with_one_zero(node), |c| self.class[c]));
+        self.class.push(*self.classes.entry(class).or_insert(self.nodes.len()));
         self.known.insert(key(node), self.len());
         self.nodes.push(node);
         self.size.push(size);

@@ -4,6 +4,7 @@
 
 pub mod nodes;
 pub mod trace;
+pub mod watch;
 
 pub mod expression {
     include!(concat!(env!("ORACLE_GIVEN"), "/expression/module.rs"));
@@ -19,6 +20,17 @@ pub mod expression {
 
     pub fn function_value(function: ExpressionFunction, argument: Complex64) -> Complex64 {
         calculate_function(function, argument)
+    }
+
+    // The copies of by_hand.rs import their two functions from here.
+    use crate::watch;
+
+    // Simplifying to a limit from 0 to 10, and what was seen of it. The root is handed over whatever it is, so that a
+    // leaf is a call too.
+    pub fn simplified(limit: u64, expression: &Expression) -> (Expression, watch::Watched) {
+        watch::take();
+        let result = simplification::run_to(limit, expression);
+        (result, watch::take())
     }
 }
 

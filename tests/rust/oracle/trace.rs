@@ -1,4 +1,5 @@
-// The functions that the Rust's `evaluate` applies on its way, in its order: what a value sheet has to have rows for.
+// The functions that the Rust's `evaluate` applies on its way, in its order: what a value sheet has to have rows for. The
+// same is noted of its simplifying (watch.rs).
 use crate::expression::{
     EvaluationError, Expression, ExpressionFunction, FunctionCallExpression, InfixExpression, InfixOperator,
     PrefixExpression, PrefixOperator, function_value, infix_value,
@@ -60,26 +61,21 @@ impl Asked {
     }
 }
 
-pub struct Trace<'a> {
-    variables: &'a HashMap<String, Complex64>,
-    memory: &'a HashMap<String, Vec<f64>>,
-    pub asked: Vec<Asked>,
-    seen: HashSet<Asked>,
+// Functions that were applied: each once, as first asked for.
+#[derive(Clone, Debug, Default)]
+pub struct Asks {
+    pub list: Vec<Asked>,
+    known: HashSet<Asked>,
 }
 
-impl<'a> Trace<'a> {
-    pub fn new(variables: &'a HashMap<String, Complex64>, memory: &'a HashMap<String, Vec<f64>>) -> Self {
-        Self { variables, memory, asked: Vec::new(), seen: HashSet::new() }
-    }
-
-    fn ask(&mut self, operation: Operation, x: Complex64, y: Complex64) {
-        let asked = Asked::new(operation, x, y);
-        if self.seen.insert(asked) {
-            self.asked.push(asked);
+impl Asks {
+    pub fn note(&mut self, asked: Asked) {
+        if self.known.insert(asked) {
+            self.list.push(asked);
         }
     }
 
-    fn function(&mut self, function: ExpressionFunction, x: Complex64) -> Complex64 {
+    pub fn function(&mut self, function: ExpressionFunction, x: Complex64) -> Complex64 {
         let zero = Complex64::new(0.0, 0.0);
         let operations: &[Operation] = match function {
             ExpressionFunction::Sine => &[Operation::Sine],
@@ -89,16 +85,28 @@ impl<'a> Trace<'a> {
             ExpressionFunction::Cis => &[Operation::Cosine, Operation::Sine],
         };
         for operation in operations {
-            self.ask(*operation, x, zero);
+            self.note(Asked::new(*operation, x, zero));
         }
         function_value(function, x)
     }
 
-    fn infix(&mut self, x: Complex64, operator: InfixOperator, y: Complex64) -> Complex64 {
+    pub fn infix(&mut self, x: Complex64, operator: InfixOperator, y: Complex64) -> Complex64 {
         if operator == InfixOperator::Caret {
-            self.ask(Operation::Power, x, y);
+            self.note(Asked::new(Operation::Power, x, y));
         }
         infix_value(x, operator, y)
+    }
+}
+
+pub struct Trace<'a> {
+    variables: &'a HashMap<String, Complex64>,
+    memory: &'a HashMap<String, Vec<f64>>,
+    pub asks: Asks,
+}
+
+impl<'a> Trace<'a> {
+    pub fn new(variables: &'a HashMap<String, Complex64>, memory: &'a HashMap<String, Vec<f64>>) -> Self {
+        Self { variables, memory, asks: Asks::default() }
     }
 
     // As `evaluate` goes, with a note of each function.
@@ -106,12 +114,12 @@ impl<'a> Trace<'a> {
         match expression {
             Expression::FunctionCall(FunctionCallExpression { function, expression }) => {
                 let x = self.value(expression)?;
-                Ok(self.function(*function, x))
+                Ok(self.asks.function(*function, x))
             }
             Expression::Infix(InfixExpression { left, operator, right }) => {
                 let x = self.value(left)?;
                 let y = self.value(right)?;
-                Ok(self.infix(x, *operator, y))
+                Ok(self.asks.infix(x, *operator, y))
             }
             Expression::Prefix(PrefixExpression { operator, expression }) => {
                 let x = self.value(expression)?;

@@ -1,0 +1,154 @@
+// Compares the rules' simplifying, as compare/model.rs has it, with the Rust's: small trees taken systematically and random
+// ones, at every limit from 0 to 10. The port is not asked. Arguments: how many random trees, and a seed. tests/rust/run
+// builds it.
+#![allow(dead_code)] // what only the other comparison uses
+mod cases;
+mod forest;
+mod model;
+mod question;
+mod random;
+mod rust;
+mod store;
+mod texts;
+mod verdict;
+mod zero;
+
+use cases::{Case, FUNCTIONS, PREFIXES, arms};
+use forest::{Forest, few_leaves, for_letters, leaves};
+use model::{Hits, Model};
+use oracle::nodes::Node;
+use random::Random;
+use rust::Rust;
+use std::collections::BTreeMap;
+use std::{env, process::ExitCode};
+use store::Store;
+use texts::listing;
+use verdict::{Verdict, verdict};
+
+const SEED: u64 = 1;
+const COUNT: u64 = 20_000;
+const LIMITS: u64 = 10;
+const ARMS: u8 = 41;
+const WANTED: u64 = 100; // hits of each arm
+const SHOWN: u64 = 5;
+
+#[derive(Default)]
+struct Tally {
+    trees: BTreeMap<&'static str, u64>,
+    runs: BTreeMap<&'static str, u64>,
+    hits: Hits,
+    most_calls: BTreeMap<u64, u64>,
+    differ: u64,
+}
+
+fn most_calls(limit: u64) -> u64 {
+    if limit == 0 { 1 } else { 1 + 2 * most_calls(limit - 1) + 4 * most_calls(limit.saturating_sub(2)) }
+}
+
+impl Tally {
+    fn differs(&mut self, nodes: &[Node], limit: u64, why: &str) {
+        self.differ += 1;
+        if self.differ <= SHOWN {
+            println!("DIFFERS at limit {limit}: {why}\n{}", listing(nodes, &[]));
+        }
+    }
+
+    fn note(&mut self, model: &Model, limit: u64) {
+        for (arm, n) in &model.hits {
+            *self.hits.entry(*arm).or_default() += n;
+        }
+        let most = self.most_calls.entry(limit).or_default();
+        *most = model.calls.max(*most);
+    }
+
+    fn run(&mut self, nodes: &[Node], rust: &Rust, limit: u64) {
+        let mut model = Model::new(Store::unlimited(), None);
+        let result = model.run(nodes, limit).expect("no limits");
+        let outcome = match verdict(&model, result, rust, limit) {
+            Verdict::Same => "same",
+            Verdict::OtherZero => "same but for the sign of a zero",
+            Verdict::NotCompared(corner) => corner,
+            Verdict::Differs(why) => {
+                self.differs(nodes, limit, &why);
+                "differ"
+            }
+        };
+        if !outcome.starts_with("corner") {
+            self.note(&model, limit);
+        }
+        if model.calls > most_calls(limit) {
+            self.differs(nodes, limit, "more calls than there can be");
+        }
+        *self.runs.entry(outcome).or_default() += 1;
+    }
+
+    fn tree(&mut self, what: &'static str, nodes: &[Node]) {
+        *self.trees.entry(what).or_default() += 1;
+        let case = Case { nodes: nodes.to_vec(), swaps: vec![], variables: vec![], cells: vec![] };
+        let rust = Rust::new(&case);
+        for limit in 0..=LIMITS {
+            self.run(nodes, &rust, limit);
+        }
+    }
+
+    fn systematic(&mut self) {
+        let all = Forest::new(&leaves(), &PREFIXES, &FUNCTIONS[..2], 4);
+        for (size, what) in [(1, "all of size 1"), (2, "all of size 2"), (3, "all of size 3"), (4, "all of size 4")] {
+            all.each(size, |nodes| self.tree(what, nodes));
+        }
+        let some = Forest::new(&leaves()[..8], &PREFIXES[1..], &FUNCTIONS[4..], 4);
+        some.each(5, |nodes| self.tree("all of size 5 over 8 leaves, prefix - and cis", nodes));
+        let few = Forest::new(&few_leaves(), &[], &[], 6);
+        few.each(7, |nodes| self.tree("all of size 7 over 4 leaves, infixes alone", nodes));
+        for shape in arms::shapes() {
+            let mut letters = shape.letters();
+            letters.sort_unstable();
+            letters.dedup();
+            for_letters(letters.len()).each_of_shape(&shape, |nodes| self.tree("what an arm matches", nodes));
+        }
+    }
+
+    fn random(&mut self, count: u64, seed: u64) {
+        let mut random = Random::new(seed);
+        for _ in 0..count {
+            let case = arms::to_simplify(&mut random);
+            self.tree("random, to size 500", &case.nodes);
+        }
+    }
+
+    fn arm(&self, arm: u8) -> u64 {
+        self.hits.iter().filter(|((a, _), _)| *a == arm).map(|(_, n)| n).sum()
+    }
+
+    fn print(&self) {
+        for ((arm, case), n) in &self.hits {
+            println!("{n:>12}  {} {case}", if *arm == 0 { "-".into() } else { format!("arm {arm}") });
+        }
+        for (limit, n) in &self.most_calls {
+            println!("{n:>12}  calls at most at limit {limit}, of {} there can be", most_calls(*limit));
+        }
+        for (what, n) in &self.trees {
+            println!("{n:>12}  trees: {what}");
+        }
+        for (outcome, n) in &self.runs {
+            println!("{n:>12}  {outcome}");
+        }
+        let least = (1..=ARMS).map(|arm| (self.arm(arm), arm)).min().expect("41 arms");
+        println!("{:>12}  hits of arm {}, the rarest", least.0, least.1);
+        println!("{:>12}  differ", self.differ);
+    }
+}
+
+fn number(text: Option<&String>, otherwise: u64) -> u64 {
+    text.map_or(otherwise, |t| t.parse().expect("a whole number"))
+}
+
+fn main() -> ExitCode {
+    let words: Vec<String> = env::args().skip(1).collect();
+    let mut tally = Tally::default();
+    tally.systematic();
+    tally.random(number(words.first(), COUNT), number(words.get(1), SEED));
+    tally.print();
+    let is_clean = tally.differ == 0 && (1..=ARMS).all(|arm| tally.arm(arm) >= WANTED);
+    if is_clean { ExitCode::SUCCESS } else { ExitCode::FAILURE }
+}

@@ -1,0 +1,173 @@
+// Cases for simplifying: trees made of the left sides of the arms, one within another, over numbers on and around the
+// zero and one tests; lines that are shared, equal, or equal but for the sign of a zero.
+use super::{Case, FUNCTIONS, INFIXES, Maker, PREFIXES};
+use crate::random::{Numbers, Random};
+use num_complex::Complex64;
+use oracle::expression::{InfixOperator, PrefixOperator};
+use oracle::nodes::Node;
+use std::collections::HashMap;
+
+// What the arms match: letters stand for any tree, a letter that comes twice for equal ones.
+pub const SHAPES: [&str; 52] = [
+    "(a+b)", "(a-b)", "(a*b)", "(a/b)", "(a^b)", "(a-a)", "(a/a)", "(a+a)", "(a*a)", "(a^a)", //
+    "(a+-b)", "(-a+b)", "(a--b)", "(-a-b)", "(-a*-b)", "(-a/-b)", "(a/-a)", "(-a/a)", "(a*-b)", "(a/-b)", "(-a*b)",
+    "(-a/b)", //
+    "(((p*q)+b)+((p*r)+c))", "(((p*q)+b)+((r*p)+c))", "(((q*p)+b)+((p*r)+c))", "(((q*p)+b)+((r*p)+c))",
+    "((a*x)+(b*x))", "((x+a)+(x+b))", //
+    "(a+(b+c))", "(a*(b*c))", "(a-(b-c))", "(a/(b/c))", "((a+b)+c)", "((a*b)*c)", "((a-b)-c)", "((a/b)/c)",
+    "(a*(b+c))", "((a+b)*c)", //
+    "((s*o)/s)", "((o*s)/s)", "(a/(a*b))", "(a/(b*a))", "((a*b)/c)", "(a/(b*c))", "((a/b)*b)", "(a*(b/a))", //
+    "-a", "--a", "+a", "(a+(b-a))", "((a-b)-b)", "(a*(a/b))",
+];
+const LARGEST: usize = 500;
+
+// A shape as a tree. A letter has its place in the alphabet.
+#[derive(Clone, Debug)]
+pub enum Shape {
+    Letter(u8),
+    Prefix(PrefixOperator, Box<Shape>),
+    Infix(InfixOperator, Box<Shape>, Box<Shape>),
+}
+
+fn infix_of(sign: u8) -> InfixOperator {
+    INFIXES[b"+-*/^".iter().position(|s| *s == sign).expect("an operator")]
+}
+
+fn parse(text: &mut std::slice::Iter<u8>) -> Shape {
+    match *text.next().expect("a shape") {
+        b'(' => {
+            let left = parse(text);
+            let operator = infix_of(*text.next().expect("an operator"));
+            let right = parse(text);
+            assert_eq!(text.next(), Some(&b')'));
+            Shape::Infix(operator, Box::new(left), Box::new(right))
+        }
+        b'+' => Shape::Prefix(PrefixOperator::Plus, Box::new(parse(text))),
+        b'-' => Shape::Prefix(PrefixOperator::Minus, Box::new(parse(text))),
+        letter => Shape::Letter(letter),
+    }
+}
+
+pub fn shapes() -> Vec<Shape> {
+    SHAPES.iter().map(|text| parse(&mut text.as_bytes().iter())).collect()
+}
+
+impl Shape {
+    // The letters, each as often as it occurs.
+    pub fn letters(&self) -> Vec<u8> {
+        match self {
+            Shape::Letter(letter) => vec![*letter],
+            Shape::Prefix(_, x) => x.letters(),
+            Shape::Infix(_, x, y) => [x.letters(), y.letters()].concat(),
+        }
+    }
+}
+
+fn other_zero(x: f64) -> f64 {
+    if x == 0.0 { -x } else { x }
+}
+
+impl Maker<'_> {
+    // The lines of a tree again, as lines of their own; with zeros of the other sign if that is wanted.
+    fn copy(&mut self, line: usize, other_zeros: bool) -> usize {
+        let node = match self.nodes[line] {
+            Node::Function(f, c) => Node::Function(f, self.copy(c, other_zeros)),
+            Node::Prefix(o, c) => Node::Prefix(o, self.copy(c, other_zeros)),
+            Node::Infix(o, l, r) => {
+                let (l, r) = (self.copy(l, other_zeros), self.copy(r, other_zeros));
+                Node::Infix(o, l, r)
+            }
+            Node::Number(z) if other_zeros => Node::Number(Complex64::new(other_zero(z.re), other_zero(z.im))),
+            leaf => leaf,
+        };
+        self.push(node)
+    }
+
+    fn equal_line(&mut self, line: usize) -> usize {
+        match self.random.below(4) {
+            0 => self.copy(line, false),
+            1 => self.copy(line, true),
+            _ => line,
+        }
+    }
+
+    fn shaped(&mut self, shape: &Shape, each: usize, known: &mut HashMap<u8, usize>) -> usize {
+        match shape {
+            Shape::Letter(letter) => match known.get(letter) {
+                Some(line) => self.equal_line(*line),
+                None => {
+                    let line = self.grown(each);
+                    known.insert(*letter, line);
+                    line
+                }
+            },
+            Shape::Prefix(o, x) => {
+                let x = self.shaped(x, each, known);
+                self.push(Node::Prefix(*o, x))
+            }
+            Shape::Infix(o, x, y) => {
+                let (x, y) = (self.shaped(x, each, known), self.shaped(y, each, known));
+                self.push(Node::Infix(*o, x, y))
+            }
+        }
+    }
+
+    // A tree of about this size.
+    fn grown(&mut self, size: usize) -> usize {
+        if size <= 1 {
+            return self.leaf();
+        }
+        match self.random.below(100) {
+            n if n < self.functions => {
+                let (function, x) = (self.random.pick(&FUNCTIONS), self.grown(size - 1));
+                self.push(Node::Function(function, x))
+            }
+            n if n < self.functions + 5 => {
+                let (prefix, x) = (self.random.pick(&PREFIXES), self.grown(size - 1));
+                self.push(Node::Prefix(prefix, x))
+            }
+            _ => {
+                let shape = self.shapes[self.random.below(self.shapes.len())].clone();
+                let each = (size - 1) / shape.letters().len();
+                self.shaped(&shape, each, &mut HashMap::new())
+            }
+        }
+    }
+
+    fn wrapped(&mut self, line: usize, times: usize) -> usize {
+        (0..times).fold(line, |line, _| {
+            let prefix = self.random.pick(&PREFIXES);
+            self.push(Node::Prefix(prefix, line))
+        })
+    }
+
+    fn grow(&mut self) {
+        let size = match self.random.below(20) {
+            0..=9 => self.random.from(1, 12),
+            10..=15 => self.random.from(12, 40),
+            16..=18 => self.random.from(40, 150),
+            _ => self.random.from(150, 450),
+        };
+        let line = self.grown(size);
+        if self.random.once_in(20) {
+            let times = self.random.below(12);
+            self.wrapped(line, times);
+        }
+    }
+}
+
+// A case for simplifying, of a size of at most 500.
+pub fn to_simplify(random: &mut Random) -> Case {
+    loop {
+        let mut maker = Maker::new(random);
+        maker.shapes = shapes();
+        if !maker.random.once_in(4) {
+            maker.numbers = maker.random.pick(&[Numbers::Border, Numbers::Border, Numbers::Few, Numbers::Line]);
+            maker.functions = maker.random.pick(&[0, 0, 3, 10]);
+        }
+        maker.grow();
+        if maker.size[maker.nodes.len() - 1] <= LARGEST {
+            return Case { nodes: maker.nodes, swaps: vec![], variables: vec![], cells: vec![] };
+        }
+    }
+}
