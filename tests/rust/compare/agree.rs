@@ -16,6 +16,7 @@ mod zero;
 use cases::{Case, FUNCTIONS, PREFIXES, arms};
 use forest::{Forest, few_leaves, for_letters, leaves};
 use model::{Hits, Model};
+use oracle::expression::{InfixOperator, PrefixOperator};
 use oracle::nodes::Node;
 use random::Random;
 use rust::Rust;
@@ -38,6 +39,7 @@ struct Tally {
     runs: BTreeMap<&'static str, u64>,
     hits: Hits,
     most_calls: BTreeMap<u64, u64>,
+    pi: BTreeMap<u64, usize>, // the fewest lines of a tree whose result is pi, by limit
     differ: u64,
 }
 
@@ -53,7 +55,11 @@ impl Tally {
         }
     }
 
-    fn note(&mut self, model: &Model, limit: u64) {
+    fn note(&mut self, model: &Model, result: usize, lines: usize, limit: u64) {
+        if matches!(model.store.node(result), Node::Pi) {
+            let fewest = self.pi.entry(limit).or_insert(lines);
+            *fewest = lines.min(*fewest);
+        }
         for (arm, n) in &model.hits {
             *self.hits.entry(*arm).or_default() += n;
         }
@@ -74,7 +80,7 @@ impl Tally {
             }
         };
         if !outcome.starts_with("corner") {
-            self.note(&model, limit);
+            self.note(&model, result, nodes.len(), limit);
         }
         if model.calls > most_calls(limit) {
             self.differs(nodes, limit, "more calls than there can be");
@@ -91,7 +97,24 @@ impl Tally {
         }
     }
 
+    // Prefixes + around what has pi inside.
+    fn around_pi(&mut self) {
+        let (pi, a, minus) = (Node::Pi, Node::Variable(0), |c| Node::Prefix(PrefixOperator::Minus, c));
+        let quotient = [pi, a, Node::Infix(InfixOperator::Star, 0, 1), Node::Infix(InfixOperator::Slash, 2, 1)];
+        let product = [pi, a, Node::Infix(InfixOperator::Slash, 0, 1), Node::Infix(InfixOperator::Star, 2, 1)];
+        let sine = [pi, Node::Function(FUNCTIONS[0], 0)];
+        let all: [&[Node]; 5] = [&[pi, minus(0)], &[pi, minus(0), minus(1)], &quotient, &product, &sine];
+        for inside in all {
+            let mut nodes = inside.to_vec();
+            for _ in 0..=LIMITS {
+                self.tree("prefixes + around pi", &nodes);
+                nodes.push(Node::Prefix(PrefixOperator::Plus, nodes.len() - 1));
+            }
+        }
+    }
+
     fn systematic(&mut self) {
+        self.around_pi();
         let all = Forest::new(&leaves(), &PREFIXES, &FUNCTIONS[..2], 4);
         for (size, what) in [(1, "all of size 1"), (2, "all of size 2"), (3, "all of size 3"), (4, "all of size 4")] {
             all.each(size, |nodes| self.tree(what, nodes));
@@ -112,6 +135,7 @@ impl Tally {
         let mut random = Random::new(seed);
         for _ in 0..count {
             let case = arms::to_simplify(&mut random);
+            case.features().into_iter().for_each(|f| *self.trees.entry(f).or_default() += 1);
             self.tree("random, to size 500", &case.nodes);
         }
     }
@@ -126,6 +150,9 @@ impl Tally {
         }
         for (limit, n) in &self.most_calls {
             println!("{n:>12}  calls at most at limit {limit}, of {} there can be", most_calls(*limit));
+        }
+        for (limit, n) in &self.pi {
+            println!("{n:>12}  lines at least of a tree whose result is pi at limit {limit}");
         }
         for (what, n) in &self.trees {
             println!("{n:>12}  trees: {what}");

@@ -5,7 +5,7 @@ use crate::zero::{is_one, is_zero};
 use num_complex::Complex64;
 use oracle::expression::{ExpressionFunction, InfixOperator, PrefixOperator};
 use oracle::nodes::Node;
-use oracle::trace::{Asked, Asks, Operation, bits};
+use oracle::trace::{Asked, Asks, Operation};
 use std::collections::{BTreeMap, HashMap, HashSet};
 use std::f64::consts::PI;
 
@@ -83,8 +83,7 @@ impl<'a> Model<'a> {
     // Nodes that are stored.
 
     fn number(&mut self, z: Complex64) -> Found {
-        let canonical = Complex64::new(f64::from_bits(bits(z.re)), f64::from_bits(bits(z.im)));
-        Ok(self.store.add(Node::Number(canonical))?)
+        Ok(self.store.add(Node::Number(z))?)
     }
 
     fn infix(&mut self, l: usize, op: InfixOperator, r: usize) -> Found {

@@ -50,6 +50,13 @@ fn of_class(x: f64) -> f64 {
     if x == 0.0 { 0.0 } else { x }
 }
 
+fn with_one_nan(node: Node) -> Node {
+    match node {
+        Node::Number(z) => Node::Number(Complex64::new(f64::from_bits(bits(z.re)), f64::from_bits(bits(z.im)))),
+        other => other,
+    }
+}
+
 fn with_one_zero(node: Node) -> Node {
     match node {
         Node::Number(z) => Node::Number(Complex64::new(of_class(z.re), of_class(z.im))),
@@ -107,6 +114,7 @@ impl Store {
     }
 
     pub fn add(&mut self, node: Node) -> Result<usize, u64> {
+        let node = with_one_nan(node);
         if let Some(at) = self.known.get(&key(node)) {
             return Ok(*at);
         }

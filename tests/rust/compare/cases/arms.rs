@@ -165,6 +165,9 @@ pub fn to_simplify(random: &mut Random) -> Case {
             maker.numbers = maker.random.pick(&[Numbers::Border, Numbers::Border, Numbers::Few, Numbers::Line]);
             maker.functions = maker.random.pick(&[0, 0, 3, 10]);
         }
+        if maker.random.once_in(5) {
+            maker.names = (0..200).collect();
+        }
         maker.grow();
         if maker.size[maker.nodes.len() - 1] <= LARGEST {
             return Case { nodes: maker.nodes, swaps: vec![], variables: vec![], cells: vec![] };
