@@ -13,10 +13,8 @@ mod texts;
 mod verdict;
 mod zero;
 
-use cases::{Case, FUNCTIONS, PREFIXES, arms};
-use forest::{Forest, few_leaves, for_letters, leaves};
-use model::{Hits, Model};
-use oracle::expression::{InfixOperator, PrefixOperator};
+use cases::{Case, arms};
+use model::{Hits, Model, add_hits, all_hit, print_hits};
 use oracle::nodes::Node;
 use random::Random;
 use rust::Rust;
@@ -29,8 +27,6 @@ use verdict::{Verdict, verdict};
 const SEED: u64 = 1;
 const COUNT: u64 = 20_000;
 const LIMITS: u64 = 10;
-const ARMS: u8 = 41;
-const WANTED: u64 = 100; // hits of each arm
 const SHOWN: u64 = 5;
 
 #[derive(Default)]
@@ -60,9 +56,7 @@ impl Tally {
             let fewest = self.pi.entry(limit).or_insert(lines);
             *fewest = lines.min(*fewest);
         }
-        for (arm, n) in &model.hits {
-            *self.hits.entry(*arm).or_default() += n;
-        }
+        add_hits(&mut self.hits, &model.hits);
         let most = self.most_calls.entry(limit).or_default();
         *most = model.calls.max(*most);
     }
@@ -70,7 +64,8 @@ impl Tally {
     fn run(&mut self, nodes: &[Node], rust: &Rust, limit: u64) {
         let mut model = Model::new(Store::unlimited(), None);
         let result = model.run(nodes, limit).expect("no limits");
-        let outcome = match verdict(&model, result, rust, limit) {
+        let written = listing(&model.lines(result), &[]);
+        let outcome = match verdict(&model, written.as_bytes(), rust, limit) {
             Verdict::Same => "same",
             Verdict::OtherZero => "same but for the sign of a zero",
             Verdict::NotCompared(corner) => corner,
@@ -97,40 +92,6 @@ impl Tally {
         }
     }
 
-    // Prefixes + around what has pi inside.
-    fn around_pi(&mut self) {
-        let (pi, a, minus) = (Node::Pi, Node::Variable(0), |c| Node::Prefix(PrefixOperator::Minus, c));
-        let quotient = [pi, a, Node::Infix(InfixOperator::Star, 0, 1), Node::Infix(InfixOperator::Slash, 2, 1)];
-        let product = [pi, a, Node::Infix(InfixOperator::Slash, 0, 1), Node::Infix(InfixOperator::Star, 2, 1)];
-        let sine = [pi, Node::Function(FUNCTIONS[0], 0)];
-        let all: [&[Node]; 5] = [&[pi, minus(0)], &[pi, minus(0), minus(1)], &quotient, &product, &sine];
-        for inside in all {
-            let mut nodes = inside.to_vec();
-            for _ in 0..=LIMITS {
-                self.tree("prefixes + around pi", &nodes);
-                nodes.push(Node::Prefix(PrefixOperator::Plus, nodes.len() - 1));
-            }
-        }
-    }
-
-    fn systematic(&mut self) {
-        self.around_pi();
-        let all = Forest::new(&leaves(), &PREFIXES, &FUNCTIONS[..2], 4);
-        for (size, what) in [(1, "all of size 1"), (2, "all of size 2"), (3, "all of size 3"), (4, "all of size 4")] {
-            all.each(size, |nodes| self.tree(what, nodes));
-        }
-        let some = Forest::new(&leaves()[..8], &PREFIXES[1..], &FUNCTIONS[4..], 4);
-        some.each(5, |nodes| self.tree("all of size 5 over 8 leaves, prefix - and cis", nodes));
-        let few = Forest::new(&few_leaves(), &[], &[], 6);
-        few.each(7, |nodes| self.tree("all of size 7 over 4 leaves, infixes alone", nodes));
-        for shape in arms::shapes() {
-            let mut letters = shape.letters();
-            letters.sort_unstable();
-            letters.dedup();
-            for_letters(letters.len()).each_of_shape(&shape, |nodes| self.tree("what an arm matches", nodes));
-        }
-    }
-
     fn random(&mut self, count: u64, seed: u64) {
         let mut random = Random::new(seed);
         for _ in 0..count {
@@ -140,14 +101,8 @@ impl Tally {
         }
     }
 
-    fn arm(&self, arm: u8) -> u64 {
-        self.hits.iter().filter(|((a, _), _)| *a == arm).map(|(_, n)| n).sum()
-    }
-
     fn print(&self) {
-        for ((arm, case), n) in &self.hits {
-            println!("{n:>12}  {} {case}", if *arm == 0 { "-".into() } else { format!("arm {arm}") });
-        }
+        print_hits(&self.hits);
         for (limit, n) in &self.most_calls {
             println!("{n:>12}  calls at most at limit {limit}, of {} there can be", most_calls(*limit));
         }
@@ -160,8 +115,6 @@ impl Tally {
         for (outcome, n) in &self.runs {
             println!("{n:>12}  {outcome}");
         }
-        let least = (1..=ARMS).map(|arm| (self.arm(arm), arm)).min().expect("41 arms");
-        println!("{:>12}  hits of arm {}, the rarest", least.0, least.1);
         println!("{:>12}  differ", self.differ);
     }
 }
@@ -173,9 +126,9 @@ fn number(text: Option<&String>, otherwise: u64) -> u64 {
 fn main() -> ExitCode {
     let words: Vec<String> = env::args().skip(1).collect();
     let mut tally = Tally::default();
-    tally.systematic();
+    forest::each(|what, nodes| tally.tree(what, nodes));
     tally.random(number(words.first(), COUNT), number(words.get(1), SEED));
     tally.print();
-    let is_clean = tally.differ == 0 && (1..=ARMS).all(|arm| tally.arm(arm) >= WANTED);
+    let is_clean = tally.differ == 0 && all_hit(&tally.hits);
     if is_clean { ExitCode::SUCCESS } else { ExitCode::FAILURE }
 }

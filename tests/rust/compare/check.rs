@@ -1,6 +1,7 @@
 // One case after another: drawn, asked of the port, compared with the Rust, and counted.
 use crate::cases;
 use crate::drawing::{ROWS, out_length, question, rearranged, rows_before, rows_text};
+use crate::model::{Hits, add_hits, all_hit, print_hits};
 use crate::port;
 use crate::question::{Answer, Kind, NEED, Question};
 use crate::random::Random;
@@ -8,6 +9,8 @@ use crate::rust::{Evaluated, Rust, reads_back, written};
 use crate::texts::row;
 use oracle::trace::Asked;
 use std::collections::{BTreeMap, HashSet};
+
+mod simplify;
 
 const SHOWN: u64 = 5;
 const NEEDS: [&str; 5] = ["NEED: sin", "NEED: cos", "NEED: exp", "NEED: sqrt", "NEED: pow"];
@@ -19,6 +22,7 @@ pub struct Tally {
     compared: u64,
     zeros: u64,
     differ: u64,
+    hits: Hits, // of the simplifier's arms
 }
 
 impl Tally {
@@ -28,6 +32,10 @@ impl Tally {
 
     fn note(&mut self, what: &'static str) {
         *self.notes.entry(what).or_default() += 1;
+    }
+
+    fn add_hits(&mut self, hits: &Hits) {
+        add_hits(&mut self.hits, hits);
     }
 
     fn differs(&mut self, q: &Question, why: &str) {
@@ -200,10 +208,13 @@ impl Tally {
     }
 
     pub fn is_clean(&self) -> bool {
-        self.differ == 0
+        self.differ == 0 && (self.hits.is_empty() || all_hit(&self.hits))
     }
 
     pub fn print(&self) {
+        if !self.hits.is_empty() {
+            print_hits(&self.hits);
+        }
         for ((what, outcome), n) in &self.cases {
             println!("{n:>10}  {what}: {outcome}");
         }

@@ -6,6 +6,7 @@ use crate::rust::Rust;
 use crate::store::MOST;
 use crate::texts::{bindings, listing, row};
 use num_complex::Complex64;
+use oracle::nodes::Node;
 use oracle::trace::{Asked, OPERATIONS, Operation};
 use std::collections::HashSet;
 
@@ -46,6 +47,19 @@ pub fn question(random: &mut Random, kind: Kind, case: &Case, rust: &Rust, most:
         kind,
         listing: listing(&case.nodes, &case.swaps),
         sheet: bindings(case),
+        lengths: lengths(random, needed, most),
+        out: 0,
+        junk: junk(random),
+    }
+}
+
+// The same for simplifying, which needs this many nodes. What a sheet binds has no part in it.
+pub fn simplify_question(random: &mut Random, nodes: &[Node], limit: u64, needed: usize, most: usize) -> Question {
+    let bound = ["", "", "", "v\t0\t3FF0000000000000\t0000000000000000\n", "m\t0\t0\t4000000000000000\n"];
+    Question {
+        kind: Kind::Simplify(limit),
+        listing: listing(nodes, &[]),
+        sheet: random.pick(&bound).into(),
         lengths: lengths(random, needed, most),
         out: 0,
         junk: junk(random),

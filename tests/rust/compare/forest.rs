@@ -1,9 +1,9 @@
 // Small trees, taken systematically: all of a size over some leaves, prefixes, functions and operators; and the shapes of
 // the arms with all choices for their letters.
-use crate::cases::arms::Shape;
-use crate::cases::{INFIXES, PREFIXES};
+use crate::cases::arms::{Shape, shapes};
+use crate::cases::{FUNCTIONS, INFIXES, PREFIXES};
 use num_complex::Complex64;
-use oracle::expression::{ExpressionFunction, PrefixOperator};
+use oracle::expression::{ExpressionFunction, InfixOperator, PrefixOperator};
 use oracle::nodes::Node;
 use std::ops::Range;
 
@@ -14,14 +14,14 @@ fn number(x: f64) -> Node {
 }
 
 // Variables, and numbers on and around the tests for zero and one.
-pub fn leaves() -> Vec<Node> {
+fn leaves() -> Vec<Node> {
     let [below, above] = [T.to_bits() - 1, T.to_bits() + 1].map(f64::from_bits);
     let numbers = [0.0, -0.0, 1.0, 2.0, T, below, above, 1.0 + 1e-11, 1.0 - 1e-11, f64::NAN, f64::INFINITY];
     let others = [Node::Variable(0), Node::Variable(1), Node::Pi];
     others.into_iter().chain(numbers.map(number)).collect()
 }
 
-pub struct Forest {
+struct Forest {
     nodes: Vec<Node>,
     sizes: Vec<Range<usize>>, // where the trees of a size stand, from size 0
     prefixes: Vec<PrefixOperator>,
@@ -30,7 +30,7 @@ pub struct Forest {
 
 impl Forest {
     // All trees to a size.
-    pub fn new(leaves: &[Node], prefixes: &[PrefixOperator], functions: &[ExpressionFunction], size: usize) -> Self {
+    fn new(leaves: &[Node], prefixes: &[PrefixOperator], functions: &[ExpressionFunction], size: usize) -> Self {
         let mut forest = Self {
             nodes: leaves.to_vec(),
             sizes: vec![0..0, 0..leaves.len()],
@@ -77,7 +77,7 @@ impl Forest {
     }
 
     // The listings of all trees of a size, for which those of one less have to stand in the forest.
-    pub fn each(&self, size: usize, mut take: impl FnMut(&[Node])) {
+    fn each(&self, size: usize, mut take: impl FnMut(&[Node])) {
         let mut lines = vec![];
         let mut listed = |node| {
             lines.clear();
@@ -104,10 +104,8 @@ impl Forest {
     }
 
     // A shape with each choice of trees of the forest for its letters.
-    pub fn each_of_shape(&self, shape: &Shape, mut take: impl FnMut(&[Node])) {
-        let mut letters = shape.letters();
-        letters.sort_unstable();
-        letters.dedup();
+    fn each_of_shape(&self, shape: &Shape, mut take: impl FnMut(&[Node])) {
+        let letters = shape.different_letters();
         let count = self.nodes.len();
         for choice in 0..count.pow(letters.len() as u32) {
             let of = |letter: u8| {
@@ -122,15 +120,51 @@ impl Forest {
 }
 
 // Variables and a number, with which trees of three operators are taken.
-pub fn few_leaves() -> Vec<Node> {
+fn few_leaves() -> Vec<Node> {
     vec![Node::Variable(0), Node::Variable(1), Node::Variable(2), number(2.0)]
 }
 
-// What stands for the letters of the shapes.
-pub fn for_letters(letters: usize) -> Forest {
+// What stands for the letters of a shape.
+fn for_letters(letters: usize) -> Forest {
     match letters {
         ..=2 => Forest::new(&leaves(), &PREFIXES, &[ExpressionFunction::Cosine], 2),
         3 => Forest::new(&leaves()[..8], &PREFIXES[1..], &[], 2),
         _ => Forest::new(&leaves()[..6], &[], &[], 1),
     }
+}
+
+// Prefixes + around what has pi inside: at the limit's end pi may come out of it as it is.
+fn around_pi(take: &mut impl FnMut(&'static str, &[Node])) {
+    let (pi, a, minus) = (Node::Pi, Node::Variable(0), |c| Node::Prefix(PrefixOperator::Minus, c));
+    let quotient = [pi, a, Node::Infix(InfixOperator::Star, 0, 1), Node::Infix(InfixOperator::Slash, 2, 1)];
+    let product = [pi, a, Node::Infix(InfixOperator::Slash, 0, 1), Node::Infix(InfixOperator::Star, 2, 1)];
+    let sine = [pi, Node::Function(FUNCTIONS[0], 0)];
+    let all: [&[Node]; 5] = [&[pi, minus(0)], &[pi, minus(0), minus(1)], &quotient, &product, &sine];
+    for inside in all {
+        let mut nodes = inside.to_vec();
+        for _ in 0..=10 {
+            take("prefixes + around pi", &nodes);
+            nodes.push(Node::Prefix(PrefixOperator::Plus, nodes.len() - 1));
+        }
+    }
+}
+
+fn shaped(take: &mut impl FnMut(&'static str, &[Node])) {
+    for shape in shapes() {
+        for_letters(shape.different_letters().len()).each_of_shape(&shape, |nodes| take("what an arm matches", nodes));
+    }
+}
+
+// All of them, under the name of their kind.
+pub fn each(mut take: impl FnMut(&'static str, &[Node])) {
+    let all = Forest::new(&leaves(), &PREFIXES, &FUNCTIONS[..2], 4);
+    for (size, what) in [(1, "all of size 1"), (2, "all of size 2"), (3, "all of size 3"), (4, "all of size 4")] {
+        all.each(size, |nodes| take(what, nodes));
+    }
+    let some = Forest::new(&leaves()[..8], &PREFIXES[1..], &FUNCTIONS[4..], 4);
+    some.each(5, |nodes| take("all of size 5 over 8 leaves, prefix - and cis", nodes));
+    let few = Forest::new(&few_leaves(), &[], &[], 6);
+    few.each(7, |nodes| take("all of size 7 over 4 leaves, infixes alone", nodes));
+    shaped(&mut take);
+    around_pi(&mut take);
 }

@@ -24,8 +24,36 @@ impl From<u64> for Stop {
 
 type Found = Result<usize, Stop>;
 
-// How often each arm was taken, under its number and its case; what is no arm of an infix has number 0.
-pub type Hits = BTreeMap<(u8, &'static str), u64>;
+// An arm's number and its case; what is no arm of an infix has number 0.
+pub type Arm = (u8, &'static str);
+
+// How often each arm was taken.
+pub type Hits = BTreeMap<Arm, u64>;
+
+const ARMS: u8 = 41;
+const ENOUGH: u64 = 100; // hits of an arm
+
+pub fn add_hits(sum: &mut Hits, hits: &Hits) {
+    for (arm, n) in hits {
+        *sum.entry(*arm).or_default() += n;
+    }
+}
+
+fn hits_of(hits: &Hits, arm: u8) -> u64 {
+    hits.iter().filter(|((a, _), _)| *a == arm).map(|(_, n)| n).sum()
+}
+
+pub fn all_hit(hits: &Hits) -> bool {
+    (1..=ARMS).all(|arm| hits_of(hits, arm) >= ENOUGH)
+}
+
+pub fn print_hits(hits: &Hits) {
+    for ((arm, case), n) in hits {
+        println!("{n:>12}  {}{case}", if *arm == 0 { String::new() } else { format!("arm {arm} ") });
+    }
+    let (least, arm) = (1..=ARMS).map(|arm| (hits_of(hits, arm), arm)).min().expect("41 arms");
+    println!("{least:>12}  hits of arm {arm}, the rarest");
+}
 
 pub struct Model<'a> {
     pub store: Store,

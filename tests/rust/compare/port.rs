@@ -21,6 +21,12 @@ unsafe extern "C" {
         second: *mut u64, second_length: usize, link: *mut u64, link_length: usize,
         table: *mut u64, answer: *mut u64,
     ) -> u64;
+    fn findavoreb_simplify(
+        listing: *const u8, listing_length: usize, sheet: *const u8, sheet_length: usize, limit: u64,
+        tag: *mut u64, tag_length: usize, first: *mut u64, first_length: usize,
+        second: *mut u64, second_length: usize, link: *mut u64, link_length: usize,
+        table: *mut u64, out: *mut u8, out_length: usize, answer: *mut u64,
+    ) -> u64;
 }
 
 const TABLE: usize = 8192;
@@ -75,20 +81,24 @@ impl Paper {
 }
 
 // Rust's empty slices have no address of their own; all the same it is not null.
+#[rustfmt::skip]
 fn call(q: &Question, work: &mut [Words; 4], table: &mut Words, paper: &mut Paper, answer: &mut Words) -> u64 {
     let (text, length) = (q.listing.as_ptr(), q.listing.len());
     let [(a, al), (b, bl), (c, cl), (d, dl)] = work.each_mut().map(|w| (w.lent().as_mut_ptr(), w.lent().len()));
     let (table, answer) = (table.lent().as_mut_ptr(), answer.lent().as_mut_ptr());
+    let (sheet, sheet_length) = (q.sheet.as_ptr(), q.sheet.len());
+    let (out, out_length) = (paper.lent().as_mut_ptr(), q.out);
     unsafe {
         match q.kind {
             Kind::Evaluate => {
-                let (sheet, sheet_length) = (q.sheet.as_ptr(), q.sheet.len());
                 findavoreb_evaluate(text, length, sheet, sheet_length, a, al, b, bl, c, cl, d, dl, table, answer)
             }
             Kind::Substitute => {
-                let (out, out_length) = (paper.lent().as_mut_ptr(), q.out);
                 findavoreb_substitute(text, length, a, al, b, bl, c, cl, d, dl, table, out, out_length, answer)
             }
+            Kind::Simplify(limit) => findavoreb_simplify(
+                text, length, sheet, sheet_length, limit, a, al, b, bl, c, cl, d, dl, table, out, out_length, answer,
+            ),
             Kind::ToReal => findavoreb_to_real(text, length, a, al, b, bl, c, cl, d, dl, table, answer),
         }
     }
@@ -98,7 +108,7 @@ fn call(q: &Question, work: &mut [Words; 4], table: &mut Words, paper: &mut Pape
 pub fn ask(q: &Question) -> Result<Answer, &'static str> {
     let mut work = q.lengths.map(|n| Words::new(n, q.junk));
     let (mut table, mut answer) = (Words::new(TABLE, q.junk), Words::new(ANSWER, !q.junk));
-    let mut paper = Paper::new(if q.kind == Kind::Substitute { q.out } else { 0 });
+    let mut paper = Paper::new(if q.writes() { q.out } else { 0 });
     let number = call(q, &mut work, &mut table, &mut paper, &mut answer);
     if !work.iter_mut().all(Words::is_zero) {
         return Err("the work slices are not zero");

@@ -1,11 +1,13 @@
 // What is asked of the port and what it answers, in the form that both sides of the comparison use.
 use crate::store::MOST;
+use oracle::trace::Asked;
 
 #[derive(Clone, Copy, Debug, PartialEq, Eq)]
 pub enum Kind {
     Evaluate,
     Substitute,
     ToReal,
+    Simplify(u64), // to this limit
 }
 
 // The two texts; how long the four work slices and the output are; what they hold at entry.
@@ -20,12 +22,21 @@ pub struct Question {
 }
 
 impl Question {
+    pub fn limit(&self) -> u64 {
+        if let Kind::Simplify(limit) = self.kind { limit } else { 0 }
+    }
+
+    pub fn writes(&self) -> bool {
+        matches!(self.kind, Kind::Substitute | Kind::Simplify(_))
+    }
+
     pub fn capacity(&self) -> usize {
         self.lengths.into_iter().min().unwrap_or(0).min(MOST)
     }
 }
 
-// A refusal's number or 0; the operation that NEED names, or the line; a value's bits or NEED's operands; the bytes.
+// A refusal's number or 0; the operation that NEED names, or the line; a value's bits, NEED's operands, or the number of
+// simplify calls; the bytes.
 #[derive(Clone, Debug, Default, PartialEq, Eq)]
 pub struct Answer {
     pub number: u64,
@@ -34,6 +45,9 @@ pub struct Answer {
     pub bytes: Vec<u8>,
 }
 
+pub const BAD_LIST: u64 = 1;
+pub const BAD_SHEET: u64 = 3;
+pub const BAD_LIMIT: u64 = 5;
 pub const NEED: u64 = 9;
 pub const INCOMPLETE: u64 = 10;
 pub const NOT_REAL: u64 = 11;
@@ -43,6 +57,14 @@ pub const OUT_ROOM: u64 = 13;
 impl Answer {
     pub fn refusal(number: u64) -> Self {
         Self { number, ..Self::default() }
+    }
+
+    pub fn at(number: u64, place: u64) -> Self {
+        Self { number, place, ..Self::default() }
+    }
+
+    pub fn need(asked: Asked) -> Self {
+        Self { number: NEED, place: asked.operation as u64, words: asked.operands, bytes: vec![] }
     }
 
     // The same answer with zeros of either sign as one, where it is a value.

@@ -1,7 +1,7 @@
 // The Rust's side: what the answer to a case has to be, by the Rust's own functions and, for the refusals that the port
 // adds, by the rules.
 use crate::cases::Case;
-use crate::question::{Answer, INCOMPLETE, Kind, NEED, NOT_A_NUMBER, NOT_REAL, OUT_ROOM, Question};
+use crate::question::{Answer, INCOMPLETE, Kind, NOT_A_NUMBER, NOT_REAL, OUT_ROOM, Question};
 use crate::store::{MOST, Store};
 use crate::texts::{identical, in_order, listing, read_back};
 use internment::ArcIntern;
@@ -119,7 +119,7 @@ impl Evaluated {
     // The answer where the sheet has rows for these: the first application without one is asked for.
     pub fn answer(&self, rows: &HashSet<Asked>) -> Answer {
         match self.asked.iter().find(|asked| !rows.contains(asked)) {
-            Some(asked) => Answer { number: NEED, place: asked.operation as u64, words: asked.operands, bytes: vec![] },
+            Some(asked) => Answer::need(*asked),
             None => answer_of(&self.value),
         }
     }

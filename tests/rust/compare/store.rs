@@ -7,7 +7,7 @@ use std::collections::{HashMap, HashSet};
 
 const LARGEST: u64 = 1_000_000;
 const DEEPEST: u64 = 64;
-const LINES: usize = 1024;
+pub const LINES: usize = 1024;
 pub const MOST: usize = 4096;
 pub const BIG: u64 = 6;
 pub const DEEP: u64 = 7;

@@ -1,8 +1,8 @@
-// Whether the Rust simplifies a case as the rules do: the tree, the number of calls, and the function values that are asked
-// for on the way, in their order.
+// Whether the Rust simplifies a case to what is written, with as many calls, and asks for the same function values in the
+// same order.
 use crate::model::Model;
 use crate::rust::Rust;
-use crate::texts::{in_order, listing};
+use crate::texts::{identical, in_order, listing, read_back};
 use oracle::nodes::trees;
 
 pub enum Verdict {
@@ -20,18 +20,19 @@ fn corner(model: &Model) -> Option<&'static str> {
     model.at_the_border.then_some("corner 2")
 }
 
-pub fn verdict(model: &Model, result: usize, rust: &Rust, limit: u64) -> Verdict {
+pub fn verdict(model: &Model, written: &[u8], rust: &Rust, limit: u64) -> Verdict {
     if let Some(corner) = corner(model) {
         return Verdict::NotCompared(corner);
     }
-    let lines = model.lines(result);
     let (tree, watched) = rust.simplified(limit);
-    let (mine, theirs) = (listing(&lines, &[]), listing(&in_order(&tree), &[]));
-    let is_equal = mine == theirs || trees(&lines).last().is_some_and(|root| **root == tree);
-    if !is_equal || model.calls != watched.calls || model.asks.list != watched.asks.list {
-        let asked = (&model.asks.list, &watched.asks.list);
-        let calls = (model.calls, watched.calls);
-        return Verdict::Differs(format!("calls {calls:?}, asked {asked:x?}\nthe rules\n{mine}the Rust\n{theirs}"));
+    let nodes = std::str::from_utf8(written).ok().and_then(read_back);
+    let Some(root) = nodes.and_then(|nodes| trees(&nodes).pop()) else {
+        return Verdict::Differs("what was written is no listing".into());
+    };
+    if *root == tree && model.calls == watched.calls && model.asks.list == watched.asks.list {
+        return if identical(&root, &tree) { Verdict::Same } else { Verdict::OtherZero };
     }
-    if mine == theirs { Verdict::Same } else { Verdict::OtherZero }
+    let (calls, asked) = ((model.calls, watched.calls), (&model.asks.list, &watched.asks.list));
+    let (mine, theirs) = (String::from_utf8_lossy(written), listing(&in_order(&tree), &[]));
+    Verdict::Differs(format!("calls {calls:?}, asked {asked:x?}\nwritten\n{mine}the Rust\n{theirs}"))
 }

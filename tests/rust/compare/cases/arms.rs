@@ -61,6 +61,13 @@ impl Shape {
             Shape::Infix(_, x, y) => [x.letters(), y.letters()].concat(),
         }
     }
+
+    pub fn different_letters(&self) -> Vec<u8> {
+        let mut letters = self.letters();
+        letters.sort_unstable();
+        letters.dedup();
+        letters
+    }
 }
 
 fn other_zero(x: f64) -> f64 {
@@ -142,6 +149,10 @@ impl Maker<'_> {
     }
 
     fn grow(&mut self) {
+        if self.random.once_in(12) {
+            let leaves = self.random.from(8, LARGEST / 2);
+            return self.wide(leaves);
+        }
         let size = match self.random.below(20) {
             0..=9 => self.random.from(1, 12),
             10..=15 => self.random.from(12, 40),
@@ -154,6 +165,86 @@ impl Maker<'_> {
             self.wrapped(line, times);
         }
     }
+}
+
+// Cases on the way to the refusals 2, 6 and 7.
+impl Maker<'_> {
+    fn infix(&mut self, operator: InfixOperator, left: usize, right: usize) -> usize {
+        self.push(Node::Infix(operator, left, right))
+    }
+
+    // Lines that have more lines when they are simplified: two sums that stay, and whose sum becomes another one.
+    fn group(&mut self, number: usize) -> usize {
+        let [x, a, b] = [0, 1, 2].map(|i| self.push(Node::Variable((3 * number + i) as u16)));
+        let (xa, xb) = (self.infix(InfixOperator::Plus, x, a), self.infix(InfixOperator::Plus, x, b));
+        let (power, sum) = (self.infix(InfixOperator::Caret, xa, xb), self.infix(InfixOperator::Plus, xa, xb));
+        self.infix(InfixOperator::Caret, power, sum)
+    }
+
+    fn long(&mut self) {
+        let count = self.random.from(88, 113);
+        let mut row: Vec<usize> = (0..count).map(|i| self.group(i)).collect();
+        while row.len() > 1 {
+            row = row.chunks(2).map(|pair| self.power(pair)).collect();
+        }
+        if self.random.once_in(2) {
+            self.push(Node::Prefix(PrefixOperator::Minus, row[0]));
+        }
+    }
+
+    fn power(&mut self, pair: &[usize]) -> usize {
+        if let [left, right] = pair { self.infix(InfixOperator::Caret, *left, *right) } else { pair[0] }
+    }
+
+    // A shape over one tree and leaves.
+    fn shape_over(&mut self, tree: usize) {
+        let shape = self.shapes[self.random.below(self.shapes.len())].clone();
+        let mut known: HashMap<u8, usize> = HashMap::new();
+        for letter in shape.letters() {
+            let line = if self.random.once_in(2) { tree } else { self.leaf() };
+            known.insert(letter, line);
+        }
+        self.shape_of(&shape, &known);
+    }
+
+    fn shape_of(&mut self, shape: &Shape, known: &HashMap<u8, usize>) -> usize {
+        let node = match shape {
+            Shape::Letter(letter) => return known[letter],
+            Shape::Prefix(o, x) => Node::Prefix(*o, self.shape_of(x, known)),
+            Shape::Infix(o, x, y) => {
+                let (x, y) = (self.shape_of(x, known), self.shape_of(y, known));
+                Node::Infix(*o, x, y)
+            }
+        };
+        self.push(node)
+    }
+
+    fn big(&mut self) {
+        let mut tree = self.leaf();
+        for _ in 0..self.random.from(16, 19) {
+            let operator = self.random.pick(&[InfixOperator::Caret, InfixOperator::Plus, InfixOperator::Star]);
+            tree = self.infix(operator, tree, tree);
+        }
+        self.shape_over(tree);
+    }
+
+    fn deep(&mut self) {
+        let depth = self.random.from(57, 63);
+        self.chain(depth);
+        self.shape_over(self.nodes.len() - 1);
+    }
+}
+
+// A case that may be refused by 2, 6 or 7 with all the memory there can be.
+pub fn to_refuse(random: &mut Random) -> Case {
+    let mut maker = Maker::new(random);
+    maker.shapes = shapes();
+    match maker.random.below(5) {
+        0 => maker.long(),
+        1 | 2 => maker.big(),
+        _ => maker.deep(),
+    }
+    Case { nodes: maker.nodes, swaps: vec![], variables: vec![], cells: vec![] }
 }
 
 // A case for simplifying, of a size of at most 500.
