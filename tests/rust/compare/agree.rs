@@ -67,6 +67,7 @@ impl Tally {
         let written = listing(&model.lines(result), &[]);
         let outcome = match verdict(&model, written.as_bytes(), rust, limit) {
             Verdict::Same => "same",
+            Verdict::SameIfApart => "same; a zero of another sign if the Rust makes equal nodes one",
             Verdict::OtherZero => "same but for the sign of a zero",
             Verdict::NotCompared(corner) => corner,
             Verdict::Differs(why) => {

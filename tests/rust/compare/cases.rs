@@ -106,7 +106,18 @@ impl<'a> Maker<'a> {
             names.extend([65535, 65534, random.next() as u16, random.next() as u16]);
         }
         let far = random.once_in(8);
-        Self { random, numbers, functions, powers, names, far, shapes: vec![], nodes: vec![], size: vec![], depth: vec![] }
+        Self {
+            random,
+            numbers,
+            functions,
+            powers,
+            names,
+            far,
+            shapes: vec![],
+            nodes: vec![],
+            size: vec![],
+            depth: vec![],
+        }
     }
 
     fn push(&mut self, node: Node) -> usize {

@@ -461,14 +461,7 @@ impl<'a> Model<'a> {
         Some(self.regrouped_left(l, op, r, (a, b), limit))
     }
 
-    fn regrouped_right(
-        &mut self,
-        l: usize,
-        op: InfixOperator,
-        r: usize,
-        (b, c): (usize, usize),
-        limit: u64,
-    ) -> Found {
+    fn regrouped_right(&mut self, l: usize, op: InfixOperator, r: usize, (b, c): (usize, usize), limit: u64) -> Found {
         let (arm, inner_op, inside, outside) = match op {
             Minus => (31, Plus, c, b),
             Slash => (31, Star, c, b),
@@ -481,14 +474,7 @@ impl<'a> Model<'a> {
         self.min(first, second)
     }
 
-    fn regrouped_left(
-        &mut self,
-        l: usize,
-        op: InfixOperator,
-        r: usize,
-        (a, b): (usize, usize),
-        limit: u64,
-    ) -> Found {
+    fn regrouped_left(&mut self, l: usize, op: InfixOperator, r: usize, (a, b): (usize, usize), limit: u64) -> Found {
         self.hit(32, name(op));
         let first = self.infix(l, op, r)?;
         let other = match op {

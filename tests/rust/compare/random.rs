@@ -9,12 +9,12 @@ pub struct Random(u64);
 // What the numbers of a case are like.
 #[derive(Clone, Copy, PartialEq)]
 pub enum Numbers {
-    Plane, // of moderate size, both parts nonzero
-    Line,  // of moderate size, mostly real
-    Wild,  // infinities, NaN, zeros of both signs, subnormals, the largest
-    Few,   // 0 and -0, 1 and -1, 2 and infinity: many that are equal, or all but equal
+    Plane,  // of moderate size, both parts nonzero
+    Line,   // of moderate size, mostly real
+    Wild,   // infinities, NaN, zeros of both signs, subnormals, the largest
+    Few,    // 0 and -0, 1 and -1, 2 and infinity: many that are equal, or all but equal
     Border, // on and around the tests for zero and one
-    Bits,  // any bits
+    Bits,   // any bits
 }
 
 const SMALL: f64 = 1e-16; // to_real takes an imaginary part below it for zero
@@ -167,7 +167,11 @@ impl Random {
             2 => self.pick(&[1.0, -1.0, 0.5]),
             _ => 0.0,
         };
-        let re = if self.once_in(8) { self.pick(&[f64::NAN, f64::INFINITY, f64::NEG_INFINITY, f64::MAX]) } else { whole + off };
+        let re = if self.once_in(8) {
+            self.pick(&[f64::NAN, f64::INFINITY, f64::NEG_INFINITY, f64::MAX])
+        } else {
+            whole + off
+        };
         if self.once_in(12) { Complex64::new(-0.0, im) } else { Complex64::new(re, im) }
     }
 

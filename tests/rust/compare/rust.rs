@@ -108,6 +108,15 @@ impl<'a> Rust<'a> {
         (result, watched)
     }
 
+    // The same where the Rust makes equal nodes one.
+    pub fn simplified_shared(&self, limit: u64) -> (Expression, Watched) {
+        internment::share(true);
+        let trees = interned_trees(&self.case.nodes);
+        let shared = simplified(limit, &trees[trees.len() - 1]);
+        internment::share(false);
+        shared
+    }
+
     pub fn substituted(&self) -> Expression {
         let by: HashMap<String, Expression> =
             self.case.swaps.iter().map(|(v, line)| (variable_name(*v), self.trees[*line].as_ref().clone())).collect();

@@ -154,6 +154,10 @@ fn simplify(random: &mut Random) -> Option<(Question, Answer, Hits)> {
         return Some((q, Answer::at(BAD_LIMIT, 0), Hits::new()));
     }
     let expected = expected_of(&q, &case.nodes, Some(&have));
+    let is_late = expected.model.calls > 0; // not while the listing is read
+    if [BIG, DEEP].contains(&expected.answer.number) && !is_late {
+        return None;
+    }
     if expected.answer.number == 0 && !is_the_rusts(&expected.model, &expected.answer, &case, limit) {
         return None;
     }
@@ -162,8 +166,8 @@ fn simplify(random: &mut Random) -> Option<(Question, Answer, Hits)> {
 
 fn is_the_rusts(model: &Model, answer: &Answer, case: &Case, limit: u64) -> bool {
     match verdict(model, &answer.bytes, &Rust::new(case), limit) {
-        Verdict::Same | Verdict::OtherZero => true,
-        Verdict::NotCompared(_) => false,
+        Verdict::Same => true,
+        Verdict::SameIfApart | Verdict::OtherZero | Verdict::NotCompared(_) => false,
         Verdict::Differs(why) => panic!("another result in the Rust: {why}"),
     }
 }

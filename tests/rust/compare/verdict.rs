@@ -7,7 +7,8 @@ use oracle::nodes::trees;
 
 pub enum Verdict {
     Same,
-    OtherZero, // the same but for the sign of a zero
+    SameIfApart, // the same, but for the sign of a zero where the Rust makes equal nodes one
+    OtherZero,   // the same but for the sign of a zero
     NotCompared(&'static str),
     Differs(String),
 }
@@ -29,8 +30,16 @@ pub fn verdict(model: &Model, written: &[u8], rust: &Rust, limit: u64) -> Verdic
     let Some(root) = nodes.and_then(|nodes| trees(&nodes).pop()) else {
         return Verdict::Differs("what was written is no listing".into());
     };
+    let (shared, shared_watched) = rust.simplified_shared(limit);
+    if shared != tree || shared_watched.calls != watched.calls {
+        return Verdict::Differs("the Rust does otherwise where it makes equal nodes one".into());
+    }
     if *root == tree && model.calls == watched.calls && model.asks.list == watched.asks.list {
-        return if identical(&root, &tree) { Verdict::Same } else { Verdict::OtherZero };
+        return match (identical(&root, &tree), identical(&tree, &shared)) {
+            (true, true) => Verdict::Same,
+            (true, false) => Verdict::SameIfApart,
+            _ => Verdict::OtherZero,
+        };
     }
     let (calls, asked) = ((model.calls, watched.calls), (&model.asks.list, &watched.asks.list));
     let (mine, theirs) = (String::from_utf8_lossy(written), listing(&in_order(&tree), &[]));

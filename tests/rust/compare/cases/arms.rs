@@ -8,15 +8,15 @@ use oracle::nodes::Node;
 use std::collections::HashMap;
 
 // What the arms match: letters stand for any tree, a letter that comes twice for equal ones.
+#[rustfmt::skip]
 pub const SHAPES: [&str; 52] = [
-    "(a+b)", "(a-b)", "(a*b)", "(a/b)", "(a^b)", "(a-a)", "(a/a)", "(a+a)", "(a*a)", "(a^a)", //
-    "(a+-b)", "(-a+b)", "(a--b)", "(-a-b)", "(-a*-b)", "(-a/-b)", "(a/-a)", "(-a/a)", "(a*-b)", "(a/-b)", "(-a*b)",
-    "(-a/b)", //
+    "(a+b)", "(a-b)", "(a*b)", "(a/b)", "(a^b)", "(a-a)", "(a/a)", "(a+a)", "(a*a)", "(a^a)",
+    "(a+-b)", "(-a+b)", "(a--b)", "(-a-b)", "(-a*-b)", "(-a/-b)", "(a/-a)", "(-a/a)", "(a*-b)", "(a/-b)", "(-a*b)", "(-a/b)",
     "(((p*q)+b)+((p*r)+c))", "(((p*q)+b)+((r*p)+c))", "(((q*p)+b)+((p*r)+c))", "(((q*p)+b)+((r*p)+c))",
-    "((a*x)+(b*x))", "((x+a)+(x+b))", //
+    "((a*x)+(b*x))", "((x+a)+(x+b))",
     "(a+(b+c))", "(a*(b*c))", "(a-(b-c))", "(a/(b/c))", "((a+b)+c)", "((a*b)*c)", "((a-b)-c)", "((a/b)/c)",
-    "(a*(b+c))", "((a+b)*c)", //
-    "((s*o)/s)", "((o*s)/s)", "(a/(a*b))", "(a/(b*a))", "((a*b)/c)", "(a/(b*c))", "((a/b)*b)", "(a*(b/a))", //
+    "(a*(b+c))", "((a+b)*c)",
+    "((s*o)/s)", "((o*s)/s)", "(a/(a*b))", "(a/(b*a))", "((a*b)/c)", "(a/(b*c))", "((a/b)*b)", "(a*(b/a))",
     "-a", "--a", "+a", "(a+(b-a))", "((a-b)-b)", "(a*(a/b))",
 ];
 const LARGEST: usize = 500;

@@ -64,11 +64,13 @@ impl Tally {
     fn simplified(&mut self, q: &Question, nodes: &[Node], model: &Model, answer: &Answer, bytes: &[u8]) -> String {
         self.add_hits(&model.hits);
         if answer.number != 0 {
-            return format!("refused {}", answer.number);
+            let when = if model.calls == 0 { " while reading" } else { "" };
+            return format!("refused {}{when}", answer.number);
         }
         let case = Case { nodes: nodes.to_vec(), swaps: vec![], variables: vec![], cells: vec![] };
         match verdict(model, bytes, &Rust::new(&case), q.limit()) {
             Verdict::Same => "written".into(),
+            Verdict::SameIfApart => "written, a zero of the other sign if the Rust makes equal nodes one".into(),
             Verdict::OtherZero => "written, a zero of the other sign in the Rust".into(),
             Verdict::NotCompared(corner) => format!("written, not compared with the Rust: {corner}"),
             Verdict::Differs(why) => {

@@ -1,12 +1,26 @@
 // Stands in for the crate internment. A node is equal to another by value; its hash is computed once, when it is made,
-// from the hashes that its children keep.
+// from the hashes that its children keep. Equal nodes stay apart, unless `share` makes them one.
 use std::{
-    collections::hash_map::DefaultHasher,
+    any::Any,
+    cell::RefCell,
+    collections::{HashMap, hash_map::DefaultHasher},
     fmt,
     hash::{Hash, Hasher},
     ops::Deref,
     sync::Arc,
 };
+
+// The nodes that were made since `share`, of whichever type, by their hash.
+type Shared = HashMap<u64, Vec<Box<dyn Any>>>;
+
+thread_local! {
+    static SHARED: RefCell<Option<Shared>> = const { RefCell::new(None) };
+}
+
+// From now on a new node that is equal to an earlier one is that one; or all stay apart again.
+pub fn share(is_wanted: bool) {
+    SHARED.set(is_wanted.then(HashMap::new));
+}
 
 struct Inner<T> {
     hash: u64,
@@ -15,11 +29,22 @@ struct Inner<T> {
 
 pub struct ArcIntern<T>(Arc<Inner<T>>);
 
-impl<T: Hash> ArcIntern<T> {
+impl<T: Hash + Eq + 'static> ArcIntern<T> {
     pub fn new(value: T) -> Self {
         let mut hasher = DefaultHasher::new();
         value.hash(&mut hasher);
-        Self(Arc::new(Inner { hash: hasher.finish(), value }))
+        let new = Self(Arc::new(Inner { hash: hasher.finish(), value }));
+        SHARED.with_borrow_mut(|shared| shared.as_mut().and_then(|all| new.first(all))).unwrap_or(new)
+    }
+
+    // The earlier node that is equal to this one; if there is none this one is kept.
+    fn first(&self, all: &mut Shared) -> Option<Self> {
+        let bucket = all.entry(self.0.hash).or_default();
+        let earlier = bucket.iter().filter_map(|any| any.downcast_ref::<Self>()).find(|one| *one == self).cloned();
+        if earlier.is_none() {
+            bucket.push(Box::new(self.clone()));
+        }
+        earlier
     }
 }
 
@@ -35,7 +60,7 @@ impl<T> ArcIntern<T> {
     }
 }
 
-impl<T: Hash> From<T> for ArcIntern<T> {
+impl<T: Hash + Eq + 'static> From<T> for ArcIntern<T> {
     fn from(value: T) -> Self {
         Self::new(value)
     }
