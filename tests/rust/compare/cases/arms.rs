@@ -1,6 +1,6 @@
 // Cases for simplifying: trees made of the left sides of the arms, one within another, over numbers on and around the
 // zero and one tests; lines that are shared, equal, or equal but for the sign of a zero.
-use super::{Case, FUNCTIONS, INFIXES, Maker, PREFIXES};
+use super::{Case, DEEPEST, FUNCTIONS, INFIXES, Maker, PREFIXES};
 use crate::random::{Numbers, Random};
 use num_complex::Complex64;
 use oracle::expression::{InfixOperator, PrefixOperator};
@@ -18,6 +18,13 @@ pub const SHAPES: [&str; 52] = [
     "(a*(b+c))", "((a+b)*c)",
     "((s*o)/s)", "((o*s)/s)", "(a/(a*b))", "(a/(b*a))", "((a*b)/c)", "(a/(b*c))", "((a/b)*b)", "(a*(b/a))",
     "-a", "--a", "+a", "(a+(b-a))", "((a-b)-b)", "(a*(a/b))",
+];
+// Those that may become larger and deeper on the way.
+const GROWING: [&str; 2] = ["(a*(b+c))", "((a+b)*c)"];
+#[rustfmt::skip]
+const DEEPENING: [&str; 12] = [
+    "(a*-b)", "(a/-b)", "(-a*b)", "(-a/b)", "(a+(b+c))", "(a*(b*c))", "(a-(b-c))", "((a+b)+c)", "((a-b)-c)", "(a*(b+c))",
+    "((a*b)/c)", "(a/(b*c))",
 ];
 const LARGEST: usize = 500;
 
@@ -48,8 +55,12 @@ fn parse(text: &mut std::slice::Iter<u8>) -> Shape {
     }
 }
 
+fn parsed(texts: &[&str]) -> Vec<Shape> {
+    texts.iter().map(|text| parse(&mut text.as_bytes().iter())).collect()
+}
+
 pub fn shapes() -> Vec<Shape> {
-    SHAPES.iter().map(|text| parse(&mut text.as_bytes().iter())).collect()
+    parsed(&SHAPES)
 }
 
 impl Shape {
@@ -59,6 +70,15 @@ impl Shape {
             Shape::Letter(letter) => vec![*letter],
             Shape::Prefix(_, x) => x.letters(),
             Shape::Infix(_, x, y) => [x.letters(), y.letters()].concat(),
+        }
+    }
+
+    // How many nodes stand above a letter, where they are most.
+    fn above(&self, wanted: u8) -> Option<usize> {
+        match self {
+            Shape::Letter(letter) => (*letter == wanted).then_some(0),
+            Shape::Prefix(_, x) => x.above(wanted).map(|n| n + 1),
+            Shape::Infix(_, x, y) => x.above(wanted).max(y.above(wanted)).map(|n| n + 1),
         }
     }
 
@@ -134,7 +154,7 @@ impl Maker<'_> {
                 self.push(Node::Prefix(prefix, x))
             }
             _ => {
-                let shape = self.shapes[self.random.below(self.shapes.len())].clone();
+                let shape = self.any_shape();
                 let each = (size - 1) / shape.letters().len();
                 self.shaped(&shape, each, &mut HashMap::new())
             }
@@ -196,15 +216,18 @@ impl Maker<'_> {
         if let [left, right] = pair { self.infix(InfixOperator::Caret, *left, *right) } else { pair[0] }
     }
 
-    // A shape over one tree and leaves.
-    fn shape_over(&mut self, tree: usize) {
-        let shape = self.shapes[self.random.below(self.shapes.len())].clone();
-        let mut known: HashMap<u8, usize> = HashMap::new();
-        for letter in shape.letters() {
-            let line = if self.random.once_in(2) { tree } else { self.leaf() };
-            known.insert(letter, line);
-        }
-        self.shape_of(&shape, &known);
+    fn variable(&mut self) -> usize {
+        let name = self.random.pick(&self.names);
+        self.push(Node::Variable(name))
+    }
+
+    fn any_shape(&mut self) -> Shape {
+        self.shapes[self.random.below(self.shapes.len())].clone()
+    }
+
+    // The line, or a prefix + above it: where that goes away, what an arm stores first is a new node.
+    fn with_plus(&mut self, line: usize, is_wanted: bool) -> usize {
+        if is_wanted { self.push(Node::Prefix(PrefixOperator::Plus, line)) } else { line }
     }
 
     fn shape_of(&mut self, shape: &Shape, known: &HashMap<u8, usize>) -> usize {
@@ -219,27 +242,61 @@ impl Maker<'_> {
         self.push(node)
     }
 
+    // Trees of a size that an arm may bring above a million.
     fn big(&mut self) {
-        let mut tree = self.leaf();
-        for _ in 0..self.random.from(16, 19) {
-            let operator = self.random.pick(&[InfixOperator::Caret, InfixOperator::Plus, InfixOperator::Star]);
-            tree = self.infix(operator, tree, tree);
+        let mut trees = vec![self.variable()];
+        for _ in 0..self.random.from(17, 18) {
+            let operator = self.random.pick(&[InfixOperator::Caret, InfixOperator::Caret, InfixOperator::Star]);
+            let last = trees[trees.len() - 1];
+            trees.push(self.infix(operator, last, last));
         }
-        self.shape_over(tree);
+        let (shape, mut known) = (self.any_shape(), HashMap::new());
+        for letter in shape.different_letters() {
+            let is_big = self.random.once_in(2);
+            let line = if is_big { trees[trees.len() - self.random.from(1, 3)] } else { self.variable() };
+            let plus = self.random.once_in(3);
+            known.insert(letter, self.with_plus(line, plus));
+        }
+        self.shape_of(&shape, &known);
     }
 
+    fn chain_of_functions(&mut self, depth: usize) {
+        let mut top = self.variable();
+        while self.depth[top] < depth {
+            let function = self.random.pick(&FUNCTIONS);
+            top = self.push(Node::Function(function, top));
+        }
+    }
+
+    // A tree of about the depth 64, which an arm may bring above that.
     fn deep(&mut self) {
-        let depth = self.random.from(57, 63);
-        self.chain(depth);
-        self.shape_over(self.nodes.len() - 1);
+        let shape = self.any_shape();
+        let letters = shape.different_letters();
+        let (deep, plus) = (self.random.pick(&letters), self.random.pick(&letters));
+        let above = shape.above(deep).expect("a letter of the shape") + usize::from(plus == deep);
+        let depth = DEEPEST - above + self.random.pick(&[0, 0, 0, 0, 1]);
+        if self.random.once_in(3) {
+            self.chain(depth)
+        } else {
+            self.chain_of_functions(depth)
+        }
+        let top = self.nodes.len() - 1;
+        let mut known = HashMap::new();
+        for letter in letters {
+            let line = if letter == deep { top } else { self.variable() };
+            known.insert(letter, self.with_plus(line, letter == plus));
+        }
+        self.shape_of(&shape, &known);
     }
 }
 
 // A case that may be refused by 2, 6 or 7 with all the memory there can be.
 pub fn to_refuse(random: &mut Random) -> Case {
     let mut maker = Maker::new(random);
-    maker.shapes = shapes();
-    match maker.random.below(5) {
+    let what = maker.random.below(5);
+    let aimed = if what < 3 { parsed(&GROWING) } else { parsed(&DEEPENING) };
+    maker.shapes = if maker.random.once_in(4) { shapes() } else { aimed };
+    match what {
         0 => maker.long(),
         1 | 2 => maker.big(),
         _ => maker.deep(),

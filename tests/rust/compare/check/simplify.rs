@@ -8,7 +8,7 @@ use crate::model::Model;
 use crate::question::{Answer, BAD_LIMIT, BAD_LIST, BAD_SHEET, Kind, NEED, Question};
 use crate::random::Random;
 use crate::rust::Rust;
-use crate::store::{LINES, LONG_LIST, MOST, Store};
+use crate::store::{BIG, DEEP, LINES, LONG_LIST, MOST, Store};
 use crate::texts::row;
 use crate::verdict::{Verdict, verdict};
 use oracle::nodes::Node;
@@ -17,6 +17,7 @@ use std::collections::HashSet;
 
 const WHAT: &str = "simplify";
 const MOST_LIMIT: u64 = 10;
+const LESS: usize = 6; // nodes
 const OVER: [u64; 6] = [11, 12, 255, 1 << 32, 1 << 63, u64::MAX];
 
 impl Tally {
@@ -43,6 +44,9 @@ impl Tally {
             let have: HashSet<Asked> = rows.iter().copied().collect();
             let expected = expected_of(q, nodes, Some(&have));
             let bytes = self.compare(q, &expected.answer);
+            if [BIG, DEEP].contains(&expected.answer.number) || expected.answer.number == NEED && random.once_in(8) {
+                self.with_less_memory(q, nodes, &expected.model, &have);
+            }
             if expected.answer.number != NEED {
                 if !rows.is_empty() && random.once_in(3) {
                     q.sheet = format!("{bound}{}", rearranged(random, &rows, &asked));
@@ -57,6 +61,15 @@ impl Tally {
             }
             text += &row(next, next.value());
             rows.push(next);
+        }
+    }
+
+    // What was refused otherwise than by 8 is refused by 8 where one of the last nodes before had no room: so the order shows
+    // in which nodes are stored.
+    fn with_less_memory(&mut self, q: &Question, nodes: &[Node], model: &Model, have: &HashSet<Asked>) {
+        for less in 1..=LESS.min(model.store.len()) {
+            let short = Question { lengths: [model.store.len() - less; 4], ..q.clone() };
+            self.compare(&short, &expected_of(&short, nodes, Some(have)).answer);
         }
     }
 
@@ -119,7 +132,7 @@ impl Tally {
         let (mut tally, mut random) = (Self::default(), Random::new(seed));
         tally.systematic(&mut random);
         for _ in 0..count {
-            let case = if random.once_in(40) { arms::to_refuse(&mut random) } else { arms::to_simplify(&mut random) };
+            let case = if random.once_in(20) { arms::to_refuse(&mut random) } else { arms::to_simplify(&mut random) };
             case.features().into_iter().for_each(|f| tally.note(f));
             let limit = if random.once_in(2) { MOST_LIMIT } else { random.below(MOST_LIMIT as usize) as u64 };
             tally.simplify_to(&mut random, &case.nodes, limit);
