@@ -54,8 +54,9 @@ const WANTED: [(&str, usize); 16] = [
 ];
 
 // The same of simplifying.
-const SIMPLIFY_WANTED: [(&str, usize); 8] = [
-    ("simplify 0", 200),
+const SIMPLIFY_WANTED: [(&str, usize); 9] = [
+    ("simplify 0", 196),
+    ("simplify 0 long", 4),
     ("simplify 2", 1),
     ("simplify 5", 6),
     ("simplify 6", 3),
@@ -195,6 +196,15 @@ fn outcome(q: &Question, expected: &Answer) -> Option<String> {
     Some(format!("{what} {}{with}", expected.number))
 }
 
+// The same for simplifying.
+fn simplify_outcome(q: &Question, expected: &Answer) -> Option<String> {
+    let length = length(q, expected);
+    let has_to_be_long = [LONG_LIST, BIG, DEEP].contains(&expected.number);
+    let is_long = expected.number == 0 && LONGEST < length && length < 2 * LONGEST;
+    let with = if is_long { " long" } else { "" };
+    (length <= SHORT || has_to_be_long || is_long).then(|| format!("simplify {}{with}", expected.number))
+}
+
 // What is stored, a table of its outcomes, and how often each arm is taken in what is written.
 #[derive(Default)]
 struct Sample {
@@ -239,16 +249,15 @@ impl Sample {
 
     fn of_simplifying(&mut self) {
         let mut random = Random::new(SIMPLIFY_SEED);
-        let mut wanted: BTreeMap<String, usize> = SIMPLIFY_WANTED.iter().map(|(n, k)| (n.to_string(), *k)).collect();
+        let mut wanted: BTreeMap<&str, usize> = SIMPLIFY_WANTED.into_iter().collect();
         while wanted.values().any(|n| *n > 0) {
             let Some((q, expected, hits)) = simplify(&mut random) else { continue };
             add_hits(&mut self.met, &hits);
-            let has_to_be_long = [LONG_LIST, BIG, DEEP].contains(&expected.number);
-            if length(&q, &expected) > SHORT && !has_to_be_long || expected.number == 0 && !self.wants(&hits) {
+            let Some(name) = simplify_outcome(&q, &expected) else { continue };
+            if name == "simplify 0" && !self.wants(&hits) {
                 continue;
             }
-            let name = format!("simplify {}", expected.number);
-            let Some(left) = wanted.get_mut(&name).filter(|n| **n > 0) else { continue };
+            let Some(left) = wanted.get_mut(name.as_str()).filter(|n| **n > 0) else { continue };
             *left -= 1;
             if expected.number == 0 {
                 add_hits(&mut self.hits, &hits);
