@@ -141,7 +141,7 @@ sheet-fresh root store (Lines.read rows) f = f
 sheet-fresh root store (Lines.refused why) f = tt
 
 pub job-fresh : (room : ℕ) (list values : List ℕ) → FreshJob (job room list values)
-unfolding job
+unfolding job FreshListing afterListing withSheet FreshJob
 job-fresh room list values = go (listing false list (fresh room 0)) (listing-fresh false list room)
   where
     go : (l : Listing) → FreshListing l → FreshJob (afterListing Calls.refused l λ root swaps store. withSheet root store (sheet values))
