@@ -107,10 +107,8 @@ module _ {m : Memory} {n : ℕ} where
   double x a b =
       record { inside = (x .inside, a .inside, b .inside); wants = λ i. S (combined InfixOperator.Plus (S (combined InfixOperator.Star (constant twoNumber) (the (x .tree i)))) (S (new (sum (a .tree i) (b .tree i))))) }
 
-  pub affine-of : {a a′ x b b′ : ℕ} {t t′ u v v′ : Tree} → At m n a t → At m n a′ t′ → At m n x u → At m n b v → At m n b′ v′
-      → Chosen m n (Arm.Affine a a′ x b b′) (affine t t′ u v v′)
-  affine-of a a′ x b b′ =
-      record { inside = (a .inside, a′ .inside, x .inside, b .inside, b′ .inside); wants = λ i. affine (a .tree i) (a′ .tree i) (x .tree i) (b .tree i) (b′ .tree i) }
+  pub affine-of : {d e : Expression} {x : ℕ} {s t u : Tree} → Makes m n d s → At m n x t → Makes m n e u → Chosen m n (Arm.Affine d x e) (affine s t u)
+  affine-of d x e = record { inside = (d .within, x .inside, e .within); wants = λ i. affine (d .tree i) (x .tree i) (e .tree i) }
 
   -- ---- the smaller of two nodes
 

@@ -22,7 +22,7 @@ pub data Plan : Type 0 where
   combined : InfixOperator → Plan → Plan → Plan  -- b op c
   S : Plan → Plan  -- simplified again
   lesser : Plan → Plan → Plan  -- min
-  affine : (a a′ x b b′ : Tree) → Plan  -- S(S(S(a+a')*x)+S(b+b')), sums first
+  affine : (a x b : Tree) → Plan  -- S(S(S(a)*x)+S(b)), for new trees a and b; S(a) and S(b) first
 
 -- an arm, or else the arms after it
 unfoldable pub pick : Bool → (arm rest : Plan) → Plan
@@ -110,16 +110,17 @@ unsigned op l r = S (new (infixed op (under l) (under r)))
 
 -- ---- addition
 
--- 27. (p*q+b)+(p'*q'+b') with a shared factor, "tried as p=p', p=q', q=p', q=q'", "taken as p, p, q, q' in the four cases"
-unfoldable pub sharing : (p q p′ q′ b b′ : Tree) → Plan
-sharing p q p′ q′ b b′ =
-    pick (equal p p′) (affine q q′ p b b′)
-    (pick (equal p q′) (affine q p′ p b b′)
-    (pick (equal q p′) (affine p q′ q b b′)
-    (affine p p′ q′ b b′)))
+-- 27. (p*q+b)+(p'*q'+b') with a shared factor, "tried as p=p', p=q', q=p', q=q'", "taken as p, p, q, q' in the four cases":
+-- S(S(S(a+a')*x)+S(b+b')), "sums first"
+unfoldable pub sharing : (p q p′ q′ bs : Tree) → Plan
+sharing p q p′ q′ bs =
+    pick (equal p p′) (affine (sum q q′) p bs)
+    (pick (equal p q′) (affine (sum q p′) p bs)
+    (pick (equal q p′) (affine (sum p q′) q bs)
+    (affine (sum p p′) q′ bs)))
 
 abbrev pub shared : Tree → Tree → Plan
-shared l r = sharing (left (left l)) (right (left l)) (left (left r)) (right (left r)) (right l) (right r)
+shared l r = sharing (left (left l)) (right (left l)) (left (left r)) (right (left r)) (sum (right l) (right r))
 
 -- the tests of arms 27, 28 and 29
 abbrev pub affineTest : Tree → Tree → Bool

@@ -52,7 +52,7 @@ planOf m (Arm.Regroup inner outer) = regroupPlan m inner outer
 planOf m (Arm.Smaller first inner outer) = lesser (new (treeOf m first)) (regroupPlan m inner outer)
 planOf m (Arm.Distribute first a b) = lesser (new (treeOf m first)) (addedPlan m a b)
 planOf m (Arm.Double x a b) = S (combined InfixOperator.Plus (S (combined InfixOperator.Star (constant twoNumber) (the (treeAt m x)))) (S (new (sum (treeAt m a) (treeAt m b)))))
-planOf m (Arm.Affine a a′ x b b′) = affine (treeAt m a) (treeAt m a′) (treeAt m x) (treeAt m b) (treeAt m b′)
+planOf m (Arm.Affine a x b) = affine (treeOf m a) (treeAt m x) (treeOf m b)
 
 -- the nodes of an arm are among the first n
 abbrev pub OuterIn : ℕ → Outer → Type 0
@@ -71,7 +71,7 @@ ArmIn n (Arm.Regroup inner outer) = Within n inner × OuterIn n outer
 ArmIn n (Arm.Smaller first inner outer) = Within n first × Within n inner × OuterIn n outer
 ArmIn n (Arm.Distribute first a b) = Within n first × Within n a × Within n b
 ArmIn n (Arm.Double x a b) = (x < n) × (a < n) × (b < n)
-ArmIn n (Arm.Affine a a′ x b b′) = (a < n) × (a′ < n) × (x < n) × (b < n) × (b′ < n)
+ArmIn n (Arm.Affine a x b) = Within n a × (x < n) × Within n b
 
 -- the arm is this plan, over n nodes
 pub record Chosen (m : Memory) (n : ℕ) (r : Arm) (plan : Plan) : Type 0 where

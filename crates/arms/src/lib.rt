@@ -63,8 +63,8 @@ pub enum Arm {
     Distribute(Expression, Expression, Expression),
     // S(S(2*x)+S(a+b)), from x, a and b
     Double(usize, usize, usize),
-    // S(S(S(a+a')*x)+S(b+b')), sums first, from a, a', x, b and b'
-    Affine(usize, usize, usize, usize, usize),
+    // S(S(S(a)*x)+S(b)), for new nodes a and b; S(a) and S(b) first
+    Affine(Expression, usize, Expression),
 }
 
 impl Outer {

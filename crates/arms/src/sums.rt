@@ -100,16 +100,17 @@ fn choose_shared(
     let q = right_in(ax);
     let s = left_in(ay);
     let t = right_in(ay);
+    let sum_bs = Expression::Infix(InfixOperator::Plus, right_in(left), right_in(right));
     if equal_at(link, p, s) {
-        return Arm::Affine(q, t, p, right_in(left), right_in(right));
+        return Arm::Affine(Expression::Infix(InfixOperator::Plus, q, t), p, sum_bs);
     }
     if equal_at(link, p, t) {
-        return Arm::Affine(q, s, p, right_in(left), right_in(right));
+        return Arm::Affine(Expression::Infix(InfixOperator::Plus, q, s), p, sum_bs);
     }
     if equal_at(link, q, s) {
-        return Arm::Affine(p, t, q, right_in(left), right_in(right));
+        return Arm::Affine(Expression::Infix(InfixOperator::Plus, p, t), q, sum_bs);
     }
-    Arm::Affine(p, s, t, right_in(left), right_in(right))
+    Arm::Affine(Expression::Infix(InfixOperator::Plus, p, s), t, sum_bs)
 }
 
 // Arms 27 to 30, 32 and 41.

@@ -241,41 +241,41 @@ module _ (R : Rows) (σ : Simplifier) where
         (then-node (λ t s. carryOut R σ (S (combined InfixOperator.Plus (S (new (product t (treeAt m x)))) (S (new (sum (treeAt m a) (treeAt m b)))))) s) y e λ p.
         named (λ v. carryOut R σ (S (combined InfixOperator.Plus (S (new (product (treeAt m₁ i) (p .stays x l v)))) (S (new (sum (p .stays a la v) (p .stays b lb v)))))) (stateOf m₁ k c)) (f p))
 
-  -- S(S(S(a+a')*x)+S(b+b'))
-  module _ (m : Memory) (a a′ x b b′ : ℕ) (s : State) where
+  -- S(S(S(a)*x)+S(b))
+  module _ (m : Memory) (a : Expression) (x : ℕ) (b : Expression) (s : State) where
     last : Tree → Simplifier
     last u v s = andThen (again σ (product u (treeAt m x)) s) λ w s. again σ (sum w v) s
 
     second : Simplifier
-    second u s = andThen (again σ (sum (treeAt m b) (treeAt m b′)) s) (last u)
+    second u s = andThen (again σ (treeOf m b) s) (last u)
 
     last-is : (u v : Tree) (s : State) → carryOut R σ (S (combined InfixOperator.Plus (S (new (product u (treeAt m x)))) (the v))) s ≡ last u v s
     unfolding last again carryOut andThen
     last-is u v s = assoc (andThen (intern (product u (treeAt m x)) s) σ) (λ w s. intern (sum w v) s) σ
 
-    pub affine-refused : {n : ℕ} {o : Added} {why : Refusal} {m₁ : Memory} → Built (carryOut R σ (S (new (sum (treeAt m a) (treeAt m a′)))) s) o n m m₁ → o ≡ Added.Refused why
-        → Built (carryOut R σ (affine (treeAt m a) (treeAt m a′) (treeAt m x) (treeAt m b) (treeAt m b′)) s) o n m m₁
+    pub affine-refused : {n : ℕ} {o : Added} {why : Refusal} {m₁ : Memory} → Built (carryOut R σ (S (new (treeOf m a))) s) o n m m₁ → o ≡ Added.Refused why
+        → Built (carryOut R σ (affine (treeOf m a) (treeAt m x) (treeOf m b)) s) o n m m₁
     unfolding carryOut again second last
     affine-refused y e = then-refused second y e
 
-    pub affine-second : {n : ℕ} {o q : Added} {why : Refusal} {i k c : ℕ} {m₁ m₂ : Memory} → b < n → b′ < n
-        → Built (carryOut R σ (S (new (sum (treeAt m a) (treeAt m a′)))) s) o n m m₁ → o ≡ Added.Node i k c
-        → (Step n m i k m₁ → Built (carryOut R σ (S (new (sum (treeAt m₁ b) (treeAt m₁ b′)))) (stateOf m₁ k c)) q k m₁ m₂) → q ≡ Added.Refused why
-        → Built (carryOut R σ (affine (treeAt m a) (treeAt m a′) (treeAt m x) (treeAt m b) (treeAt m b′)) s) q n m m₂
+    pub affine-second : {n : ℕ} {o q : Added} {why : Refusal} {i k c : ℕ} {m₁ m₂ : Memory} → Within n b
+        → Built (carryOut R σ (S (new (treeOf m a))) s) o n m m₁ → o ≡ Added.Node i k c
+        → (Step n m i k m₁ → Built (carryOut R σ (S (new (treeOf m₁ b))) (stateOf m₁ k c)) q k m₁ m₂) → q ≡ Added.Refused why
+        → Built (carryOut R σ (affine (treeOf m a) (treeAt m x) (treeOf m b)) s) q n m m₂
     unfolding carryOut again second last
-    affine-second {i = i} {k} {c} {m₁} lb lb′ y e f g =
+    affine-second {i = i} {k} {c} {m₁} w y e f g =
         then-node second y e λ p.
-        then-refused (last (treeAt m₁ i)) (named (λ v. andThen (intern (sum (p .stays b lb v) (p .stays b′ lb′ v)) (stateOf m₁ k c)) σ) (f p)) g
+        then-refused (last (treeAt m₁ i)) (named (ap (λ t. andThen (intern t (stateOf m₁ k c)) σ) (node-stays p b w)) (f p)) g
 
-    pub affine-node : {n : ℕ} {o q r : Added} {i j k l c d : ℕ} {m₁ m₂ m₃ : Memory} → x < n → b < n → b′ < n
-        → Built (carryOut R σ (S (new (sum (treeAt m a) (treeAt m a′)))) s) o n m m₁ → o ≡ Added.Node i k c
-        → (Step n m i k m₁ → Built (carryOut R σ (S (new (sum (treeAt m₁ b) (treeAt m₁ b′)))) (stateOf m₁ k c)) q k m₁ m₂) → q ≡ Added.Node j l d
+    pub affine-node : {n : ℕ} {o q r : Added} {i j k l c d : ℕ} {m₁ m₂ m₃ : Memory} → x < n → Within n b
+        → Built (carryOut R σ (S (new (treeOf m a))) s) o n m m₁ → o ≡ Added.Node i k c
+        → (Step n m i k m₁ → Built (carryOut R σ (S (new (treeOf m₁ b))) (stateOf m₁ k c)) q k m₁ m₂) → q ≡ Added.Node j l d
         → (Holds m₂ l → i < l → x < l → j < l
-        → Built (carryOut R σ (regroupPlan m₂ (Expression.Infix InfixOperator.Star i x) (Outer.Before InfixOperator.Plus j)) (stateOf m₂ l d)) r l m₂ m₃)
-        → Built (carryOut R σ (affine (treeAt m a) (treeAt m a′) (treeAt m x) (treeAt m b) (treeAt m b′)) s) r n m m₃
+            → Built (carryOut R σ (regroupPlan m₂ (Expression.Infix InfixOperator.Star i x) (Outer.Before InfixOperator.Plus j)) (stateOf m₂ l d)) r l m₂ m₃)
+        → Built (carryOut R σ (affine (treeOf m a) (treeAt m x) (treeOf m b)) s) r n m m₃
     unfolding carryOut again second last grown
-    affine-node {i = i} {j} {k} {l} {c} {d} {m₁} {m₂} lx lb lb′ y e f g h =
+    affine-node {i = i} {j} {k} {l} {c} {d} {m₁} {m₂} lx w y e f g h =
         then-node second y e λ p.
-        then-node (last (treeAt m₁ i)) (named (λ v. andThen (intern (sum (p .stays b lb v) (p .stays b′ lb′ v)) (stateOf m₁ k c)) σ) (f p)) g λ q.
+        then-node (last (treeAt m₁ i)) (named (ap (λ t. andThen (intern t (stateOf m₁ k c)) σ) (node-stays p b w)) (f p)) g λ q.
         named ((λ v. carryOut R σ (S (combined InfixOperator.Plus (S (new (product (q .stays i (p .inside) v) ((q .stays x (older p lx) ∙ p .stays x lx) v)))) (the (treeAt m₂ j)))) (stateOf m₂ l d)) ∙ last-is (treeAt m₁ i) (treeAt m₂ j) (stateOf m₂ l d))
         (h (q .holds) (older q (p .inside)) (older q (older p lx)) (q .inside))

@@ -99,9 +99,9 @@ carries R σ n f (lesser p q) s =
     then-below _ _ (carryOut R σ p s) (λ t s. andThen (carryOut R σ q s) λ u s. gives (smaller t u) s) (carries R σ n f p s) λ t s′ l.
     then-below _ _ (carryOut R σ q s′) (λ u s. gives (smaller t u) s) (carries R σ n f q s′) λ u s″ k.
     sum-le (count s) (weight p) (weight q) n l k
-carries R σ n f (affine a a′ x b b′) s =
-    then-below _ _ (again σ (sum a a′) s) (λ u s. andThen (again σ (sum b b′) s) λ v s. andThen (again σ (product u x) s) λ w s. again σ (sum w v) s) (again-makes σ n f (sum a a′) s) λ u s₁ i.
-    then-below _ _ (again σ (sum b b′) s₁) (λ v s. andThen (again σ (product u x) s) λ w s. again σ (sum w v) s) (again-makes σ n f (sum b b′) s₁) λ v s₂ j.
+carries R σ n f (affine a x b) s =
+    then-below _ _ (again σ a s) (λ u s. andThen (again σ b s) λ v s. andThen (again σ (product u x) s) λ w s. again σ (sum w v) s) (again-makes σ n f a s) λ u s₁ i.
+    then-below _ _ (again σ b s₁) (λ v s. andThen (again σ (product u x) s) λ w s. again σ (sum w v) s) (again-makes σ n f b s₁) λ v s₂ j.
     then-below _ _ (again σ (product u x) s₂) (λ w s. again σ (sum w v) s) (again-makes σ n f (product u x) s₂) λ w s₃ k.
     more (again σ (sum w v) s₃) (omega (arith, i, j, k)) (again-makes σ n f (sum w v) s₃)
 

@@ -3,6 +3,7 @@ use mathlib.Core.Path.{_≡_, refl, sym, ap, _∙_, subst}
 use mathlib.Core.Bool.{Bool, true, false, cond}
 use mathlib.Core.List.{List}
 use Prim.Native.Nat.{ℕ, zero, suc, _-_, _<_}
+use lib.Dec.{T}
 use native.Mathlib.Omega.{arith}
 use Rattle.complex.specs.declared.Complex.{Complex}
 use Rattle.expression.specs.declared.InfixOperator.{InfixOperator}
@@ -25,7 +26,7 @@ use Rattle.arms.specs.declared.Arm.{Arm}
 use Rattle.arms.specs.Arms.{Plan, infixPlan}
 use Rattle.arms.specs.Choosing.{Sits, Chosen, ArmIn, planOf}
 use Rattle.simplification.specs.Simplifying.{Simplifier, oneMore, counted, foldedTo, keeping, Task, number-of-pi, itself, calling, prefixing, infixing, leafTask, taskAt, carryOut, perform, resume, step, simplify}
-use Rattle.simplification.specs.Run.{KeepsAnswer}
+use Rattle.simplification.specs.Run.{isPi, KeepsAnswer}
 
 -- ---- a limit
 
@@ -85,11 +86,36 @@ unfolding taskAt
 leaf-task zero l = refl
 leaf-task (suc k) l = refl
 
-module _ (m : Memory) (limit : ℕ) {e : Expression} where
-  pub pi-task : e ≡ Expression.PiConstant → taskAt limit (treeOf m e) ≡ number-of-pi
-  unfolding grown leafTask
-  pi-task q = ap (λ e. taskAt limit (treeOf m e)) q ∙ leaf-task limit pi
+never : {A : Type 0} → false ≡ true → A
+never e = absurd (subst T (sym e) tt)
 
+-- pi, at any limit
+pub pi-task : (m : Memory) (limit : ℕ) (e : Expression) → isPi e ≡ true → taskAt limit (treeOf m e) ≡ number-of-pi
+unfolding grown leafTask isPi
+pi-task m limit Expression.PiConstant q = leaf-task limit pi
+pi-task m limit (Expression.Number z) q = never q
+pi-task m limit (Expression.Variable v) q = never q
+pi-task m limit (Expression.Address region index) q = never q
+pi-task m limit (Expression.FunctionCall f a) q = never q
+pi-task m limit (Expression.Prefix o a) q = never q
+pi-task m limit (Expression.Infix o a b) q = never q
+
+-- all else at limit 0
+pub spent-task : (m : Memory) {limit : ℕ} (e : Expression) → isPi e ≡ false → limit ≡ 0 → taskAt limit (treeOf m e) ≡ itself
+unfolding grown leafTask taskAt isPi
+spent-task m Expression.PiConstant q z = never (sym q)
+spent-task m (Expression.Number w) q z = ap (λ k. taskAt k (leaf (number w))) z
+spent-task m (Expression.Variable v) q z = ap (λ k. taskAt k (leaf (variable v))) z
+spent-task m (Expression.Address region index) q z = ap (λ k. taskAt k (leaf (cell region index))) z
+spent-task m (Expression.FunctionCall f a) q z = ap (λ k. taskAt k (functionCall f (treeAt m a))) z
+spent-task m (Expression.Prefix o a) q z = ap (λ k. taskAt k (prefixed o (treeAt m a))) z
+spent-task m (Expression.Infix o a b) q z = ap (λ k. taskAt k (infixed o (treeAt m a) (treeAt m b))) z
+
+pub not-pi : {A : Type 0} {e : Expression} → e ≡ Expression.PiConstant → isPi e ≡ false → A
+unfolding isPi
+not-pi p q = never (sym q ∙ ap isPi p)
+
+module _ (m : Memory) (limit : ℕ) {e : Expression} where
   pub number-task : {z : Complex} → e ≡ Expression.Number z → taskAt limit (treeOf m e) ≡ itself
   unfolding grown leafTask
   number-task {z} q = ap (λ e. taskAt limit (treeOf m e)) q ∙ leaf-task limit (number z)
@@ -102,12 +128,8 @@ module _ (m : Memory) (limit : ℕ) {e : Expression} where
   unfolding grown leafTask
   cell-task {region} {index} q = ap (λ e. taskAt limit (treeOf m e)) q ∙ leaf-task limit (cell region index)
 
-  -- an operation, at limit 0 and above it
+  -- an operation, above limit 0
   module _ {f : ExpressionFunction} {a : ℕ} (q : e ≡ Expression.FunctionCall f a) where
-    pub call-spent : limit ≡ 0 → taskAt limit (treeOf m e) ≡ itself
-    unfolding grown taskAt
-    call-spent z = (λ i. taskAt (z i) (treeOf m (q i)))
-
     pub call-task : (limit ≡ 0 → ⊥) → taskAt limit (treeOf m e) ≡ calling f (treeAt m a)
     unfolding grown taskAt
     call-task z = ap (λ e. taskAt limit (treeOf m e)) q ∙ go limit z
@@ -117,10 +139,6 @@ module _ (m : Memory) (limit : ℕ) {e : Expression} where
         go (suc k) z = refl
 
   module _ {o : PrefixOperator} {a : ℕ} (q : e ≡ Expression.Prefix o a) where
-    pub prefix-spent : limit ≡ 0 → taskAt limit (treeOf m e) ≡ itself
-    unfolding grown taskAt
-    prefix-spent z = (λ i. taskAt (z i) (treeOf m (q i)))
-
     pub prefix-task : (limit ≡ 0 → ⊥) → taskAt limit (treeOf m e) ≡ prefixing o (treeAt m a)
     unfolding grown taskAt
     prefix-task z = ap (λ e. taskAt limit (treeOf m e)) q ∙ go limit z
@@ -130,10 +148,6 @@ module _ (m : Memory) (limit : ℕ) {e : Expression} where
         go (suc k) z = refl
 
   module _ {o : InfixOperator} {a b : ℕ} (q : e ≡ Expression.Infix o a b) where
-    pub infix-spent : limit ≡ 0 → taskAt limit (treeOf m e) ≡ itself
-    unfolding grown taskAt
-    infix-spent z = (λ i. taskAt (z i) (treeOf m (q i)))
-
     pub infix-task : (limit ≡ 0 → ⊥) → taskAt limit (treeOf m e) ≡ infixing o (treeAt m a) (treeAt m b)
     unfolding grown taskAt
     infix-task z = ap (λ e. taskAt limit (treeOf m e)) q ∙ go limit z

@@ -142,10 +142,10 @@ module _ (R : Rows) (σ : Simplifier) (f : (t : Tree) (s : State) → Piless t �
       one-of : (b : Bool) (u t : Tree) → Piless u → Piless t → Piless (cond b u t)
       one-of true u t z y = z
       one-of false u t z y = y
-  carries (affine a a′ w b b′) s x c =
-      then-good (again σ (sum a a′) s) (λ u s. andThen (again σ (sum b b′) s) λ v s. andThen (again σ (product u w) s) λ z s. again σ (sum z v) s) (again-good (sum a a′) s (x .0, x .1) c) λ u s₁ y d.
-      then-good (again σ (sum b b′) s₁) (λ v s. andThen (again σ (product u w) s) λ z s. again σ (sum z v) s) (again-good (sum b b′) s₁ (x .3, x .4) d) λ v s₂ y′ d′.
-      then-good (again σ (product u w) s₂) (λ z s. again σ (sum z v) s) (again-good (product u w) s₂ (y, x .2) d′) λ z s₃ y″ d″.
+  carries (affine a w b) s x c =
+      then-good (again σ a s) (λ u s. andThen (again σ b s) λ v s. andThen (again σ (product u w) s) λ z s. again σ (sum z v) s) (again-good a s (x .0) c) λ u s₁ y d.
+      then-good (again σ b s₁) (λ v s. andThen (again σ (product u w) s) λ z s. again σ (sum z v) s) (again-good b s₁ (x .2) d) λ v s₂ y′ d′.
+      then-good (again σ (product u w) s₂) (λ z s. again σ (sum z v) s) (again-good (product u w) s₂ (y, x .1) d′) λ z s₃ y″ d″.
       again-good (sum z v) s₃ (y″, y′) d″
 
 -- ---- one call of simplify

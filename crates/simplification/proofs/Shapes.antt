@@ -20,7 +20,7 @@ weight (negation p) = weight p
 weight (combined op p q) = weight p + weight q
 weight (S p) = weight p + 1
 weight (lesser p q) = weight p + weight q
-weight (affine a a′ x b b′) = 4
+weight (affine a x b) = 4
 
 -- the trees of a plan are such as P says
 unfoldable pub Over : (Tree → Type 0) → Plan → Type 0
@@ -32,7 +32,7 @@ Over P (negation p) = Over P p
 Over P (combined op p q) = Over P p × Over P q
 Over P (S p) = Over P p
 Over P (lesser p q) = Over P p × Over P q
-Over P (affine a a′ x b b′) = P a × P a′ × P x × P b × P b′
+Over P (affine a x b) = P a × P x × P b
 
 -- what is so of trees is so of their parts and of what is made of them
 pub record Closed (P : Tree → Type 0) : Type 0 where
@@ -66,13 +66,13 @@ module _ (P : Tree → Type 0) (c : Closed P) where
   unfolding moved weight Over
   fine-moved op l r x y = picked _ _ _ (record { light = omega arith; over = (c .infix-of InfixOperator.Star (x) (y), (c .minus-of x, c .under-of r y)) }) (record { light = omega arith; over = (c .infix-of InfixOperator.Star (x) (y), (c .under-of l x, c .minus-of y)) })
 
-  fine-sharing : (p q p′ q′ b b′ : Tree) → P p → P q → P p′ → P q′ → P b → P b′ → Fine P (sharing p q p′ q′ b b′)
+  fine-sharing : (p q p′ q′ bs : Tree) → P p → P q → P p′ → P q′ → P bs → Fine P (sharing p q p′ q′ bs)
   unfolding sharing weight Over
-  fine-sharing p q p′ q′ b b′ x y x′ y′ z z′ = picked _ _ _ (record { light = omega arith; over = (y, y′, x, z, z′) }) (picked _ _ _ (record { light = omega arith; over = (y, x′, x, z, z′) }) (picked _ _ _ (record { light = omega arith; over = (x, y′, y, z, z′) }) (record { light = omega arith; over = (x, x′, y′, z, z′) })))
+  fine-sharing p q p′ q′ bs x y x′ y′ z = picked _ _ _ (record { light = omega arith; over = (c .infix-of InfixOperator.Plus y y′, x, z) }) (picked _ _ _ (record { light = omega arith; over = (c .infix-of InfixOperator.Plus y x′, x, z) }) (picked _ _ _ (record { light = omega arith; over = (c .infix-of InfixOperator.Plus x y′, y, z) }) (record { light = omega arith; over = (c .infix-of InfixOperator.Plus x x′, y′, z) })))
 
   fine-affine : (l r : Tree) → P l → P r → Fine P (affineSum l r)
   unfolding affineSum weight Over
-  fine-affine l r x y = picked _ _ _ (fine-sharing _ _ _ _ _ _ (c .left-of (left l) (c .left-of l x)) (c .right-of (left l) (c .left-of l x)) (c .left-of (left r) (c .left-of r y)) (c .right-of (left r) (c .left-of r y)) (c .right-of l x) (c .right-of r y)) (picked _ _ _ (record { light = omega arith; over = (c .infix-of InfixOperator.Plus (c .left-of l x) (c .left-of r y), c .right-of l x) }) (picked _ _ _ (record { light = omega arith; over = ((c .numeral _, c .left-of l x), c .infix-of InfixOperator.Plus (c .right-of l x) (c .right-of r y)) }) (picked _ _ _ (fine-grouped InfixOperator.Plus l r x y) (record { light = omega arith; over = c .infix-of InfixOperator.Plus (x) (y) }))))
+  fine-affine l r x y = picked _ _ _ (fine-sharing _ _ _ _ _ (c .left-of (left l) (c .left-of l x)) (c .right-of (left l) (c .left-of l x)) (c .left-of (left r) (c .left-of r y)) (c .right-of (left r) (c .left-of r y)) (c .infix-of InfixOperator.Plus (c .right-of l x) (c .right-of r y))) (picked _ _ _ (record { light = omega arith; over = (c .infix-of InfixOperator.Plus (c .left-of l x) (c .left-of r y), c .right-of l x) }) (picked _ _ _ (record { light = omega arith; over = ((c .numeral _, c .left-of l x), c .infix-of InfixOperator.Plus (c .right-of l x) (c .right-of r y)) }) (picked _ _ _ (fine-grouped InfixOperator.Plus l r x y) (record { light = omega arith; over = c .infix-of InfixOperator.Plus (x) (y) }))))
 
   fine-sum : (l r : Tree) → P l → P r → Fine P (sumPlan l r)
   unfolding sumPlan weight Over

@@ -1,6 +1,7 @@
 -- What the functions on nodes ensure where the slices hold a store and the table a sheet. Only connecting.
 use mathlib.Core.Path.{_≡_}
 use Prim.Native.Nat.{ℕ, _-_, _<_}
+use mathlib.Core.Bool.{Bool, true, false}
 use mathlib.Core.List.{List}
 use Rattle.expression.specs.declared.InfixOperator.{InfixOperator}
 use Rattle.expression.specs.declared.PrefixOperator.{PrefixOperator}
@@ -18,6 +19,15 @@ use Rattle.evaluation.specs.declared.Evaluation.{Evaluation}
 use Rattle.arms.specs.declared.Arm.{Arm}
 use Rattle.arms.specs.Choosing.{Sits, ArmIn, planOf, addedPlan}
 use Rattle.simplification.specs.Simplifying.{carryOut, foldedTo, simplifyFunctionCall, simplifyPrefix, simplifyInfix, perform, taskAt, simplify}
+
+unfoldable pub isPi : Expression → Bool
+isPi (Expression.Number z) = false
+isPi Expression.PiConstant = true
+isPi (Expression.Variable v) = false
+isPi (Expression.Address region index) = false
+isPi (Expression.FunctionCall f a) = false
+isPi (Expression.Prefix o a) = false
+isPi (Expression.Infix o a b) = false
 
 -- a step that builds: where the slices hold a store and what it is about is among its nodes, it answers `want`
 abbrev pub Does : (In : ℕ → Type 0) (want : Memory → State → Answer) (n calls : ℕ) (r : Added) (m m′ : Memory) → Type 0

@@ -75,9 +75,9 @@ module _ (rows : Rows) where
   carryOut simplified (combined op p q) s = andThen (carryOut simplified p s) λ t s. andThen (carryOut simplified q s) λ u s. intern (infixed op t u) s
   carryOut simplified (S p) s = andThen (carryOut simplified p s) simplified
   carryOut simplified (lesser p q) s = andThen (carryOut simplified p s) λ t s. andThen (carryOut simplified q s) λ u s. gives (smaller t u) s
-  carryOut simplified (affine a a′ x b b′) s =
-      andThen (again simplified (sum a a′) s) λ sum-as s.
-      andThen (again simplified (sum b b′) s) λ sum-bs s.
+  carryOut simplified (affine a x b) s =
+      andThen (again simplified a s) λ sum-as s.
+      andThen (again simplified b s) λ sum-bs s.
       andThen (again simplified (product sum-as x) s) λ mul-as-x s.
       again simplified (sum mul-as-x sum-bs) s
 

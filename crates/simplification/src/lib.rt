@@ -4,7 +4,7 @@ ghost use mathlib.Core.Path.{_≡_};
 ghost use Rattle.store.specs.Memory.{memory};
 ghost use Rattle.arms.specs.declared.Arm.{Arm as Arms};
 ghost use Rattle.simplification.specs.Simplifying.{oneMore};
-ghost use Rattle.simplification.specs.Run.{Stores, Carries, Adds, CallsFunction, Prefixes, Infixes, Performs, KeepsAnswer, Simplifies};
+ghost use Rattle.simplification.specs.Run.{isPi, Stores, Carries, Adds, CallsFunction, Prefixes, Infixes, Performs, KeepsAnswer, Simplifies};
 use arms::Arm;
 use arms::Outer;
 use arms::choose_function;
@@ -44,6 +44,20 @@ fn one_more(calls: u64) -> u64
     }
 }
 
+fn is_pi(e: Expression) -> bool
+    ensures { λ r. ⌜ r ≡ isPi e ⌝ }
+{
+    match e {
+        Expression::PiConstant => true,
+        Expression::Address(_, _) => false,
+        Expression::FunctionCall(_, _) => false,
+        Expression::Infix(_, _, _) => false,
+        Expression::Number(_) => false,
+        Expression::Prefix(_, _) => false,
+        Expression::Variable(_) => false,
+    }
+}
+
 // A folded number is stored; NEED comes before.
 fn store_value(
     tag: &mut [u64],
@@ -79,7 +93,7 @@ fn keep_answer(link: &mut [u64], node: usize, answer: Added)
 
 // S(e), for a new node e.
 fn again(
-    limit: Limit,
+    at: Limit,
     tag: &mut [u64],
     first: &mut [u64],
     second: &mut [u64],
@@ -90,7 +104,7 @@ fn again(
     n: usize,
     calls: u64,
 ) -> Added
-    ensures { λ o. ⌜ Carries (limit .0) (now (table .entry)) rows (Arms.Again e) n calls o (memory (now (tag .entry)) (now (first .entry)) (now (second .entry)) (now (link .entry))) (memory (now (tag .exit)) (now (first .exit)) (now (second .exit)) (now (link .exit))) ⌝ }
+    ensures { λ o. ⌜ Carries (at .0) (now (table .entry)) rows (Arms.Again e) n calls o (memory (now (tag .entry)) (now (first .entry)) (now (second .entry)) (now (link .entry))) (memory (now (tag .exit)) (now (first .exit)) (now (second .exit)) (now (link .exit))) ⌝ }
 {
     let added = add(tag, first, second, link, n, e, calls);
     let Added::Node {
@@ -101,12 +115,12 @@ fn again(
     else {
         return added;
     };
-    simplify(limit, tag, first, second, link, table, rows, i, k, c)
+    simplify(at, tag, first, second, link, table, rows, i, k, c)
 }
 
 // S(1/other)
 fn inverse(
-    limit: Limit,
+    at: Limit,
     tag: &mut [u64],
     first: &mut [u64],
     second: &mut [u64],
@@ -117,7 +131,7 @@ fn inverse(
     n: usize,
     calls: u64,
 ) -> Added
-    ensures { λ o. ⌜ Carries (limit .0) (now (table .entry)) rows (Arms.Inverse other) n calls o (memory (now (tag .entry)) (now (first .entry)) (now (second .entry)) (now (link .entry))) (memory (now (tag .exit)) (now (first .exit)) (now (second .exit)) (now (link .exit))) ⌝ }
+    ensures { λ o. ⌜ Carries (at .0) (now (table .entry)) rows (Arms.Inverse other) n calls o (memory (now (tag .entry)) (now (first .entry)) (now (second .entry)) (now (link .entry))) (memory (now (tag .exit)) (now (first .exit)) (now (second .exit)) (now (link .exit))) ⌝ }
 {
     let added = add(
         tag,
@@ -136,23 +150,13 @@ fn inverse(
     else {
         return added;
     };
-    again(
-        limit,
-        tag,
-        first,
-        second,
-        link,
-        table,
-        rows,
-        Expression::Infix(InfixOperator::Slash, i, other),
-        k,
-        c,
-    )
+    let quotient = Expression::Infix(InfixOperator::Slash, i, other);
+    again(at, tag, first, second, link, table, rows, quotient, k, c)
 }
 
 // S of what is made around S(inner).
 fn regroup(
-    limit: Limit,
+    at: Limit,
     tag: &mut [u64],
     first: &mut [u64],
     second: &mut [u64],
@@ -164,20 +168,9 @@ fn regroup(
     n: usize,
     calls: u64,
 ) -> Added
-    ensures { λ o. ⌜ Carries (limit .0) (now (table .entry)) rows (Arms.Regroup inner outer) n calls o (memory (now (tag .entry)) (now (first .entry)) (now (second .entry)) (now (link .entry))) (memory (now (tag .exit)) (now (first .exit)) (now (second .exit)) (now (link .exit))) ⌝ }
+    ensures { λ o. ⌜ Carries (at .0) (now (table .entry)) rows (Arms.Regroup inner outer) n calls o (memory (now (tag .entry)) (now (first .entry)) (now (second .entry)) (now (link .entry))) (memory (now (tag .exit)) (now (first .exit)) (now (second .exit)) (now (link .exit))) ⌝ }
 {
-    let it = again(
-        limit,
-        tag,
-        first,
-        second,
-        link,
-        table,
-        rows,
-        inner,
-        n,
-        calls,
-    );
+    let it = again(at, tag, first, second, link, table, rows, inner, n, calls);
     let Added::Node {
         at: i,
         nodes: k,
@@ -187,7 +180,7 @@ fn regroup(
         return it;
     };
     again(
-        limit,
+        at,
         tag,
         first,
         second,
@@ -200,9 +193,9 @@ fn regroup(
     )
 }
 
-// min(original, the same): the first choice is stored first.
+// min(original, S of what is made around S(e)): the first choice is stored first.
 fn smaller_regrouped(
-    limit: Limit,
+    at: Limit,
     tag: &mut [u64],
     first: &mut [u64],
     second: &mut [u64],
@@ -210,12 +203,12 @@ fn smaller_regrouped(
     table: &[u64],
     rows: Rows,
     original: Expression,
-    inner: Expression,
+    e: Expression,
     outer: Outer,
     n: usize,
     calls: u64,
 ) -> Added
-    ensures { λ o. ⌜ Carries (limit .0) (now (table .entry)) rows (Arms.Smaller original inner outer) n calls o (memory (now (tag .entry)) (now (first .entry)) (now (second .entry)) (now (link .entry))) (memory (now (tag .exit)) (now (first .exit)) (now (second .exit)) (now (link .exit))) ⌝ }
+    ensures { λ o. ⌜ Carries (at .0) (now (table .entry)) rows (Arms.Smaller original e outer) n calls o (memory (now (tag .entry)) (now (first .entry)) (now (second .entry)) (now (link .entry))) (memory (now (tag .exit)) (now (first .exit)) (now (second .exit)) (now (link .exit))) ⌝ }
 {
     let added = add(tag, first, second, link, n, original, calls);
     let Added::Node {
@@ -226,19 +219,7 @@ fn smaller_regrouped(
     else {
         return added;
     };
-    let new = regroup(
-        limit,
-        tag,
-        first,
-        second,
-        link,
-        table,
-        rows,
-        inner,
-        outer,
-        k,
-        c,
-    );
+    let new = regroup(at, tag, first, second, link, table, rows, e, outer, k, c);
     let Added::Node {
         at: j,
         nodes: q,
@@ -256,7 +237,7 @@ fn smaller_regrouped(
 
 // S(S(a)+S(b))
 fn add_simplified(
-    limit: Limit,
+    at: Limit,
     tag: &mut [u64],
     first: &mut [u64],
     second: &mut [u64],
@@ -268,9 +249,9 @@ fn add_simplified(
     n: usize,
     calls: u64,
 ) -> Added
-    ensures { λ o. ⌜ Adds (limit .0) (now (table .entry)) rows a b n calls o (memory (now (tag .entry)) (now (first .entry)) (now (second .entry)) (now (link .entry))) (memory (now (tag .exit)) (now (first .exit)) (now (second .exit)) (now (link .exit))) ⌝ }
+    ensures { λ o. ⌜ Adds (at .0) (now (table .entry)) rows a b n calls o (memory (now (tag .entry)) (now (first .entry)) (now (second .entry)) (now (link .entry))) (memory (now (tag .exit)) (now (first .exit)) (now (second .exit)) (now (link .exit))) ⌝ }
 {
-    let left = again(limit, tag, first, second, link, table, rows, a, n, calls);
+    let left = again(at, tag, first, second, link, table, rows, a, n, calls);
     let Added::Node {
         at: i,
         nodes: k,
@@ -279,7 +260,7 @@ fn add_simplified(
     else {
         return left;
     };
-    let right = again(limit, tag, first, second, link, table, rows, b, k, c);
+    let right = again(at, tag, first, second, link, table, rows, b, k, c);
     let Added::Node {
         at: j,
         nodes: q,
@@ -288,23 +269,13 @@ fn add_simplified(
     else {
         return right;
     };
-    again(
-        limit,
-        tag,
-        first,
-        second,
-        link,
-        table,
-        rows,
-        Expression::Infix(InfixOperator::Plus, i, j),
-        q,
-        d,
-    )
+    let sum = Expression::Infix(InfixOperator::Plus, i, j);
+    again(at, tag, first, second, link, table, rows, sum, q, d)
 }
 
 // min(original, S(S(a)+S(b)))
 fn distribute(
-    limit: Limit,
+    at: Limit,
     tag: &mut [u64],
     first: &mut [u64],
     second: &mut [u64],
@@ -317,7 +288,7 @@ fn distribute(
     n: usize,
     calls: u64,
 ) -> Added
-    ensures { λ o. ⌜ Carries (limit .0) (now (table .entry)) rows (Arms.Distribute original a b) n calls o (memory (now (tag .entry)) (now (first .entry)) (now (second .entry)) (now (link .entry))) (memory (now (tag .exit)) (now (first .exit)) (now (second .exit)) (now (link .exit))) ⌝ }
+    ensures { λ o. ⌜ Carries (at .0) (now (table .entry)) rows (Arms.Distribute original a b) n calls o (memory (now (tag .entry)) (now (first .entry)) (now (second .entry)) (now (link .entry))) (memory (now (tag .exit)) (now (first .exit)) (now (second .exit)) (now (link .exit))) ⌝ }
 {
     let added = add(tag, first, second, link, n, original, calls);
     let Added::Node {
@@ -328,7 +299,7 @@ fn distribute(
     else {
         return added;
     };
-    let new = add_simplified(limit, tag, first, second, link, table, rows, a, b, k, c);
+    let new = add_simplified(at, tag, first, second, link, table, rows, a, b, k, c);
     let Added::Node {
         at: j,
         nodes: q,
@@ -346,7 +317,7 @@ fn distribute(
 
 // S(S(2*x)+S(a+b))
 fn double(
-    limit: Limit,
+    at: Limit,
     tag: &mut [u64],
     first: &mut [u64],
     second: &mut [u64],
@@ -359,7 +330,7 @@ fn double(
     n: usize,
     calls: u64,
 ) -> Added
-    ensures { λ o. ⌜ Carries (limit .0) (now (table .entry)) rows (Arms.Double x a b) n calls o (memory (now (tag .entry)) (now (first .entry)) (now (second .entry)) (now (link .entry))) (memory (now (tag .exit)) (now (first .exit)) (now (second .exit)) (now (link .exit))) ⌝ }
+    ensures { λ o. ⌜ Carries (at .0) (now (table .entry)) rows (Arms.Double x a b) n calls o (memory (now (tag .entry)) (now (first .entry)) (now (second .entry)) (now (link .entry))) (memory (now (tag .exit)) (now (first .exit)) (now (second .exit)) (now (link .exit))) ⌝ }
 {
     let added = add(
         tag,
@@ -381,7 +352,7 @@ fn double(
     let two_x = Expression::Infix(InfixOperator::Star, i, x);
     let sum_bs = Expression::Infix(InfixOperator::Plus, a, b);
     add_simplified(
-        limit,
+        at,
         tag,
         first,
         second,
@@ -395,37 +366,24 @@ fn double(
     )
 }
 
-// S(S(S(a+a2)*x)+S(b+b2)), sums first
+// S(S(S(a)*x)+S(b)), S(a) and S(b) first
 fn affine(
-    limit: Limit,
+    at: Limit,
     tag: &mut [u64],
     first: &mut [u64],
     second: &mut [u64],
     link: &mut [u64],
     table: &[u64],
     rows: Rows,
-    a: usize,
-    a2: usize,
+    a: Expression,
     x: usize,
-    b: usize,
-    b2: usize,
+    b: Expression,
     n: usize,
     calls: u64,
 ) -> Added
-    ensures { λ o. ⌜ Carries (limit .0) (now (table .entry)) rows (Arms.Affine a a2 x b b2) n calls o (memory (now (tag .entry)) (now (first .entry)) (now (second .entry)) (now (link .entry))) (memory (now (tag .exit)) (now (first .exit)) (now (second .exit)) (now (link .exit))) ⌝ }
+    ensures { λ o. ⌜ Carries (at .0) (now (table .entry)) rows (Arms.Affine a x b) n calls o (memory (now (tag .entry)) (now (first .entry)) (now (second .entry)) (now (link .entry))) (memory (now (tag .exit)) (now (first .exit)) (now (second .exit)) (now (link .exit))) ⌝ }
 {
-    let sum_as = again(
-        limit,
-        tag,
-        first,
-        second,
-        link,
-        table,
-        rows,
-        Expression::Infix(InfixOperator::Plus, a, a2),
-        n,
-        calls,
-    );
+    let sum_as = again(at, tag, first, second, link, table, rows, a, n, calls);
     let Added::Node {
         at: i,
         nodes: k,
@@ -434,18 +392,7 @@ fn affine(
     else {
         return sum_as;
     };
-    let sum_bs = again(
-        limit,
-        tag,
-        first,
-        second,
-        link,
-        table,
-        rows,
-        Expression::Infix(InfixOperator::Plus, b, b2),
-        k,
-        c,
-    );
+    let sum_bs = again(at, tag, first, second, link, table, rows, b, k, c);
     let Added::Node {
         at: j,
         nodes: q,
@@ -454,17 +401,17 @@ fn affine(
     else {
         return sum_bs;
     };
-    let mul_as_x = Expression::Infix(InfixOperator::Star, i, x);
+    let product = Expression::Infix(InfixOperator::Star, i, x);
     let outer = Outer::Before(InfixOperator::Plus, j);
     regroup(
-        limit,
+        at,
         tag,
         first,
         second,
         link,
         table,
         rows,
-        mul_as_x,
+        product,
         outer,
         q,
         d,
@@ -473,7 +420,7 @@ fn affine(
 
 // What an arm wants.
 fn carry_out(
-    limit: Limit,
+    at: Limit,
     tag: &mut [u64],
     first: &mut [u64],
     second: &mut [u64],
@@ -484,122 +431,44 @@ fn carry_out(
     n: usize,
     calls: u64,
 ) -> Added
-    ensures { λ o. ⌜ Carries (limit .0) (now (table .entry)) rows (arm) n calls o (memory (now (tag .entry)) (now (first .entry)) (now (second .entry)) (now (link .entry))) (memory (now (tag .exit)) (now (first .exit)) (now (second .exit)) (now (link .exit))) ⌝ }
+    ensures { λ o. ⌜ Carries (at .0) (now (table .entry)) rows (arm) n calls o (memory (now (tag .entry)) (now (first .entry)) (now (second .entry)) (now (link .entry))) (memory (now (tag .exit)) (now (first .exit)) (now (second .exit)) (now (link .exit))) ⌝ }
 {
     match arm {
-        Arm::Use(at) => Added::Node {
-            at,
+        Arm::Use(i) => Added::Node {
+            at: i,
             nodes: n,
             calls,
         },
         Arm::Build(e) => add(tag, first, second, link, n, e, calls),
-        Arm::Fold(operator, x, y) => store_value(
-            tag,
-            first,
-            second,
-            link,
-            calculate_infix(table, rows, x, operator, y),
-            n,
-            calls,
-        ),
-        Arm::Call(function, x) => store_value(
-            tag,
-            first,
-            second,
-            link,
-            calculate_function(table, rows, function, x),
-            n,
-            calls,
-        ),
-        Arm::Again(e) => again(limit, tag, first, second, link, table, rows, e, n, calls),
-        Arm::Inverse(other) => inverse(
-            limit,
-            tag,
-            first,
-            second,
-            link,
-            table,
-            rows,
-            other,
-            n,
-            calls,
-        ),
-        Arm::Regroup(inner, outer) => regroup(
-            limit,
-            tag,
-            first,
-            second,
-            link,
-            table,
-            rows,
-            inner,
-            outer,
-            n,
-            calls,
-        ),
-        Arm::Smaller(original, inner, outer) => smaller_regrouped(
-            limit,
-            tag,
-            first,
-            second,
-            link,
-            table,
-            rows,
-            original,
-            inner,
-            outer,
-            n,
-            calls,
-        ),
-        Arm::Distribute(original, a, b) => distribute(
-            limit,
-            tag,
-            first,
-            second,
-            link,
-            table,
-            rows,
-            original,
-            a,
-            b,
-            n,
-            calls,
-        ),
-        Arm::Double(x, a, b) => double(
-            limit,
-            tag,
-            first,
-            second,
-            link,
-            table,
-            rows,
-            x,
-            a,
-            b,
-            n,
-            calls,
-        ),
-        Arm::Affine(a, a2, x, b, b2) => affine(
-            limit,
-            tag,
-            first,
-            second,
-            link,
-            table,
-            rows,
-            a,
-            a2,
-            x,
-            b,
-            b2,
-            n,
-            calls,
-        ),
+        Arm::Fold(operator, x, y) => {
+            let value = calculate_infix(table, rows, x, operator, y);
+            store_value(tag, first, second, link, value, n, calls)
+        }
+        Arm::Call(function, x) => {
+            let value = calculate_function(table, rows, function, x);
+            store_value(tag, first, second, link, value, n, calls)
+        }
+        Arm::Again(e) => again(at, tag, first, second, link, table, rows, e, n, calls),
+        Arm::Inverse(x) => inverse(at, tag, first, second, link, table, rows, x, n, calls),
+        Arm::Regroup(e, o) => regroup(at, tag, first, second, link, table, rows, e, o, n, calls),
+        Arm::Smaller(d, e, o) => {
+            smaller_regrouped(at, tag, first, second, link, table, rows, d, e, o, n, calls)
+        }
+        Arm::Distribute(d, a, b) => {
+            distribute(at, tag, first, second, link, table, rows, d, a, b, n, calls)
+        }
+        Arm::Double(x, a, b) => {
+            double(at, tag, first, second, link, table, rows, x, a, b, n, calls)
+        }
+        Arm::Affine(a, x, b) => {
+            affine(at, tag, first, second, link, table, rows, a, x, b, n, calls)
+        }
     }
 }
 
+// The operand at the limit, then what the arm wants at 1 less.
 fn simplify_function_call(
-    limit: Limit,
+    at: Limit,
     tag: &mut [u64],
     first: &mut [u64],
     second: &mut [u64],
@@ -611,20 +480,9 @@ fn simplify_function_call(
     n: usize,
     calls: u64,
 ) -> Added
-    ensures { λ o. ⌜ CallsFunction (limit .0) (now (table .entry)) rows function child n calls o (memory (now (tag .entry)) (now (first .entry)) (now (second .entry)) (now (link .entry))) (memory (now (tag .exit)) (now (first .exit)) (now (second .exit)) (now (link .exit))) ⌝ }
+    ensures { λ o. ⌜ CallsFunction (at .0) (now (table .entry)) rows function child n calls o (memory (now (tag .entry)) (now (first .entry)) (now (second .entry)) (now (link .entry))) (memory (now (tag .exit)) (now (first .exit)) (now (second .exit)) (now (link .exit))) ⌝ }
 {
-    let argument = simplify(
-        limit,
-        tag,
-        first,
-        second,
-        link,
-        table,
-        rows,
-        child,
-        n,
-        calls,
-    );
+    let argument = simplify(at, tag, first, second, link, table, rows, child, n, calls);
     let Added::Node {
         at: x,
         nodes: k,
@@ -634,22 +492,13 @@ fn simplify_function_call(
         return argument;
     };
     let arm = choose_function(tag, first, second, function, x);
-    carry_out(
-        limit.lowered(),
-        tag,
-        first,
-        second,
-        link,
-        table,
-        rows,
-        arm,
-        k,
-        c,
-    )
+    let at = at.lowered();
+    carry_out(at, tag, first, second, link, table, rows, arm, k, c)
 }
 
+// Left before right, then the same.
 fn simplify_infix(
-    limit: Limit,
+    at: Limit,
     tag: &mut [u64],
     first: &mut [u64],
     second: &mut [u64],
@@ -662,9 +511,9 @@ fn simplify_infix(
     n: usize,
     calls: u64,
 ) -> Added
-    ensures { λ o. ⌜ Infixes (limit .0) (now (table .entry)) rows operator left right n calls o (memory (now (tag .entry)) (now (first .entry)) (now (second .entry)) (now (link .entry))) (memory (now (tag .exit)) (now (first .exit)) (now (second .exit)) (now (link .exit))) ⌝ }
+    ensures { λ o. ⌜ Infixes (at .0) (now (table .entry)) rows operator left right n calls o (memory (now (tag .entry)) (now (first .entry)) (now (second .entry)) (now (link .entry))) (memory (now (tag .exit)) (now (first .exit)) (now (second .exit)) (now (link .exit))) ⌝ }
 {
-    let l = simplify(limit, tag, first, second, link, table, rows, left, n, calls);
+    let l = simplify(at, tag, first, second, link, table, rows, left, n, calls);
     let Added::Node {
         at: x,
         nodes: k,
@@ -673,7 +522,7 @@ fn simplify_infix(
     else {
         return l;
     };
-    let r = simplify(limit, tag, first, second, link, table, rows, right, k, c);
+    let r = simplify(at, tag, first, second, link, table, rows, right, k, c);
     let Added::Node {
         at: y,
         nodes: q,
@@ -683,22 +532,13 @@ fn simplify_infix(
         return r;
     };
     let arm = choose_infix(tag, first, second, link, x, operator, y);
-    carry_out(
-        limit.lowered(),
-        tag,
-        first,
-        second,
-        link,
-        table,
-        rows,
-        arm,
-        q,
-        d,
-    )
+    let at = at.lowered();
+    carry_out(at, tag, first, second, link, table, rows, arm, q, d)
 }
 
+// As for a function.
 fn simplify_prefix(
-    limit: Limit,
+    at: Limit,
     tag: &mut [u64],
     first: &mut [u64],
     second: &mut [u64],
@@ -710,20 +550,9 @@ fn simplify_prefix(
     n: usize,
     calls: u64,
 ) -> Added
-    ensures { λ o. ⌜ Prefixes (limit .0) (now (table .entry)) rows operator child n calls o (memory (now (tag .entry)) (now (first .entry)) (now (second .entry)) (now (link .entry))) (memory (now (tag .exit)) (now (first .exit)) (now (second .exit)) (now (link .exit))) ⌝ }
+    ensures { λ o. ⌜ Prefixes (at .0) (now (table .entry)) rows operator child n calls o (memory (now (tag .entry)) (now (first .entry)) (now (second .entry)) (now (link .entry))) (memory (now (tag .exit)) (now (first .exit)) (now (second .exit)) (now (link .exit))) ⌝ }
 {
-    let operand = simplify(
-        limit,
-        tag,
-        first,
-        second,
-        link,
-        table,
-        rows,
-        child,
-        n,
-        calls,
-    );
+    let operand = simplify(at, tag, first, second, link, table, rows, child, n, calls);
     let Added::Node {
         at: x,
         nodes: k,
@@ -733,24 +562,14 @@ fn simplify_prefix(
         return operand;
     };
     let arm = choose_prefix(tag, first, second, operator, x);
-    carry_out(
-        limit.lowered(),
-        tag,
-        first,
-        second,
-        link,
-        table,
-        rows,
-        arm,
-        k,
-        c,
-    )
+    let at = at.lowered();
+    carry_out(at, tag, first, second, link, table, rows, arm, k, c)
 }
 
 // A node for which nothing is kept. "pi gives its number, even at limit 0; limit 0 gives the node; leaves give
-// themselves."
+// themselves. Otherwise the operation runs with limit 1 less."
 fn perform(
-    limit: Limit,
+    at: Limit,
     tag: &mut [u64],
     first: &mut [u64],
     second: &mut [u64],
@@ -762,79 +581,40 @@ fn perform(
     n: usize,
     calls: u64,
 ) -> Added
-    ensures { λ o. ⌜ Performs (limit .0) (now (table .entry)) rows node e n calls o (memory (now (tag .entry)) (now (first .entry)) (now (second .entry)) (now (link .entry))) (memory (now (tag .exit)) (now (first .exit)) (now (second .exit)) (now (link .exit))) ⌝ }
+    ensures { λ o. ⌜ Performs (at .0) (now (table .entry)) rows node e n calls o (memory (now (tag .entry)) (now (first .entry)) (now (second .entry)) (now (link .entry))) (memory (now (tag .exit)) (now (first .exit)) (now (second .exit)) (now (link .exit))) ⌝ }
 {
     let itself = Added::Node {
         at: node,
         nodes: n,
         calls,
     };
+    if is_pi(e) {
+        return add(tag, first, second, link, n, Expression::Number(pi()), calls);
+    }
+    if at.is_spent() {
+        return itself;
+    }
+    let at = at.lowered();
     match e {
-        Expression::PiConstant => add(tag, first, second, link, n, Expression::Number(pi()), calls),
+        Expression::FunctionCall(f, a) => {
+            simplify_function_call(at, tag, first, second, link, table, rows, f, a, n, calls)
+        }
+        Expression::Infix(o, a, b) => {
+            simplify_infix(at, tag, first, second, link, table, rows, a, o, b, n, calls)
+        }
+        Expression::Prefix(o, a) => {
+            simplify_prefix(at, tag, first, second, link, table, rows, o, a, n, calls)
+        }
         Expression::Address(_, _) => itself,
         Expression::Number(_) => itself,
+        Expression::PiConstant => itself,
         Expression::Variable(_) => itself,
-        Expression::FunctionCall(function, child) => {
-            if limit.is_spent() {
-                return itself;
-            }
-            simplify_function_call(
-                limit.lowered(),
-                tag,
-                first,
-                second,
-                link,
-                table,
-                rows,
-                function,
-                child,
-                n,
-                calls,
-            )
-        }
-        Expression::Infix(operator, left, right) => {
-            if limit.is_spent() {
-                return itself;
-            }
-            simplify_infix(
-                limit.lowered(),
-                tag,
-                first,
-                second,
-                link,
-                table,
-                rows,
-                left,
-                operator,
-                right,
-                n,
-                calls,
-            )
-        }
-        Expression::Prefix(operator, child) => {
-            if limit.is_spent() {
-                return itself;
-            }
-            simplify_prefix(
-                limit.lowered(),
-                tag,
-                first,
-                second,
-                link,
-                table,
-                rows,
-                operator,
-                child,
-                n,
-                calls,
-            )
-        }
     }
 }
 
 // A node simplified at a limit. "A cached equal node gives its cached result, whatever limit it was made at."
 pub fn simplify(
-    limit: Limit,
+    at: Limit,
     tag: &mut [u64],
     first: &mut [u64],
     second: &mut [u64],
@@ -845,31 +625,19 @@ pub fn simplify(
     n: usize,
     calls: u64,
 ) -> Added
-    ensures { λ o. ⌜ Simplifies (limit .0) (now (table .entry)) rows node n calls o (memory (now (tag .entry)) (now (first .entry)) (now (second .entry)) (now (link .entry))) (memory (now (tag .exit)) (now (first .exit)) (now (second .exit)) (now (link .exit))) ⌝ }
+    ensures { λ o. ⌜ Simplifies (at .0) (now (table .entry)) rows node n calls o (memory (now (tag .entry)) (now (first .entry)) (now (second .entry)) (now (link .entry))) (memory (now (tag .exit)) (now (first .exit)) (now (second .exit)) (now (link .exit))) ⌝ }
 {
-    let counted = one_more(calls);
+    let made = one_more(calls);
     let kept = kept_at(link, node);
-    if let Kept::Result(at) = kept {
+    if let Kept::Result(i) = kept {
         return Added::Node {
-            at,
+            at: i,
             nodes: n,
-            calls: counted,
+            calls: made,
         };
     }
     let e = expression_at(tag, first, second, node);
-    let answer = perform(
-        limit,
-        tag,
-        first,
-        second,
-        link,
-        table,
-        rows,
-        node,
-        e,
-        n,
-        counted,
-    );
+    let answer = perform(at, tag, first, second, link, table, rows, node, e, n, made);
     keep_answer(link, node, answer);
     answer
 }

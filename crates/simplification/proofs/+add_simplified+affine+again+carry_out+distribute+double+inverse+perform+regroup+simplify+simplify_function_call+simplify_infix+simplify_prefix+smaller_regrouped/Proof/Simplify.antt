@@ -39,7 +39,7 @@ expression-at-requires : (t : ℕ) → lts.Need-expression-at-requires (claims t
 expression-at-requires t c κs = tt
 
 perform-requires : (t : ℕ) → lts.Need-perform-requires (claims t) (simplify-at t) simplify.Post
-perform-requires t c κs = (down (c .before .before .before .before .before .before .before .before .before .before .before .before .before .before .before .before .before .before .args .limit .0) 0 1 (c .before .before .before .before .before .before .before .before .before .before .before .before .before .before .before .before .before .before .pre .0) (lit< tt), tt)
+perform-requires t c κs = (down (c .before .before .before .before .before .before .before .before .before .before .before .before .before .before .before .before .before .before .args .at .0) 0 1 (c .before .before .before .before .before .before .before .before .before .before .before .before .before .before .before .before .before .before .pre .0) (lit< tt), tt)
 
 keep-answer-requires : (t : ℕ) → lts.Need-keep-answer-requires (claims t) (simplify-at t) simplify.Post
 keep-answer-requires t c κs = tt

@@ -40,7 +40,7 @@ returns : (t : ℕ) → lts.Need-returns (claims t) (smaller-regrouped-at t) sma
 returns t c = λ held h w. lesser-refused _ _ _ _ _ (c .before .before .before .before .before .before .before .before .before .before .add .ensures h (w .0)) (c .enum-told .given .1)
 
 regroup-requires : (t : ℕ) → lts.Need-regroup-requires (claims t) (smaller-regrouped-at t) smaller-regrouped.Post
-regroup-requires t c κs = (down (c .before .before .before .before .before .before .before .before .before .before .before .before .before .before .before .before .before .before .before .before .before .before .before .before .before .args .limit .0) 3 4 (c .before .before .before .before .before .before .before .before .before .before .before .before .before .before .before .before .before .before .before .before .before .before .before .before .before .pre .0) (lit< tt), tt)
+regroup-requires t c κs = (down (c .before .before .before .before .before .before .before .before .before .before .before .before .before .before .before .before .before .before .before .before .before .before .before .before .before .args .at .0) 3 4 (c .before .before .before .before .before .before .before .before .before .before .before .before .before .before .before .before .before .before .before .before .before .before .before .before .before .pre .0) (lit< tt), tt)
 
 enum-known-new : (t : ℕ) → lts.Need-enum-known-new (claims t) (smaller-regrouped-at t) smaller-regrouped.Post
 enum-known-new t c = search needs
@@ -61,7 +61,7 @@ same-length-8 : (t : ℕ) → lts.Need-same-length-8 (claims t) (smaller-regroup
 same-length-8 t c = c .before .before .before .before .before .before .before .before .before .before .regroup .kept .1 .1 .1 .1 .0 ∙ c .before .before .before .before .before .before .before .before .before .before .before .before .before .before .before .before .before .before .before .before .before .before .before .before .before .before .add .kept .1 .1 .1 .0
 
 returns-2 : (t : ℕ) → lts.Need-returns-2 (claims t) (smaller-regrouped-at t) smaller-regrouped.Post
-returns-2 t c = λ held h w. lesser-second _ _ _ _ _ (c .before .before .before .before .before .before .before .before .before .before .before .before .before .before .before .before .before .before .before .before .before .before .before .before .before .before .add .ensures h (w .0)) (c .before .before .before .before .before .before .before .before .before .before .before .before .before .before .before .before .added .given .1) (λ p. named (regroup-later _ _ p (c .before .before .before .before .before .before .before .before .before .before .before .before .before .before .before .before .before .before .before .before .before .before .before .before .before .before .before .before .before .before .before .before .before .before .before .before .args .inner) (c .before .before .before .before .before .before .before .before .before .before .before .before .before .before .before .before .before .before .before .before .before .before .before .before .before .before .before .before .before .before .before .before .before .before .before .before .args .outer) (w .1) (w .2) _) (c .before .before .before .before .before .before .before .before .before .before .regroup .ensures held (p .holds) (within-older p (c .before .before .before .before .before .before .before .before .before .before .before .before .before .before .before .before .before .before .before .before .before .before .before .before .before .before .before .before .before .before .before .before .before .before .before .before .args .inner) (w .1), outer-older p (c .before .before .before .before .before .before .before .before .before .before .before .before .before .before .before .before .before .before .before .before .before .before .before .before .before .before .before .before .before .before .before .before .before .before .before .before .args .outer) (w .2)))) (c .enum-told2 .given .1)
+returns-2 t c = λ held h w. lesser-second _ _ _ _ _ (c .before .before .before .before .before .before .before .before .before .before .before .before .before .before .before .before .before .before .before .before .before .before .before .before .before .before .add .ensures h (w .0)) (c .before .before .before .before .before .before .before .before .before .before .before .before .before .before .before .before .added .given .1) (λ p. named (regroup-later _ _ p (c .before .before .before .before .before .before .before .before .before .before .before .before .before .before .before .before .before .before .before .before .before .before .before .before .before .before .before .before .before .before .before .before .before .before .before .before .args .e) (c .before .before .before .before .before .before .before .before .before .before .before .before .before .before .before .before .before .before .before .before .before .before .before .before .before .before .before .before .before .before .before .before .before .before .before .before .args .outer) (w .1) (w .2) _) (c .before .before .before .before .before .before .before .before .before .before .regroup .ensures held (p .holds) (within-older p (c .before .before .before .before .before .before .before .before .before .before .before .before .before .before .before .before .before .before .before .before .before .before .before .before .before .before .before .before .before .before .before .before .before .before .before .before .args .e) (w .1), outer-older p (c .before .before .before .before .before .before .before .before .before .before .before .before .before .before .before .before .before .before .before .before .before .before .before .before .before .before .before .before .before .before .before .before .before .before .before .before .args .outer) (w .2)))) (c .enum-told2 .given .1)
 
 smaller-requires : (t : ℕ) → lts.Need-smaller-requires (claims t) (smaller-regrouped-at t) smaller-regrouped.Post
 smaller-requires t c κs = tt
@@ -79,7 +79,7 @@ same-length-12 : (t : ℕ) → lts.Need-same-length-12 (claims t) (smaller-regro
 same-length-12 t c = c .before .before .before .before .before .before .before .before .before .before .before .before .before .regroup .kept .1 .1 .1 .1 .0 ∙ c .before .before .before .before .before .before .before .before .before .before .before .before .before .before .before .before .before .before .before .before .before .before .before .before .before .before .before .before .before .add .kept .1 .1 .1 .0
 
 returns-3 : (t : ℕ) → lts.Need-returns-3 (claims t) (smaller-regrouped-at t) smaller-regrouped.Post
-returns-3 t c = λ held h w. lesser-node _ _ _ _ _ (c .before .before .before .before .before .before .before .before .before .before .before .before .before .before .before .before .before .before .before .before .before .before .before .before .before .before .before .before .before .add .ensures h (w .0)) (c .before .before .before .before .before .before .before .before .before .before .before .before .before .before .before .before .before .before .before .added .given .1) (λ p. named (regroup-later _ _ p (c .before .before .before .before .before .before .before .before .before .before .before .before .before .before .before .before .before .before .before .before .before .before .before .before .before .before .before .before .before .before .before .before .before .before .before .before .before .before .before .args .inner) (c .before .before .before .before .before .before .before .before .before .before .before .before .before .before .before .before .before .before .before .before .before .before .before .before .before .before .before .before .before .before .before .before .before .before .before .before .before .before .before .args .outer) (w .1) (w .2) _) (c .before .before .before .before .before .before .before .before .before .before .before .before .before .regroup .ensures held (p .holds) (within-older p (c .before .before .before .before .before .before .before .before .before .before .before .before .before .before .before .before .before .before .before .before .before .before .before .before .before .before .before .before .before .before .before .before .before .before .before .before .before .before .before .args .inner) (w .1), outer-older p (c .before .before .before .before .before .before .before .before .before .before .before .before .before .before .before .before .before .before .before .before .before .before .before .before .before .before .before .before .before .before .before .before .before .before .before .before .before .before .before .args .outer) (w .2)))) (c .before .before .before .new .given .1) (c .smaller .ensures _ _ _ _)
+returns-3 t c = λ held h w. lesser-node _ _ _ _ _ (c .before .before .before .before .before .before .before .before .before .before .before .before .before .before .before .before .before .before .before .before .before .before .before .before .before .before .before .before .before .add .ensures h (w .0)) (c .before .before .before .before .before .before .before .before .before .before .before .before .before .before .before .before .before .before .before .added .given .1) (λ p. named (regroup-later _ _ p (c .before .before .before .before .before .before .before .before .before .before .before .before .before .before .before .before .before .before .before .before .before .before .before .before .before .before .before .before .before .before .before .before .before .before .before .before .before .before .before .args .e) (c .before .before .before .before .before .before .before .before .before .before .before .before .before .before .before .before .before .before .before .before .before .before .before .before .before .before .before .before .before .before .before .before .before .before .before .before .before .before .before .args .outer) (w .1) (w .2) _) (c .before .before .before .before .before .before .before .before .before .before .before .before .before .regroup .ensures held (p .holds) (within-older p (c .before .before .before .before .before .before .before .before .before .before .before .before .before .before .before .before .before .before .before .before .before .before .before .before .before .before .before .before .before .before .before .before .before .before .before .before .before .before .before .args .e) (w .1), outer-older p (c .before .before .before .before .before .before .before .before .before .before .before .before .before .before .before .before .before .before .before .before .before .before .before .before .before .before .before .before .before .before .before .before .before .before .before .before .before .before .before .args .outer) (w .2)))) (c .before .before .before .new .given .1) (c .smaller .ensures _ _ _ _)
 
 pub part : {M : Type 1} (t : ℕ) → lts.Closed (claims t) (smaller-regrouped-at t) smaller-regrouped.Post M
 part t =
