@@ -80,10 +80,11 @@ pub fn choose_grouped(
     if is_infix(right, operator) {
         return choose_grouped_right(operator, l, r, left, right);
     }
+    let rhs = undone(operator);
     Arm::Smaller(
         Expression::Infix(operator, l, r),
         Expression::Infix(operator, right_in(left), r),
-        Outer::After(left_in(left), undone(operator)),
+        Outer::After(left_in(left), rhs),
     )
 }
 

@@ -271,7 +271,7 @@ module _ (R : Rows) (σ : Simplifier) where
         → Built (carryOut R σ (S (new (treeOf m a))) s) o n m m₁ → o ≡ Added.Node i k c
         → (Step n m i k m₁ → Built (carryOut R σ (S (new (treeOf m₁ b))) (stateOf m₁ k c)) q k m₁ m₂) → q ≡ Added.Node j l d
         → (Holds m₂ l → i < l → x < l → j < l
-            → Built (carryOut R σ (regroupPlan m₂ (Expression.Infix InfixOperator.Star i x) (Outer.Before InfixOperator.Plus j)) (stateOf m₂ l d)) r l m₂ m₃)
+        → Built (carryOut R σ (regroupPlan m₂ (Expression.Infix InfixOperator.Star i x) (Outer.Before InfixOperator.Plus j)) (stateOf m₂ l d)) r l m₂ m₃)
         → Built (carryOut R σ (affine (treeOf m a) (treeAt m x) (treeOf m b)) s) r n m m₃
     unfolding carryOut again second last grown
     affine-node {i = i} {j} {k} {l} {c} {d} {m₁} {m₂} lx w y e f g h =
