@@ -1,4 +1,4 @@
-/* Findavoreb for C and for all that calls C: expressions evaluated, substituted and read as real numbers.
+/* Findavoreb for C and for all that calls C: expressions evaluated, simplified, substituted and read as real numbers.
  *
  * The functions are those of the static library that `rt staticlib exports` writes, target/staticlib/libexports.a, for x86-64. A
  * listing, a sheet and the written result are texts as the rules have them (README.md says where those are); what is named here is
@@ -32,7 +32,7 @@ enum findavoreb_refusal {
     FINDAVOREB_LONG_LIST = 2,    /* the 1025th node line or the 257th s line; or a result of more than 1024 lines, with place 0 */
     FINDAVOREB_BAD_SHEET = 3,    /* a line of the sheet is malformed, out of order or without its line feed */
     FINDAVOREB_LONG_SHEET = 4,   /* the 257th v line, the 1025th m line or the 257th t line */
-    FINDAVOREB_BAD_LIMIT = 5,    /* * a limit above 10 */
+    FINDAVOREB_BAD_LIMIT = 5,    /* a limit above 10 */
     FINDAVOREB_BIG = 6,          /* a new node of a size above 1,000,000 */
     FINDAVOREB_DEEP = 7,         /* a new node of a depth above 64 */
     FINDAVOREB_ROOM = 8,         /* a new node, and the store is full */
@@ -70,7 +70,7 @@ enum {
  *             after FINDAVOREB_NEED: the operation
  *             after another refusal: the line of the listing or of the sheet, counted from 0, if the refusal carries one
  *   [2], [3]  after a success: the bits of the value's real and imaginary part; of the real number and 0 from to_real; 0, 0 from
- *             substitute
+ *             substitute; the number of simplify calls that were made and 0 from simplify
  *             after FINDAVOREB_NEED: the bits of the real and imaginary part of the operand, for pow of the first one
  *   [4], [5]  after FINDAVOREB_NEED: the same of the second operand, 0, 0 unless the operation is pow
  *
@@ -106,6 +106,20 @@ uint64_t findavoreb_to_real(
     uint64_t *second, size_t second_length,
     uint64_t *link, size_t link_length,
     uint64_t *table,   /* FINDAVOREB_TABLE_WORDS words */
+    uint64_t *answer); /* FINDAVOREB_ANSWER_WORDS words */
+
+/* The listing's expression simplified at the limit, 0 to 10, written to out as a listing. Of the sheet only the t rows are used; it may
+ * be empty, and FINDAVOREB_NEED says which row is wanted next. The number of simplify calls is at most 244,531. */
+uint64_t findavoreb_simplify(
+    const uint8_t *listing, size_t listing_length,
+    const uint8_t *sheet, size_t sheet_length,
+    uint64_t limit,
+    uint64_t *tag, size_t tag_length,
+    uint64_t *first, size_t first_length,
+    uint64_t *second, size_t second_length,
+    uint64_t *link, size_t link_length,
+    uint64_t *table,   /* FINDAVOREB_TABLE_WORDS words */
+    uint8_t *out, size_t out_length,
     uint64_t *answer); /* FINDAVOREB_ANSWER_WORDS words */
 
 #ifdef __cplusplus

@@ -130,6 +130,14 @@ static void to_real_in(const char *name, struct lent lent, const char *listing, 
 }
 
 /* The output is the text that is written, and blank from there on; the text is empty after a refusal. */
+static void check_output(const char *name, const char *written)
+{
+    if (memcmp(out, written, strlen(written)) != 0)
+        complain(name, "the output is another text");
+    if (!is_blank_from(strlen(written)))
+        complain(name, "the output was changed past the result");
+}
+
 static void substitute_in(const char *name, struct lent lent, const char *listing, const char *written, const uint64_t *want)
 {
     prepare();
@@ -138,10 +146,19 @@ static void substitute_in(const char *name, struct lent lent, const char *listin
         lent.words[3], table, out, lent.bytes, answer);
     check_answer(name, returned, want);
     check_memory(name, lent);
-    if (memcmp(out, written, strlen(written)) != 0)
-        complain(name, "the output is another text");
-    if (!is_blank_from(strlen(written)))
-        complain(name, "the output was changed past the result");
+    check_output(name, written);
+}
+
+static void simplify_in(
+    const char *name, struct lent lent, const char *listing, const char *sheet, uint64_t limit, const char *written, const uint64_t *want)
+{
+    prepare();
+    uint64_t returned = findavoreb_simplify(
+        bytes(listing), strlen(listing), bytes(sheet), strlen(sheet), limit, store[0], lent.words[0], store[1], lent.words[1],
+        store[2], lent.words[2], store[3], lent.words[3], table, out, lent.bytes, answer);
+    check_answer(name, returned, want);
+    check_memory(name, lent);
+    check_output(name, written);
 }
 
 /* ---- the same with all the memory, and what is wanted in a few words */
@@ -183,6 +200,25 @@ static void no_real(const char *name, const char *listing, uint64_t refusal, uin
     to_real_in(name, ALL, listing, (uint64_t[]){refusal, place, 0, 0, 0, 0});
 }
 
+static void simpler(
+    const char *name, const char *listing, const char *sheet, uint64_t limit, const char *written, uint64_t simplify_calls)
+{
+    simplify_in(name, ALL, listing, sheet, limit, written, (uint64_t[]){0, strlen(written), simplify_calls, 0, 0, 0});
+}
+
+static void not_simpler(
+    const char *name, const char *listing, const char *sheet, uint64_t limit, uint64_t refusal, uint64_t place)
+{
+    simplify_in(name, ALL, listing, sheet, limit, "", (uint64_t[]){refusal, place, 0, 0, 0, 0});
+}
+
+static void need_to_simplify(const char *name, const char *listing, const char *sheet, uint64_t operation, const uint64_t *operands)
+{
+    simplify_in(
+        name, ALL, listing, sheet, 10, "",
+        (uint64_t[]){FINDAVOREB_NEED, operation, operands[0], operands[1], operands[2], operands[3]});
+}
+
 /* ---- pieces of texts: doubles by their bits */
 
 #define ZERO "0000000000000000"
@@ -202,6 +238,10 @@ static void no_real(const char *name, const char *listing, uint64_t refusal, uin
 /* the same with a node theta + 0.5, which is put in for theta, and what comes of it */
 #define SHIFT "v\t0\nv\t1\n" INFIX("-", "0", "1") NUMBER(TWO, ZERO) NUMBER(HALF, ZERO) INFIX("+", "0", "4") INFIX("/", "2", "3") "s\t0\t5\n"
 #define SHIFTED "v\t0\n" NUMBER(HALF, ZERO) INFIX("+", "0", "1") "v\t1\n" INFIX("-", "2", "3") NUMBER(TWO, ZERO) INFIX("/", "4", "5")
+
+/* (a - b) - b, which the rules make a of by 11 calls: the root, a-b with its two leaves, b, then b-b and a+0 with theirs. It has 4 nodes,
+ * and b-b, 0 and a+0 are stored on the way. */
+#define TWICE_LESS "v\t0\nv\t1\n" INFIX("-", "0", "1") INFIX("-", "2", "1")
 
 #define COS_OF_HALF ROW("cos", HALF, ZERO, "3FEC1528065B7D50", "8000000000000000")
 #define SIN_OF_HALF ROW("sin", HALF, ZERO, "3FDEAEE8744B05F0", ZERO)
@@ -338,6 +378,40 @@ static void substitute_refusals(void)
     no_result("a result of depth 65", text, FINDAVOREB_DEEP, 0);
 }
 
+static void simplify_results(void)
+{
+    simpler("a - a", "v\t0\n" INFIX("-", "0", "0"), "", 10, NUMBER(ZERO, ZERO), 3);
+    simpler("0 - a", NUMBER(ZERO, ZERO) "v\t0\n" INFIX("-", "0", "1"), "", 10, "v\t0\nu\t-\t0\n", 5);
+    simpler("-(-a)", "v\t0\nu\t-\t0\nu\t-\t1\n", "", 10, "v\t0\n", 3);
+    simpler("(a - b) - b", TWICE_LESS, "", 10, "v\t0\n", 11);
+    simpler("a / -a", "v\t0\nu\t-\t0\n" INFIX("/", "0", "1"), "", 10, NUMBER("BFF0000000000000", "8000000000000000"), 4);
+    simpler("0 ^ 0", NUMBER(ZERO, ZERO) INFIX("^", "0", "0"), "", 10, NUMBER(ZERO, ZERO), 3);
+    simpler("2 / 0", NUMBER(TWO, ZERO) NUMBER(ZERO, ZERO) INFIX("/", "0", "1"), "", 10, NUMBER("7FF8000000000000", ZERO), 3);
+    simpler("a sine", NUMBER(HALF, ZERO) "f\tsin\t0\n", SIN_OF_HALF, 10, NUMBER("3FDEAEE8744B05F0", ZERO), 2);
+    simpler("a bound variable stays", "v\t0\n", BOUND("0", ONE), 10, "v\t0\n", 1);
+    simpler("pi at limit 0", "p\n", "", 0, NUMBER("400921FB54442D18", ZERO), 1);
+    simpler("limit 0 asks for nothing", NUMBER(HALF, ZERO) "f\tsin\t0\n", "", 0, NUMBER(HALF, ZERO) "f\tsin\t0\n", 1);
+    simpler("equal and unused lines", "v\t0\nv\t7\nv\t0\n" INFIX("^", "0", "2"), "", 1, "v\t0\n" INFIX("^", "0", "0"), 3);
+}
+
+static void simplify_refusals(void)
+{
+    const uint64_t half[] = {HALF_BITS, 0, 0, 0};
+    not_simpler("a limit of 11", "v\t0\n", "", 11, FINDAVOREB_BAD_LIMIT, 0);
+    not_simpler("the greatest limit", "v\t0\n", "", UINT64_MAX, FINDAVOREB_BAD_LIMIT, 0);
+    not_simpler("the limit speaks first", "q\n", "q\n", 11, FINDAVOREB_BAD_LIMIT, 0);
+    not_simpler("then the listing", "p\nq\n", "q\n", 10, FINDAVOREB_BAD_LIST, 1);
+    not_simpler("then the sheet", NUMBER(HALF, ZERO) "f\tsin\t0\n", BOUND("0", ONE) "\n", 10, FINDAVOREB_BAD_SHEET, 1);
+    not_simpler("an s line", "v\t0\ns\t0\t0\n", "", 10, FINDAVOREB_BAD_LIST, 1);
+    not_simpler("a size of 1048575", many("v\t0\n", INFIX("+", "%u", "%u"), 19), "", 0, FINDAVOREB_BIG, 0);
+    not_simpler("a depth of 65", many("p\n", "u\t-\t%u\n", 64), "", 0, FINDAVOREB_DEEP, 0);
+    need_to_simplify("no sine", NUMBER(HALF, ZERO) "f\tsin\t0\n", COS_OF_HALF, FINDAVOREB_SIN, half);
+    need_to_simplify("cis asks cos first", NUMBER(HALF, ZERO) "f\tcis\t0\n", "", FINDAVOREB_COS, half);
+    need_to_simplify("then sin", NUMBER(HALF, ZERO) "f\tcis\t0\n", COS_OF_HALF, FINDAVOREB_SIN, half);
+    need_to_simplify("no power", NUMBER(TWO, HALF) NUMBER(THREE, A_NAN) INFIX("^", "0", "1"), "", FINDAVOREB_POW,
+                     (uint64_t[]){TWO_BITS, HALF_BITS, THREE_BITS, NAN_BITS});
+}
+
 static void to_real_jobs(void)
 {
     real("pi", "p\n", PI_BITS);
@@ -388,6 +462,26 @@ static void short_memory(void)
     substitute_in("full before it is written", lent, SHIFT, "", (uint64_t[]){FINDAVOREB_ROOM, 0, 0, 0, 0, 0});
 }
 
+/* As much as (a - b) - b takes, and a little less. */
+static void simplify_short_memory(void)
+{
+    const uint64_t done[] = {0, 4, 11, 0, 0, 0}, full[] = {FINDAVOREB_ROOM, 0, 0, 0, 0, 0},
+                   short_of_out[] = {FINDAVOREB_OUT_ROOM, 0, 0, 0, 0, 0};
+    struct lent lent = {{7, 7, 7, 7}, 4};
+    simplify_in("just enough to simplify", lent, TWICE_LESS, "", 10, "v\t0\n", done);
+    lent.bytes = 3;
+    simplify_in("an output too short", lent, TWICE_LESS, "", 10, "", short_of_out);
+    lent.bytes = 0;
+    simplify_in("an empty output", lent, TWICE_LESS, "", 10, "", short_of_out);
+    for (int k = 0; k < 4; k++) {
+        lent.words[k] = 6;
+        simplify_in("full before it is simpler", lent, TWICE_LESS, "", 10, "", full);
+        lent.words[k] = 3;
+        simplify_in("full while it is read", lent, TWICE_LESS, "", 10, "", full);
+        lent.words[k] = 7;
+    }
+}
+
 int main(void)
 {
     evaluate_values();
@@ -396,9 +490,12 @@ int main(void)
     evaluate_lacks();
     substitute_results();
     substitute_refusals();
+    simplify_results();
+    simplify_refusals();
     to_real_jobs();
     short_slices();
     short_memory();
+    simplify_short_memory();
     printf("%u calls, %u wrong\n", calls, wrong);
     return wrong == 0 ? EXIT_SUCCESS : EXIT_FAILURE;
 }
