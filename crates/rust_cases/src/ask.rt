@@ -9,6 +9,7 @@ use super::say;
 use super::slices::is_all;
 use super::slices::is_same;
 use super::slices::part_of_bytes;
+use calls::Simplified;
 use listing::writing::Written;
 
 // What the paper of an output has everywhere before something is written there.
@@ -23,8 +24,7 @@ pub fn read_text(list: i32, text: &mut [u8], length: usize) -> usize
     part_of_bytes(text, n)
 }
 
-fn is_right(line: Line, got: Answer) -> bool {
-    let wanted = line.wanted.with_one_zero();
+fn is_right(wanted: Answer, got: Answer) -> bool {
     if wanted.is_same(got) {
         return true;
     }
@@ -44,7 +44,7 @@ pub fn evaluate(
     table: &mut [u64; 8192],
 ) -> bool {
     let answer = calls::evaluate(text, sheet, tag, first, second, link, table);
-    is_right(line, of_evaluated(answer))
+    is_right(line.wanted.with_one_zero(), of_evaluated(answer))
 }
 
 pub fn to_real(
@@ -57,7 +57,7 @@ pub fn to_real(
     table: &mut [u64; 8192],
 ) -> bool {
     let answer = calls::to_real(text, tag, first, second, link, table);
-    is_right(line, of_real(answer))
+    is_right(line.wanted.with_one_zero(), of_real(answer))
 }
 
 fn both(x: bool, y: bool) -> bool {
@@ -80,6 +80,12 @@ fn is_written(list: i32, line: Line, paper: &[u8], n: usize) -> bool {
     true
 }
 
+// Both: the paper's first n bytes, and the answer.
+fn is_told(list: i32, line: Line, paper: &[u8], n: usize, got: Answer) -> bool {
+    let is_there = is_written(list, line, paper, n);
+    both(is_there, is_right(line.wanted, got))
+}
+
 // Substitutes on a paper of which as much is lent as the line says.
 fn substitute_on(
     list: i32,
@@ -94,14 +100,8 @@ fn substitute_on(
 ) -> bool {
     let room = part_of_bytes(paper, line.output_length());
     match calls::substitute(text, tag, first, second, link, table, &mut paper[..room]) {
-        Written::Bytes(n) => {
-            let is_there = is_written(list, line, paper, n);
-            both(is_there, is_right(line, Answer::none()))
-        }
-        Written::Refused(why) => {
-            let is_there = is_written(list, line, paper, 0);
-            both(is_there, is_right(line, of_refusal(why)))
-        }
+        Written::Bytes(n) => is_told(list, line, paper, n, Answer::none()),
+        Written::Refused(why) => is_told(list, line, paper, 0, of_refusal(why)),
     }
 }
 
@@ -120,6 +120,65 @@ pub fn substitute(
         list,
         line,
         text,
+        tag,
+        first,
+        second,
+        link,
+        table,
+        &mut paper,
+    )
+}
+
+// Simplifies on a paper of which as much is lent as the line says.
+fn simplify_on(
+    list: i32,
+    line: Line,
+    text: &[u8],
+    sheet: &[u8],
+    tag: &mut [u64],
+    first: &mut [u64],
+    second: &mut [u64],
+    link: &mut [u64],
+    table: &mut [u64; 8192],
+    paper: &mut [u8],
+) -> bool {
+    let limit = line.limit;
+    let room = part_of_bytes(paper, line.output_length());
+    match calls::simplify(
+        text,
+        sheet,
+        limit,
+        tag,
+        first,
+        second,
+        link,
+        table,
+        &mut paper[..room],
+    ) {
+        Simplified::Bytes { bytes, calls } => {
+            is_told(list, line, paper, bytes, Answer::counted(calls))
+        }
+        Simplified::Refused(why) => is_told(list, line, paper, 0, of_refusal(why)),
+    }
+}
+
+pub fn simplify(
+    list: i32,
+    line: Line,
+    text: &[u8],
+    sheet: &[u8],
+    tag: &mut [u64],
+    first: &mut [u64],
+    second: &mut [u64],
+    link: &mut [u64],
+    table: &mut [u64; 8192],
+) -> bool {
+    let mut paper = [BLANK; 32768];
+    simplify_on(
+        list,
+        line,
+        text,
+        sheet,
         tag,
         first,
         second,

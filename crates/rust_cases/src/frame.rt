@@ -1,8 +1,8 @@
-// A line of the list of cases: two letters and ten fields of 16 digits, parted by tabs. What they stand for is said in
+// A line of the list of cases: two letters and eleven fields of 16 digits, parted by tabs. What they stand for is said in
 // tests/rust/README.md.
 use super::answer::Answer;
 
-const LENGTH: usize = 173;
+const LENGTH: usize = 190;
 
 pub struct Line {
     pub kind: u8,
@@ -11,6 +11,7 @@ pub struct Line {
     pub texts: u64,
     pub outputs: u64,
     pub wanted: Answer,
+    pub limit: u64,
 }
 
 impl Line {
@@ -23,6 +24,7 @@ impl Line {
             texts: 0,
             outputs: 0,
             wanted: Answer::none(),
+            limit: 0,
         }
     }
 
@@ -88,12 +90,13 @@ fn line_of(bytes: &[u8]) -> Line {
             c: number(&bytes[139..155]),
             d: number(&bytes[156..172]),
         },
+        limit: number(&bytes[173..189]),
     }
 }
 
 // The next line of the list, or none where there is no whole line.
 pub fn next_line(list: i32) -> Line {
-    let mut bytes = [0u8; 173];
+    let mut bytes = [0u8; 190];
     let n = io::read_full(list, &mut bytes);
     line_of(&bytes[..n])
 }

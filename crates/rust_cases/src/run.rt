@@ -22,6 +22,7 @@ fn by_kind(
         b'e' => ask::evaluate(line, text, sheet, tag, first, second, link, table),
         b's' => ask::substitute(list, line, text, tag, first, second, link, table),
         b'r' => ask::to_real(line, text, tag, first, second, link, table),
+        b'z' => ask::simplify(list, line, text, sheet, tag, first, second, link, table),
         _ => false,
     }
 }
