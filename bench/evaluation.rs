@@ -1,5 +1,6 @@
 // Times the crate evaluation_timed against the Rust's own `evaluate` (the library of tests/rust/oracle) on the same
 // trees and values. bench/run builds it; an argument asks for more rounds.
+use common::{Random, listing, now, quartiles};
 use num_complex::Complex64;
 use oracle::{
     expression::{EvaluationError, Expression, ExpressionFunction, InfixOperator, PrefixOperator},
@@ -7,6 +8,8 @@ use oracle::{
     trace::{Asked, Trace},
 };
 use std::{collections::HashMap, fmt::Write, hint::black_box};
+
+mod common;
 
 const TABLE: usize = 8192;
 const APART: usize = 512; // words between two tables, so that they do not fall on the same lines of a cache
@@ -33,7 +36,6 @@ unsafe extern "C" {
         first: *mut u64, first_len: usize, second: *mut u64, second_len: usize, link: *mut u64, link_len: usize,
         table: *mut u64, value: *mut u64, value_len: usize,
     ) -> u64;
-    safe fn clock_gettime(clock: i32, seconds_and_nanoseconds: &mut [i64; 2]) -> i32;
 }
 
 // ---- what is evaluated
@@ -66,30 +68,8 @@ const MIXES: [Mix; 6] = [
     Mix { name: "full sheet", variables: 256, cells: 128, ..FEW },
 ];
 
-// Marsaglia's xorshift of 64 bits, and the trees that are drawn from it.
-struct Random(u64);
-
+// The trees' nodes.
 impl Random {
-    fn next(&mut self) -> u64 {
-        self.0 ^= self.0 << 13;
-        self.0 ^= self.0 >> 7;
-        self.0 ^= self.0 << 17;
-        self.0
-    }
-
-    fn below(&mut self, n: usize) -> usize {
-        ((self.next() >> 11) % n as u64) as usize
-    }
-
-    // From a half to 2.
-    fn real(&mut self) -> f64 {
-        0.5 + 1.5 * (self.below(1 << 52) as f64 / (1u64 << 52) as f64)
-    }
-
-    fn number(&mut self) -> Complex64 {
-        Complex64::new(self.real(), self.real())
-    }
-
     fn leaf(&mut self, mix: Mix) -> Node {
         match if mix.bound { self.below(10) } else { 0 } {
             0..3 => Node::Number(self.number()),
@@ -163,23 +143,6 @@ fn grown(random: &mut Random, mix: Mix, size: usize) -> Vec<Node> {
 
 // ---- texts
 
-fn listing(nodes: &[Node]) -> Vec<u8> {
-    let mut text = String::new();
-    for node in nodes {
-        match node {
-            Node::Number(z) => writeln!(text, "n\t{:016X}\t{:016X}", z.re.to_bits(), z.im.to_bits()),
-            Node::Pi => writeln!(text, "p"),
-            Node::Variable(v) => writeln!(text, "v\t{v}"),
-            Node::Cell(r, i) => writeln!(text, "m\t{r}\t{i}"),
-            Node::Function(f, a) => writeln!(text, "f\t{f}\t{a}"),
-            Node::Prefix(o, a) => writeln!(text, "u\t{o}\t{a}"),
-            Node::Infix(o, a, b) => writeln!(text, "b\t{o}\t{a}\t{b}"),
-        }
-        .unwrap();
-    }
-    text.into_bytes()
-}
-
 // What the Rust is handed, and the v and m lines of the same.
 struct Values {
     variables: HashMap<String, Complex64>,
@@ -210,13 +173,7 @@ impl Values {
     }
 
     fn sheet(&self, asked: &[Asked]) -> Vec<u8> {
-        let mut text = self.text.clone();
-        for a in asked {
-            let name = ["sin", "cos", "exp", "sqrt", "pow"][a.operation as usize - 1];
-            let (operands, z) = (a.operands.map(|x| format!("{x:016X}")).join("\t"), a.value());
-            writeln!(text, "t\t{name}\t{operands}\t{:016X}\t{:016X}", z.re.to_bits(), z.im.to_bits()).unwrap();
-        }
-        text.into_bytes()
+        (self.text.clone() + &common::rows(asked)).into_bytes()
     }
 }
 
@@ -271,10 +228,10 @@ impl Job {
         let mut trace = Trace::new(&values.variables, &values.memory);
         let expressions: Vec<Expression> = drawn.iter().map(|n| (**trees(n).last().unwrap()).clone()).collect();
         expressions.iter().for_each(|e| assert!(trace.value(e).is_ok()));
-        if trace.asked.len() > 256 || trace.asked.iter().any(|a| a.is_corner()) {
+        if trace.asks.list.len() > 256 || trace.asks.list.iter().any(|a| a.is_corner()) {
             return None;
         }
-        let sheet = values.sheet(&trace.asked);
+        let sheet = values.sheet(&trace.asks.list);
         let (values_again, table) = (values.copy(), vec![u64::MAX; TABLE + APART]);
         let mut job = Job { values_again, values, sheet, table, rows: [0; 3], trees: Vec::new() };
         for (nodes, rust) in drawn.iter().zip(expressions) {
@@ -349,19 +306,6 @@ impl Work {
 }
 
 // ---- times
-
-// This thread's processor time in seconds: Linux's CLOCK_THREAD_CPUTIME_ID.
-fn now() -> f64 {
-    let mut t = [0, 0];
-    assert_eq!(clock_gettime(3, &mut t), 0);
-    t[0] as f64 + t[1] as f64 * 1e-9
-}
-
-fn quartiles(x: impl Iterator<Item = f64>) -> [f64; 3] {
-    let mut sorted: Vec<f64> = x.collect();
-    sorted.sort_by(f64::total_cmp);
-    [1, 2, 3].map(|q| sorted[(sorted.len() - 1) * q / 4])
-}
 
 fn drawn(random: &mut Random, mix: Mix, size: usize) -> Vec<Job> {
     let together = if mix.functions { (SHEET / size).max(1) } else { NODES / size };

@@ -18,7 +18,7 @@ use store::memory::put;
 
 // The root, the count of nodes and the counts of variables, cells and function values, 12 bits each and 13 for the
 // nodes; a refusal's number above them.
-fn packed(job: Job) -> u64
+pub fn packed(job: Job) -> u64
     ensures { λ r. ⌜ r ≡ jobOf job ⌝ }
 {
     match job {

@@ -1,0 +1,2 @@
+-- What the contracts of `simplification_timed` cite.
+pub mod Packed
