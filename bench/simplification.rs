@@ -17,7 +17,7 @@ const OUT: usize = 1 << 16; // more bytes than a listing of 1024 lines has
 const SIZES: [usize; 6] = [5, 20, 60, 200, 500, 1000];
 const NODES: usize = 2000; // of the trees of a round
 const SHEET: usize = 100; // nodes of the trees that share a sheet
-const ROUNDS: usize = 51; // at the least
+const ROUNDS: usize = 101;
 const OTHERS: usize = 231; // nodes of the trees that fill a store
 const SEED: u64 = 0xA076_1D64_78BD_642F;
 
@@ -80,7 +80,7 @@ impl Random {
         Node::Infix(operators[self.below(operators.len())], a, b)
     }
 
-    // One in nine operations of the random trees is a function.
+    // Half of the random trees' operations on one operand are functions.
     fn one(&mut self, shape: Shape, a: usize) -> Node {
         use ExpressionFunction::*;
         if shape == Shape::Random && self.below(2) == 0 {
