@@ -1,2 +1,2 @@
 -- The definitions that the contracts of `rack` cite.
-pub mod Parting
+pub mod Words

@@ -1,19 +1,8 @@
 // The command `evaluate`: the value of the listing's expression under the sheet that follows after an empty line.
-ghost use mathlib.Core.Path.{_≡_};
-ghost use lib.ListN.{drop};
-use super::input::listing_length;
 use super::say;
 use calls::Evaluated;
-
-// What follows after the line feed of the empty line.
-fn sheet_of(rest: &[u8]) -> &[u8]
-    ensures { λ r. ⌜ now r ≡ drop 1 (now (rest .entry)) ⌝ }
-{
-    if rest.len() == 0 {
-        return rest;
-    }
-    &rest[1..]
-}
+use console::input::listing_length;
+use console::input::sheet_of;
 
 pub fn run(
     text: &[u8],

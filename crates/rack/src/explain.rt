@@ -1,5 +1,6 @@
-// What is said on standard error: a sentence on why a job has no answer, and where. Lines and steps count from 1 here.
-use super::say::write_name;
+// What is said on standard error: a sentence on why a job has no answer, and where, or on how many calls an answer took.
+// Lines and steps count from 1 here.
+use console::line::print_name;
 use expression::refusal::Operation;
 use expression::refusal::Refusal;
 use libc::STDERR_FILENO;
@@ -56,7 +57,7 @@ fn long_sheet(line: u64) {
 
 fn need(operation: Operation) {
     words(b"The sheet has no row for ");
-    write_name(STDERR_FILENO, operation);
+    print_name(STDERR_FILENO, operation);
     words(
         b" of the operands printed: add a t row with this name, the four fields and the value.\n",
     );
@@ -101,6 +102,13 @@ pub fn too_long() {
     words(b"The input is too long: it may have 262,144 bytes.\n");
 }
 
-pub fn unread() {
-    words(b"The standard input could not be read to its end.\n");
+// How many simplify calls a result took.
+pub fn calls(count: u64) {
+    words(b"The expression was simplified in ");
+    io::print_decimal(STDERR_FILENO, count);
+    if count == 1 {
+        words(b" call.\n");
+    } else {
+        words(b" calls.\n");
+    }
 }

@@ -16,6 +16,9 @@ fn commands() {
     line(
         b"  real        reads a listing; prints the real number that its expression is, if it is a number or pi",
     );
+    line(
+        b"  simplify    reads what evaluate reads; prints the listing simplified at the LIMIT, a number from 0 to 10, or at 10",
+    );
 }
 
 fn answers() {
@@ -28,7 +31,7 @@ fn answers() {
 }
 
 pub fn print() {
-    line(b"use: ./run rack COMMAND < JOB, where COMMAND is one of:");
+    line(b"use: ./run rack COMMAND [LIMIT] < JOB, where COMMAND is one of:");
     commands();
     answers();
     line(

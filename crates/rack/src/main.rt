@@ -3,15 +3,17 @@
 use command::Command;
 use command::Given;
 use command::given_command;
-use input::Input;
+use console::input;
+use console::input::Input;
 
 mod command;
 mod evaluate;
 mod explain;
 mod help;
-mod input;
+mod limit;
 mod real;
 mod say;
+mod simplify;
 mod substitute;
 
 // A byte more than an input may have, so that a longer one shows.
@@ -30,6 +32,7 @@ fn obey(
         Command::Evaluate => evaluate::run(text, tag, first, second, link, table),
         Command::Substitute => substitute::run(text, tag, first, second, link, table),
         Command::Real => real::run(text, tag, first, second, link, table),
+        Command::Simplify(limit) => simplify::run(text, limit, tag, first, second, link, table),
     }
 }
 
@@ -64,6 +67,6 @@ fn main() {
             run(command, &space[..n]);
         }
         Input::TooLong => say::too_long(),
-        Input::Failed => explain::unread(),
+        Input::Failed => input::say_unread(),
     }
 }

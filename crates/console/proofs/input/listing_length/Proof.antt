@@ -1,4 +1,4 @@
--- `rack::input::listing_length` meets its contract. The invariant: `before` is the byte before this place, and no empty line stands
+-- `listing_length` meets its contract. The invariant: `before` is the byte before this place, and no empty line stands
 -- at a place that was passed. Assumes nothing.
 use Prim.Native.Nat.{ℕ, _≤_, _<_, _-_}
 use mathlib.Core.Path.{_≡_, refl, sym, _∙_}
@@ -10,9 +10,9 @@ use lib.ListN.{length, getD}
 use lib.Seq.{length-take-le}
 use borrow.Author.Count.{below-more}
 use borrow.Author.Needs.{needs}
-use Rattle.rack.specs.Parting.{EmptyLine}
-use Rattle.rack.proofs.input.listing_length.Statement.{statement}
-use Rattle.rack.proofs.input.listing_length.Tie as tie
+use Rattle.console.specs.Parting.{EmptyLine}
+use Rattle.console.proofs.input.listing_length.Statement.{statement}
+use Rattle.console.proofs.input.listing_length.Tie as tie
 
 abbrev Inv-loop : tie.InvT-loop
 Inv-loop text before₀ at₀ before at =

@@ -1,12 +1,12 @@
--- `rack::evaluate::sheet_of` meets its contract: all but the first byte, if there is one. Assumes nothing.
+-- `sheet_of` meets its contract: all but the first byte, if there is one. Assumes nothing.
 use Prim.Native.Nat.{_≤_, _-_}
 use mathlib.Core.Path.{sym, _∙_}
 use native.Mathlib.Omega.{arith}
 use lib.ListN.{length, drop, length-drop, drop-of-length-le}
 use lib.Seq.{take-all}
 use borrow.Author.Needs.{needs}
-use Rattle.rack.proofs.evaluate.sheet_of.Statement.{statement}
-use Rattle.rack.proofs.evaluate.sheet_of.Tie as tie
+use Rattle.console.proofs.input.sheet_of.Statement.{statement}
+use Rattle.console.proofs.input.sheet_of.Tie as tie
 
 returns : tie.Need-returns
 returns c =

@@ -1,10 +1,10 @@
--- `rack::input::read` is safe and ends: each turn reads a byte at least, and the slice stays as long as it is. Assumes nothing.
+-- `read` is safe and ends: each turn reads a byte at least, and the slice stays as long as it is. Assumes nothing.
 use Prim.Native.Nat.{_≤_, _-_}
 use mathlib.Core.Path.{_≡_}
 use lib.ListN.{length}
 use borrow.Author.Needs.{needs}
-use Rattle.rack.proofs.input.read.Statement.{statement}
-use Rattle.rack.proofs.input.read.Tie as tie
+use Rattle.console.proofs.input.read.Statement.{statement}
+use Rattle.console.proofs.input.read.Tie as tie
 
 abbrev Inv-loop : tie.InvT-loop
 Inv-loop text₀ done₀ text done = (done ≤ length text) × (length text ≡ length text₀)

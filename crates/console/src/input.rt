@@ -1,6 +1,10 @@
 // The job on standard input: reading it to its end, and where its listing and its sheet part.
+ghost use mathlib.Core.Path.{_≡_};
+ghost use Prim.Native.Nat.{min};
+ghost use lib.ListN.{length, drop};
 ghost use Rattle.io.specs.Counts.{Counts};
-ghost use Rattle.rack.specs.Parting.{Parted};
+ghost use Rattle.console.specs.Parting.{Parted};
+use libc::STDERR_FILENO;
 use libc::STDIN_FILENO;
 
 const LF: u8 = b'\n';
@@ -31,6 +35,7 @@ pub fn read(text: &mut [u8]) -> Input {
 // As much of a slice as n says, at most its length.
 pub fn part(s: &[u8], n: usize) -> usize
     ensures { λ r. ⌜ Counts r (now (s .entry)) ⌝ }
+    ensures least { λ r. ⌜ r ≡ min n (length (now (s .entry))) ⌝ }
 {
     if n < s.len() { n } else { s.len() }
 }
@@ -52,4 +57,22 @@ pub fn listing_length(text: &[u8]) -> usize
         at += 1;
     }
     at
+}
+
+// The sheet: what follows after the line feed of the empty line.
+pub fn sheet_of(rest: &[u8]) -> &[u8]
+    ensures { λ r. ⌜ now r ≡ drop 1 (now (rest .entry)) ⌝ }
+{
+    if rest.len() == 0 {
+        return rest;
+    }
+    &rest[1..]
+}
+
+// The sentence on standard error for an input that failed.
+pub fn say_unread() {
+    io::write_all(
+        STDERR_FILENO,
+        b"The standard input could not be read to its end.\n",
+    );
 }

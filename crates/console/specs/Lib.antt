@@ -1,0 +1,3 @@
+-- The definitions that the contracts of `console` cite.
+pub mod Parting
+pub mod Answers

@@ -1,0 +1,106 @@
+// The lines of the answers: fields that are parted by tabs, written at the start of an output that has room for the
+// longest of them.
+ghost use mathlib.Core.List.{[], _∷_, _++_};
+ghost use Prim.Native.Nat.{_+_, _≤_};
+ghost use lib.ListN.{length};
+ghost use Rattle.io.specs.Counts.{Counts};
+ghost use Rattle.complex.specs.Bits.{bitsOf};
+ghost use Rattle.text.specs.Writing.{inHex, Put};
+ghost use Rattle.console.specs.Answers.{operationName, valueLine, realLine, refusedLine, needLine, refusalLine};
+use complex::Complex;
+use complex::bits::to_bits;
+use expression::refusal::Operation;
+use expression::refusal::Refusal;
+use text::writing::write_byte;
+use text::writing::write_bytes;
+use text::writing::write_decimal_field;
+use text::writing::write_hex_field;
+
+const TAB: u8 = b'\t';
+
+const LF: u8 = b'\n';
+
+// The room for a line. The longest has 78 bytes.
+pub const ROOM: usize = 96;
+
+// The name of a function value.
+fn write_name(out: &mut [u8], at: usize, operation: Operation) -> usize
+    requires { ⌜ at + length (operationName operation) ≤ length (now out) ⌝ }
+    ensures { λ r. ⌜ Put (now (out .entry)) at (operationName operation) r (now (out .exit)) ⌝ }
+{
+    match operation {
+        Operation::Sine => write_bytes(out, at, b"sin"),
+        Operation::Cosine => write_bytes(out, at, b"cos"),
+        Operation::Exponent => write_bytes(out, at, b"exp"),
+        Operation::SquareRoot => write_bytes(out, at, b"sqrt"),
+        Operation::Power => write_bytes(out, at, b"pow"),
+    }
+}
+
+// The name alone, on either output. Answers as io::write_all does.
+pub fn print_name(file: i32, operation: Operation) -> bool {
+    let mut name = [0u8; 4];
+    let n = write_name(&mut name, 0, operation);
+    io::write_all(file, &name[..n])
+}
+
+// The two parts of a number, as two fields.
+fn write_parts(out: &mut [u8], at: usize, z: Complex, stop: u8) -> usize
+    requires { ⌜ at + 34 ≤ length (now out) ⌝ }
+    ensures { λ r. ⌜ Put (now (out .entry)) at ((inHex (bitsOf (z .re)) ++ (9 ∷ [])) ++ (inHex (bitsOf (z .im)) ++ (stop ∷ []))) r (now (out .exit)) ⌝ }
+{
+    let next = write_hex_field(out, at, to_bits(z.re), TAB);
+    write_hex_field(out, next, to_bits(z.im), stop)
+}
+
+pub fn write_value(out: &mut [u8], z: Complex) -> usize
+    requires { ⌜ 96 ≤ length (now out) ⌝ }
+    ensures { λ r. ⌜ Put (now (out .entry)) 0 (valueLine z) r (now (out .exit)) ⌝ }
+    ensures within { λ r. ⌜ Counts r (now (out .exit)) ⌝ }
+{
+    let next = write_bytes(out, 0, b"value\t");
+    write_parts(out, next, z, LF)
+}
+
+pub fn write_real(out: &mut [u8], x: f64) -> usize
+    requires { ⌜ 96 ≤ length (now out) ⌝ }
+    ensures { λ r. ⌜ Put (now (out .entry)) 0 (realLine x) r (now (out .exit)) ⌝ }
+    ensures within { λ r. ⌜ Counts r (now (out .exit)) ⌝ }
+{
+    let next = write_bytes(out, 0, b"real\t");
+    write_hex_field(out, next, to_bits(x), LF)
+}
+
+pub fn write_refused(out: &mut [u8], number: u64, place: u64) -> usize
+    requires { ⌜ 96 ≤ length (now out) ⌝ }
+    ensures { λ r. ⌜ Put (now (out .entry)) 0 (refusedLine number place) r (now (out .exit)) ⌝ }
+    ensures within { λ r. ⌜ Counts r (now (out .exit)) ⌝ }
+{
+    let p = write_bytes(out, 0, b"refused\t");
+    let q = write_decimal_field(out, p, number, TAB);
+    write_decimal_field(out, q, place, LF)
+}
+
+fn write_need(out: &mut [u8], operation: Operation, x: Complex, y: Complex) -> usize
+    requires { ⌜ 96 ≤ length (now out) ⌝ }
+    ensures { λ r. ⌜ Put (now (out .entry)) 0 (needLine operation x y) r (now (out .exit)) ⌝ }
+    ensures within { λ r. ⌜ Counts r (now (out .exit)) ⌝ }
+{
+    let p = write_bytes(out, 0, b"need\t");
+    let q = write_name(out, p, operation);
+    let r = write_byte(out, q, TAB);
+    let s = write_parts(out, r, x, TAB);
+    write_parts(out, s, y, LF)
+}
+
+// The refusal's number and place; of a function value that is lacking its name and its operands.
+pub fn write_refusal(out: &mut [u8], why: Refusal) -> usize
+    requires { ⌜ 96 ≤ length (now out) ⌝ }
+    ensures { λ r. ⌜ Put (now (out .entry)) 0 (refusalLine why) r (now (out .exit)) ⌝ }
+    ensures within { λ r. ⌜ Counts r (now (out .exit)) ⌝ }
+{
+    let Refusal::Need(operation, x, y) = why else {
+        return write_refused(out, why.number(), why.place());
+    };
+    write_need(out, operation, x, y)
+}

@@ -1,0 +1,40 @@
+// The command `simplify`: the listing of the expression, simplified at a limit under the sheet that follows after an
+// empty line.
+use super::explain;
+use super::say;
+use calls::Simplified;
+use console::input::listing_length;
+use console::input::sheet_of;
+
+pub fn run(
+    text: &[u8],
+    limit: u64,
+    tag: &mut [u64],
+    first: &mut [u64],
+    second: &mut [u64],
+    link: &mut [u64],
+    table: &mut [u64; 8192],
+) {
+    let n = listing_length(text);
+    let sheet = sheet_of(&text[n..]);
+    // As much as 1024 lines of the longest form take.
+    let mut out = io::large_buffer();
+    let answer = calls::simplify(
+        &text[..n],
+        sheet,
+        limit,
+        tag,
+        first,
+        second,
+        link,
+        table,
+        &mut out,
+    );
+    match answer {
+        Simplified::Bytes { bytes, calls } => {
+            say::listing(&out, bytes);
+            explain::calls(calls);
+        }
+        Simplified::Refused(why) => say::refused(why),
+    }
+}
