@@ -5,7 +5,7 @@ use Prim.Native.Nat.{ℕ, _+_, _≤_, _<_}
 use native.Mathlib.Omega.{arith}
 use lib.Ieee.{Float}
 use lib.ListN.{length, take, drop, length-append}
-use lib.Seq.{length-take-le, sets-eq}
+use lib.Seq.{length-take-le, sets-eq, take-append-seam}
 use denote.Enum.Declared.{tagOf}
 use types.Run.{OneOf, miss}
 use Rattle.io.specs.Counts.{Counts}
@@ -21,13 +21,22 @@ use Rattle.console.specs.Answers.{operationName, valueLine, realLine, re
 
 -- ---- the start of an output
 
+abbrev pub Line : (entry bytes : List ℕ) (r : ℕ) (exit : List ℕ) → Type 0
+Line entry bytes r exit = Put entry 0 bytes r exit × Counts r exit
+
 pub put-counts : {e x xs : List ℕ} {r : ℕ} → Put e 0 xs r x → length xs ≤ length e → Counts r x
 put-counts {e} {x} {xs} {r} p h =
     let f : r ≤ length x = omega (arith, p .place, put-length p, h) in
     (f, sym (length-take-le r x f))
 
-pub put-line : {e x xs : List ℕ} {r : ℕ} → Put e 0 xs r x → length xs ≤ 96 → 96 ≤ length e → Put e 0 xs r x × Counts r x
+pub put-line : {e x xs : List ℕ} {r : ℕ} → Put e 0 xs r x → length xs ≤ 96 → 96 ≤ length e → Line e xs r x
 put-line p h o = (p, put-counts p (omega (arith, h, o)))
+
+pub stands : {e x xs : List ℕ} {r : ℕ} → Line e xs r x → take r x ≡ xs
+stands {e} {x} {xs} {r} (p, k) =
+    let z : r ≡ length xs = omega (arith, p .place) in
+    let f : 0 + length xs ≤ length e = omega (arith, z, k .0, put-length p) in
+    rw (z, p .stored, sets-eq xs e 0 f) (take-append-seam xs (drop (0 + length xs) e))
 
 -- ---- pieces
 
@@ -117,9 +126,6 @@ is-placed Refusal.NotANumber k = refl
 is-placed Refusal.OutRoom k = refl
 is-placed Refusal.LongTape k = refl
 is-placed (Refusal.BadTape step) k = refl
-
-abbrev pub Line : (entry bytes : List ℕ) (r : ℕ) (exit : List ℕ) → Type 0
-Line entry bytes r exit = Put entry 0 bytes r exit × Counts r exit
 
 pub placed : (why : Refusal) {number place r : ℕ} {e x : List ℕ}
     → OneOf (0 ∷ 1 ∷ 2 ∷ 3 ∷ 4 ∷ 5 ∷ 6 ∷ 7 ∷ 9 ∷ 10 ∷ 11 ∷ 12 ∷ 13 ∷ 14 ∷ []) (tagOf the-type why) → number ≡ numberOf why → place ≡ placeOf why

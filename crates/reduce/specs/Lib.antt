@@ -1,0 +1,2 @@
+-- The definitions that the contracts of `reduce` cite.
+pub mod Reducing
