@@ -1,13 +1,16 @@
 #!/bin/sh
-# tests/examples.sh: runs every job under examples/ through ./run rack, with its folder's name as the command, and compares what is
-# printed, the exit status, and whether something is said on standard error. The last line counts; the exit status is 0 if all agree.
+# tests/examples.sh: runs every job under examples/ through ./run rack, and compares what is printed, the exit status, and how many
+# lines are said on standard error. A job's words for rack are in its file words, or else its folder's name. What is simplified at
+# the usual limit goes through ./run reduce too. The last line counts; the exit status is 0 if all agree.
 set -eu
 cd "$(dirname "$0")/.."
 scratch=$(mktemp -d)
 trap 'rm -rf "$scratch"' EXIT
 
-# What the proving says, if the program is still to be made, is not the program's. Without a command the status is 2.
+# What the proving says, if a program is still to be made, is not the program's. Without a command the status of rack is 2, and
+# that of reduce, which has no listing, 1.
 ./run rack </dev/null >"$scratch/made" 2>&1 || [ $? -eq 2 ] || { cat "$scratch/made"; exit 1; }
+./run reduce </dev/null >"$scratch/made" 2>&1 || [ $? -eq 1 ] || { cat "$scratch/made"; exit 1; }
 
 # The exit status that goes with what a job has to print.
 status_of() {
@@ -17,20 +20,35 @@ status_of() {
     esac
 }
 
-# Runs one job, and says what differs.
+words_of() {
+    if [ -f "$1/words" ]; then cat "$1/words"; else basename "$(dirname "$1")"; fi
+}
+
+# Runs a job by a program and its words, and says what differs: try JOB LINES PROGRAM [WORDS], LINES on standard error.
 try() {
-    command=$(basename "$(dirname "$1")") wanted=$(status_of "$1/expected") status=0
-    ./run rack "$command" <"$1/job" >"$scratch/printed" 2>"$scratch/said" || status=$?
-    cmp "$scratch/printed" "$1/expected" || return 1
-    [ "$status" -eq "$wanted" ] || { echo "$1: exit status $status, not $wanted"; return 1; }
+    job=$1 lines=$2 wanted=$(status_of "$1/expected") status=0
+    shift 2
+    ./run "$@" <"$job/job" >"$scratch/printed" 2>"$scratch/said" || status=$?
+    cmp "$scratch/printed" "$job/expected" || return 1
+    [ "$status" -eq "$wanted" ] || { echo "$job: exit status $status, not $wanted"; return 1; }
     said=$(wc -l <"$scratch/said")
-    [ "$said" -eq "$wanted" ] || { echo "$1: $said lines on standard error, not $wanted"; return 1; }
+    [ "$said" -eq "$lines" ] || { echo "$job: $said lines on standard error, not $lines"; return 1; }
+}
+
+# rack says a sentence where there is no answer, and how many calls simplifying took; reduce says nothing.
+try_all() {
+    words=$(words_of "$1")
+    case $words in
+        simplify) try "$1" 1 rack $words && try "$1" 0 reduce ;;
+        simplify*) try "$1" 1 rack $words ;;
+        *) try "$1" "$(status_of "$1/expected")" rack $words ;;
+    esac
 }
 
 ran=0 failed=0
-for job in examples/*/*/job; do
+for each in examples/*/*/job; do
     ran=$((ran + 1))
-    try "$(dirname "$job")" || { echo "FAILED $(dirname "$job")"; failed=$((failed + 1)); }
+    try_all "$(dirname "$each")" || { echo "FAILED $(dirname "$each")"; failed=$((failed + 1)); }
 done
 echo "$ran examples, $failed failed"
-[ "$failed" -eq 0 ] && [ -f "$job" ]
+[ "$failed" -eq 0 ] && [ -f "$each" ]

@@ -17,7 +17,7 @@ fn commands() {
         b"  real        reads a listing; prints the real number that its expression is, if it is a number or pi",
     );
     line(
-        b"  simplify    reads what evaluate reads; prints the listing simplified at the LIMIT, a number from 0 to 10, or at 10",
+        b"  simplify    reads what evaluate reads; prints the listing simplified at LIMIT, 0 to 10, which is 10 if left out",
     );
 }
 
