@@ -1,20 +1,19 @@
 -- What a test of a node or of its operands shows. Assumes nothing.
-use mathlib.Core.Path.{_≡_, refl, sym, ap, _∙_, subst}
+use mathlib.Core.Path.{_≡_, refl, sym, _∙_, subst}
 use mathlib.Core.Bool.{Bool, true, false, not}
 use Prim.Native.Nat.{ℕ, _<_}
 use native.Mathlib.Omega.{arith}
 use lib.Dec.{T}
 use mathlib.Core.List.{List}
 use Rattle.complex.specs.declared.Complex.{Complex}
-use Rattle.expression.specs.declared.InfixOperator.{InfixOperator}
-use Rattle.expression.specs.Trees.{Tree, Leaf, number, pi, variable, cell, leaf, functionCall, prefixed, infixed}
+use Rattle.expression.specs.Trees.{Tree, number, pi, variable, cell, leaf, functionCall, prefixed, infixed}
 use Rattle.expression.specs.Alike.{equal}
 use Rattle.store.specs.declared.node.Expression.{Expression}
 use Rattle.store.specs.Nodes.{expressionOf, Within}
 use Rattle.store.specs.Memory.{Memory, memory, fieldsAt, treeAt, treeOf}
-use Rattle.store.specs.Held.{Holds, ComparesIn, Compares}
+use Rattle.store.specs.Held.{Holds, Compares}
 use Rattle.store.proofs.Stored.{read-node}
-use Rattle.arms.specs.Looks.{both, either, isNumberOf, isNumber, numberIn, isNegation, isInfix, left, right, mulMatches}
+use Rattle.arms.specs.Looks.{both, either, isNumberOf, isNumber, numberIn}
 use Rattle.arms.specs.Choosing.{At, Sits}
 
 pub never : {A : Type 0} → false ≡ true → A

@@ -1,20 +1,19 @@
 -- What the functions that choose ensure: an arm on nodes is a plan on trees. Only connecting.
 use mathlib.Core.Path.{_≡_}
-use mathlib.Core.Bool.{Bool, true, _&&_}
+use mathlib.Core.Bool.{Bool, true}
 use mathlib.Core.List.{List}
 use Prim.Native.Nat.{ℕ, _<_}
 use Rattle.complex.specs.Constants.{oneNumber, twoNumber}
 use Rattle.expression.specs.declared.InfixOperator.{InfixOperator}
-use Rattle.expression.specs.Trees.{Tree, number, leaf, prefixed, infixed}
+use Rattle.expression.specs.Trees.{Tree}
 use Rattle.expression.specs.declared.PrefixOperator.{PrefixOperator}
-use Rattle.expression.specs.Alike.{equal}
 use Rattle.store.specs.declared.node.Expression.{Expression}
 use Rattle.store.specs.Nodes.{Within}
 use Rattle.store.specs.Memory.{Memory, memory, treeAt, treeOf}
 use Rattle.store.specs.Held.{Holds}
 use Rattle.arms.specs.declared.Arm.{Arm}
 use Rattle.arms.specs.declared.Outer.{Outer}
-use Rattle.arms.specs.Looks.{isNegation, under, isInfix, left, right}
+use Rattle.arms.specs.Looks.{isInfix, left, right}
 use Rattle.arms.specs.Arms.{Plan, the, new, folded, called, negation, combined, S, lesser, affine, constant, sum, affineTest}
 
 -- node k, one of n, has the tree t

@@ -7,7 +7,7 @@ use Rattle.complex.specs.Zero.{isZero, isOne}
 use Rattle.expression.specs.declared.InfixOperator.{InfixOperator}
 use Rattle.expression.specs.declared.PrefixOperator.{PrefixOperator}
 use Rattle.expression.specs.Codes.{infixCode}
-use Rattle.expression.specs.Trees.{Tree, Leaf, number, pi, variable, cell, leaf, functionCall, prefixed, infixed}
+use Rattle.expression.specs.Trees.{Tree, number, pi, variable, cell, leaf, functionCall, prefixed, infixed}
 use Rattle.expression.specs.Alike.{equal}
 
 -- of two tests

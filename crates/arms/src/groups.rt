@@ -1,6 +1,6 @@
 // The arms that regroup and those that move a sign, which are the same for several operators.
 ghost use mathlib.Core.Path.{_≡_};
-ghost use Rattle.arms.specs.Looks.{isInfix, eitherInfix};
+ghost use Rattle.arms.specs.Looks.{eitherInfix};
 ghost use Rattle.arms.specs.Arms.{undone as undoneOf, undoes as undoesOf, eitherNegation, groupedRight, grouped, moved};
 ghost use Rattle.arms.specs.Choosing.{ChoosesWhere, rightInfix};
 use super::Arm;

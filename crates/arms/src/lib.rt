@@ -1,8 +1,7 @@
 // Which arm of the rule book applies to an operation whose operands are simplified: `choose_infix`, `choose_function`
 // and `choose_prefix` look at the nodes and answer a shape with its operands; nothing is built or simplified here.
 ghost use mathlib.Core.Path.{_≡_};
-ghost use Prim.Native.Nat.{ℕ};
-ghost use Rattle.store.specs.Memory.{Memory, memory};
+ghost use Rattle.store.specs.Memory.{memory};
 ghost use Rattle.arms.specs.Arms.{smaller as smallerTree, infixPlan, functionPlan, prefixPlan};
 ghost use Rattle.arms.specs.Choosing.{appliedTo, ChoosesAt, ChoosesOne, Picks};
 use complex::Complex;

@@ -1,15 +1,10 @@
 // What the arms look at in a node. A test needs the node's fields alone; what compares operands reads their classes.
 ghost use mathlib.Core.Path.{_≡_};
-ghost use lib.Dec.{eqb};
 ghost use Prim.Native.Nat.{ℕ};
-ghost use Rattle.complex.specs.Zero as Zero;
-ghost use Rattle.expression.specs.Codes.{infixCode};
-ghost use Rattle.expression.specs.Alike.{equal};
-ghost use Rattle.store.specs.Nodes.{Within};
 ghost use Rattle.store.specs.Memory.{Memory, treeOf};
 ghost use Rattle.arms.specs.Looks.{both as bothOf, either as eitherOf, isNumber, isZeroNumber, isOneNumber, numberIn, isNegation, under, isInfix, left as leftOf, right as rightOf, bothInfix, eitherInfix, beginsWith, endsWith};
 ghost use Rattle.arms.specs.Arms.{bothNumbers};
-ghost use Rattle.arms.specs.Choosing.{Tells, TellsBoth, Parts, Likens, LikensTo};
+ghost use Rattle.arms.specs.Choosing.{Tells, TellsBoth, Parts, LikensTo};
 use complex::Complex;
 use complex::constants::zero;
 use complex::zero::is_one;

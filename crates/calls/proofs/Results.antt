@@ -1,8 +1,8 @@
 -- What a call of `simplify` answers: a count within 01's bound, and a result that is stored, within the limits, and reads back. Assumes nothing.
-use mathlib.Core.Path.{_≡_, refl, sym, ap, _∙_, subst}
+use mathlib.Core.Path.{_≡_, refl, sym, ap, subst}
 use mathlib.Core.Bool.{Bool, true, false, cond, _&&_}
-use mathlib.Core.List.{List, [], _∷_, _++_}
-use Prim.Native.Nat.{ℕ, zero, suc, _+_, _≤_, _<_}
+use mathlib.Core.List.{List, [], _∷_}
+use Prim.Native.Nat.{ℕ, zero, suc, _+_, _≤_}
 use native.Mathlib.Omega.{arith}
 use borrow.Author.Tests.{ltb-false}
 use lib.Dec.{ltb, eqb}
@@ -15,7 +15,7 @@ use Rattle.text.specs.Lines as Lines
 use Rattle.text.specs.Lines.{Line, goes, stops, Whole, afterLine, atLine, lines}
 use Rattle.store.specs.declared.Added.{Added}
 use Rattle.store.specs.Storing as Storing
-use Rattle.store.specs.Storing.{Kept, nothing, State, state, Answer, gives, among, intern, recall, fresh}
+use Rattle.store.specs.Storing.{nothing, State, state, Answer, gives, among, intern, recall, fresh}
 use Rattle.store.specs.Memory.{Memory, room, trees, treeAt, stateOf}
 use Rattle.store.specs.Held.{Built}
 use Rattle.store.proofs.Stored.{stored as stored-in, limited, proper}

@@ -3,7 +3,6 @@ use mathlib.Core.Path.{_≡_, refl, sym, ap, _∙_}
 use Prim.Native.Nat.{ℕ, _<_}
 use Rattle.complex.specs.declared.Complex.{Complex}
 use Rattle.expression.specs.declared.InfixOperator.{InfixOperator}
-use Rattle.expression.specs.declared.PrefixOperator.{PrefixOperator}
 use Rattle.expression.specs.declared.refusal.Refusal.{Refusal}
 use Rattle.expression.specs.Trees.{Tree, number, leaf, functionCall, prefixed, infixed}
 use Rattle.store.specs.declared.Added.{Added}
@@ -12,10 +11,10 @@ use Rattle.store.specs.Nodes.{Within, grown}
 use Rattle.store.specs.Storing.{State, Answer, gives, refused, andThen, intern}
 use Rattle.store.specs.Memory.{Memory, treeAt, treeOf, stateOf}
 use Rattle.store.specs.Held.{Holds, Step, Built}
-use Rattle.store.proofs.Building.{older, named, turned, stays, then-node, then-refused}
+use Rattle.store.proofs.Building.{older, named, stays, then-node, then-refused}
 use Rattle.sheet.specs.Rows.{Rows}
 use Rattle.arms.specs.declared.Outer.{Outer}
-use Rattle.arms.specs.Arms.{Plan, the, new, negation, combined, S, lesser, affine, constant, smaller, minus, sum, product, quotient}
+use Rattle.arms.specs.Arms.{Plan, the, new, combined, S, lesser, affine, constant, smaller, minus, sum, product, quotient}
 use Rattle.arms.specs.Choosing.{At, appliedTo, around, regroupPlan, addedPlan, OuterIn}
 use Rattle.simplification.specs.Simplifying.{Simplifier, again, carryOut}
 

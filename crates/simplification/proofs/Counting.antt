@@ -2,16 +2,11 @@
 -- Assumes nothing.
 use mathlib.Core.Path.{_≡_, refl, ap, subst}
 use mathlib.Core.Bool.{Bool, true, false, cond}
-use mathlib.Core.List.{List, [], _∷_, _++_}
 use Prim.Native.Nat.{ℕ, zero, suc, _+_, _*_, _-_, _≤_}
 use native.Mathlib.Omega.{arith}
 use lib.Dec.{ltb}
 use lib.ListN.{length}
-use Rattle.expression.specs.declared.InfixOperator.{InfixOperator}
-use Rattle.expression.specs.declared.PrefixOperator.{PrefixOperator}
-use Rattle.expression.specs.declared.ExpressionFunction.{ExpressionFunction}
-use Rattle.expression.specs.declared.refusal.Refusal.{Refusal}
-use Rattle.expression.specs.Trees.{Tree, Leaf, number, leaf, infixed, size, depth}
+use Rattle.expression.specs.Trees.{Tree, number, leaf, infixed, size, depth}
 use Rattle.expression.specs.Limits.{largest, deepest}
 use Rattle.store.specs.Storing.{Kept, nothing, result, State, state, Answer, gives, refused, andThen, among, intern, recall, keep}
 use Rattle.sheet.specs.Rows.{Rows}

@@ -1,6 +1,6 @@
 -- 01's table of proved examples, computed. Assumes nothing.
 use mathlib.Core.Path.{_≡_, refl}
-use mathlib.Core.List.{List, [], _∷_}
+use mathlib.Core.List.{[], _∷_}
 use Prim.Native.Nat.{ℕ}
 use lib.Ieee.{add, mul, sub, div, eq, lt, neg, round, toBits, ofBits, isNan}
 use Rattle.complex.specs.declared.Complex.{Complex}
@@ -12,7 +12,7 @@ use Rattle.expression.specs.declared.PrefixOperator.{PrefixOperator}
 use Rattle.expression.specs.Trees.{Tree, leaf, number, pi, variable, prefixed, infixed, measure}
 use Rattle.expression.specs.Alike.{alikeLeaves, alike}
 use Rattle.store.specs.Storing.{Answer, gives, refused, state, fresh, andThen, among, intern, recall, keep}
-use Rattle.sheet.specs.Rows.{Rows, rows}
+use Rattle.sheet.specs.Rows.{rows}
 use Rattle.arms.specs.Looks.{both, either, isNumberOf, numberIn, isNegation, under, isInfix, left, right}
 use Rattle.arms.specs.Arms.{pick, smaller, undone, undoes, groupedRight, grouped, moved, sharing, affineSum, sumPlan, signedDifference, differencePlan, signedProduct, distributed, productPlan, signedQuotient, split, cancelled, quotientPlan, powerPlan, infixPlan, minusPlan, prefixPlan, sum, difference, product, quotient, minus}
 use Rattle.simplification.specs.Simplifying.{oneMore, counted, foldedTo, again, keeping, leafTask, taskAt, carryOut, simplifyPrefix, simplifyInfix, perform, resume, step, simplify}

@@ -1,6 +1,6 @@
 -- What is done at a node, from the operations to `simplify`: each return of the simplifiers. Assumes nothing.
 use mathlib.Core.Path.{_≡_, refl, sym, ap, _∙_, subst}
-use mathlib.Core.Bool.{Bool, true, false, cond}
+use mathlib.Core.Bool.{true, false}
 use mathlib.Core.List.{List}
 use Prim.Native.Nat.{ℕ, zero, suc, _-_, _<_}
 use lib.Dec.{T}
@@ -16,10 +16,10 @@ use Rattle.store.specs.declared.Kept.{Kept}
 use Rattle.store.specs.declared.node.Expression.{Expression}
 use Rattle.store.specs.Nodes.{grown}
 use Rattle.store.specs.Storing as Storing
-use Rattle.store.specs.Storing.{State, Answer, gives, refused, andThen, recall, keep, result, nothing, intern}
+use Rattle.store.specs.Storing.{State, Answer, gives, refused, andThen, recall, keep, result, nothing}
 use Rattle.store.specs.Memory.{Memory, memory, treeAt, treeOf, stateOf}
-use Rattle.store.specs.Held.{Holds, Step, Built, KeepsFrom, RecallsIn, KeptIn, keptSeen}
-use Rattle.store.proofs.Building.{older, named, turned, stays, refuses, then-node, then-refused}
+use Rattle.store.specs.Held.{Holds, Built, RecallsIn, KeptIn, keptSeen}
+use Rattle.store.proofs.Building.{older, named, stays, refuses, then-node, then-refused}
 use Rattle.sheet.specs.Rows.{Rows}
 use Rattle.evaluation.specs.declared.Evaluation.{Evaluation}
 use Rattle.arms.specs.declared.Arm.{Arm}
@@ -54,11 +54,7 @@ unrolled R zero t s = at-zero R gives gives (simplify R 0) (simplify R 0) (recal
 unrolled R (suc zero) t s = refl
 unrolled R (suc (suc k)) t s = λ i. step R (simplify R (once k i)) (simplify R (twice k i)) (suc (suc k)) t s
 
--- ---- one answer after another, in two operands
-
-pub one-refused : (f : Simplifier) {want : Answer} {o : Added} {why : Refusal} {n : ℕ} {m m₁ : Memory}
-    → Built want o n m m₁ → o ≡ Added.Refused why → Built (andThen want f) o n m m₁
-one-refused f b e = then-refused f b e
+-- ---- an arm, and the task of a node
 
 module _ (R : Rows) where
   -- an arm that was chosen is carried out, where the limit is 1 less

@@ -2,7 +2,7 @@
 -- keep a pi, and can become pi: proofs/Examples.antt, `pi-comes-back`.) Assumes nothing.
 use mathlib.Core.Path.{_≡_, refl, sym, ap, _∙_, subst}
 use mathlib.Core.Bool.{Bool, true, false, cond}
-use Prim.Native.Nat.{ℕ, zero, suc, _+_, max, _≤_}
+use Prim.Native.Nat.{ℕ, zero, suc, _≤_}
 use native.Mathlib.Omega.{arith}
 use lib.Dec.{ltb}
 use lib.ListN.{length}
@@ -13,14 +13,14 @@ use Rattle.expression.specs.declared.ExpressionFunction.{ExpressionFunction}
 use Rattle.expression.specs.Trees.{Tree, Leaf, number, pi, variable, cell, leaf, functionCall, prefixed, infixed, measure, size, depth}
 use Rattle.expression.specs.Alike.{equal}
 use Rattle.expression.specs.Limits.{largest, deepest}
-use Rattle.store.specs.Storing.{Kept, nothing, result, State, state, Answer, gives, refused, andThen, among, intern, recall, keep, fresh}
+use Rattle.store.specs.Storing.{Kept, nothing, result, State, state, Answer, gives, refused, andThen, among, intern, recall, keep}
 use Rattle.sheet.specs.Rows.{Rows}
 use Rattle.evaluation.specs.declared.Evaluation.{Evaluation}
 use Rattle.evaluation.specs.Evaluating.{calculateFunction, calculateInfix}
 use Rattle.arms.specs.Looks.{under, left, right}
 use Rattle.arms.specs.Arms.{Plan, smaller, infixPlan, functionPlan, prefixPlan, the, new, folded, called, negation, combined, S, lesser, affine, minus, sum, product}
-use Rattle.simplification.specs.Simplifying.{Simplifier, counted, foldedTo, again, keeping, Task, number-of-pi, itself, calling, prefixing, infixing, leafTask, taskAt, carryOut, simplifyFunctionCall, simplifyPrefix, simplifyInfix, perform, resume, step, simplify}
-use Rattle.simplification.proofs.Shapes.{Closed, Fine, Over, fine-infix, fine-function, fine-prefix}
+use Rattle.simplification.specs.Simplifying.{Simplifier, counted, foldedTo, again, keeping, leafTask, taskAt, carryOut, simplifyFunctionCall, simplifyPrefix, simplifyInfix, perform, resume, step, simplify}
+use Rattle.simplification.proofs.Shapes.{Closed, Over, fine-infix, fine-function, fine-prefix}
 
 -- no leaf is pi
 unfoldable pub Piless : Tree → Type 0

@@ -1,5 +1,4 @@
 -- What the functions on nodes ensure where the slices hold a store and the table a sheet. Only connecting.
-use mathlib.Core.Path.{_≡_}
 use Prim.Native.Nat.{ℕ, _-_, _<_}
 use mathlib.Core.Bool.{Bool, true, false}
 use mathlib.Core.List.{List}
@@ -9,7 +8,7 @@ use Rattle.expression.specs.declared.ExpressionFunction.{ExpressionFunction}
 use Rattle.store.specs.declared.Added.{Added}
 use Rattle.store.specs.declared.node.Expression.{Expression}
 use Rattle.store.specs.Nodes.{Within}
-use Rattle.store.specs.Storing.{State, Answer, gives, keep}
+use Rattle.store.specs.Storing.{State, Answer}
 use Rattle.store.specs.Memory.{Memory, memory, treeAt, treeOf, stateOf}
 use Rattle.store.specs.Held.{Holds, Built, KeepsFrom}
 use Rattle.sheet.specs.declared.Rows.{Rows as Counts}
