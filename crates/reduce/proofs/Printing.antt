@@ -1,5 +1,5 @@
 -- From what the calls answer to what is printed. Assumes nothing.
-use mathlib.Core.Path.{_≡_, sym, ap, _∙_}
+use mathlib.Core.Path.{_≡_, sym, ap, subst, _∙_}
 use Prim.Native.Nat.{ℕ, _-_, _≤_, _<_, min}
 use mathlib.Core.List.{List}
 use native.Mathlib.Omega.{arith}
@@ -8,6 +8,7 @@ use lib.ListN.{length, take, drop, length-drop}
 use lib.Seq.{take-all, take-length}
 use borrow.Author.Tests.{lt-ltb, le-ltb}
 use Rattle.io.specs.Counts.{Counts}
+use Rattle.store.specs.Memory.{Memory, memory, room}
 use Rattle.calls.specs.declared.Simplified.{Simplified}
 use Rattle.calls.specs.Calls.{simplifyCall}
 use Rattle.calls.specs.Lent.{Work, capacity}
@@ -43,8 +44,8 @@ least-of n out = elim (decLt (length out) n) [
   | no ge ↦ let z : min n (length out) ≡ n = omega arith in rw z
 ]
 
-pub too-long : {text out out′ : List ℕ} {w : Work} {r : ℕ} → 65536 < length text → Line out (refusedLine 0 0) r out′
-    → Reduces text w out r out′ × Counts r out′
+pub too-long : {text out out′ : List ℕ} {capacity′ r : ℕ} → 65536 < length text → Line out (refusedLine 0 0) r out′
+    → Reduces capacity′ text out r out′ × Counts r out′
 unfolding reduction
 too-long {text} {out} h p = (record { bytes = λ n o. rw (lt-ltb 65536 (length text) h) (stands p) }, p .1)
 
@@ -54,11 +55,21 @@ module _ {text out mid : List ℕ} {w : Work} {a : Simplified} (h : length text 
   reduced n o = rw (le-ltb 65536 (length text) h) (ap (λ x. printed (x .0) (x .1)) (s .answer n o))
 
   pub prints-listing : {bytes calls r : ℕ} → a ≡ Simplified.Bytes bytes calls → Counts r mid → r ≡ min bytes (length mid)
-      → Reduces text w out r mid × Counts r mid
+      → Reduces (capacity w) text out r mid × Counts r mid
   unfolding printed
   prints-listing {bytes} e k q = (record { bytes = λ n o. rw q (least-of bytes mid) ∙ ap (λ x. printed x mid) (sym e) ∙ reduced n o }, k)
 
   pub prints-refusal : {why : Refusal} {r : ℕ} {out′ : List ℕ} → a ≡ Simplified.Refused why → Line mid (refusalLine why) r out′
-      → Reduces text w out r out′ × Counts r out′
+      → Reduces (capacity w) text out r out′ × Counts r out′
   unfolding printed
   prints-refusal e p = (record { bytes = λ n o. stands p ∙ ap (λ x. printed x mid) (sym e) ∙ reduced n o }, p .1)
+
+-- ---- "with a store of 4096"
+
+room-4096 : (m : Memory) → 4096 ≡ length (m .tag) → 4096 ≡ length (m .first) → 4096 ≡ length (m .second) → 4096 ≡ length (m .link) → room m ≡ 4096
+unfolding room
+room-4096 m a b c d = omega (arith, a, b, c, d)
+
+pub with-4096 : (tag first second link : List ℕ) {text out out′ : List ℕ} {r : ℕ} → 4096 ≡ length tag → 4096 ≡ length first → 4096 ≡ length second → 4096 ≡ length link
+    → Reduces (room (memory tag first second link)) text out r out′ → Reduces 4096 text out r out′
+with-4096 tag first second link {text} {out} {out′} {r} a b c d p = subst (λ k. Reduces k text out r out′) (room-4096 (memory tag first second link) a b c d) p

@@ -30,6 +30,6 @@ reduction room text out n =
 pub record SimplifiesText (text : List ℕ) (w : Work) (out : List ℕ) (r : Simplified) (out′ : List ℕ) : Type 0 where
   pub answer : (n : ℕ) → Parted text n → _≡_ {A = Simplified × List ℕ} (r, out′) (simplifiedText (capacity w) text out n)
 
--- the first r bytes of the output are what is printed
-pub record Reduces (text : List ℕ) (w : Work) (out : List ℕ) (r : ℕ) (out′ : List ℕ) : Type 0 where
-  pub bytes : (n : ℕ) → Parted text n → take r out′ ≡ reduction (capacity w) text out n
+-- the first r bytes of the output are what is printed, with a store of so many nodes
+pub record Reduces (room : ℕ) (text out : List ℕ) (r : ℕ) (out′ : List ℕ) : Type 0 where
+  pub bytes : (n : ℕ) → Parted text n → take r out′ ≡ reduction room text out n

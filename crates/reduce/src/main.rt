@@ -11,22 +11,9 @@ mod reduction;
 const ROOM: usize = 65_537;
 
 fn run(text: &[u8]) {
-    let mut tag = [0; 4096];
-    let mut first = [0; 4096];
-    let mut second = [0; 4096];
-    let mut link = [0; 4096];
-    let mut table = [0; 8192];
     // As much as 1024 lines of the longest form take.
     let mut out = io::large_buffer();
-    let n = reduce(
-        text,
-        &mut tag,
-        &mut first,
-        &mut second,
-        &mut link,
-        &mut table,
-        &mut out,
-    );
+    let n = reduce(text, &mut out);
     io::write_all(STDOUT_FILENO, &out[..n]);
 }
 

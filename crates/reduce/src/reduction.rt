@@ -1,8 +1,9 @@
 // The reducer's answer to a text, as the bytes that it prints.
+ghost use mathlib.Core.Path.{_≡_};
 ghost use Prim.Native.Nat.{_≤_};
 ghost use lib.ListN.{length};
 ghost use Rattle.io.specs.Counts.{Counts};
-ghost use Rattle.calls.specs.Lent.{work};
+ghost use Rattle.calls.specs.Lent.{work, capacity};
 ghost use Rattle.reduce.specs.Reducing.{SimplifiesText, Reduces};
 use calls::Simplified;
 use console::input::listing_length;
@@ -42,8 +43,7 @@ fn simplify_text(
     )
 }
 
-// How many bytes at the start of the output are to be printed. An output of 65,536 bytes has room for every result.
-pub fn reduce(
+fn reduce_with(
     text: &[u8],
     tag: &mut [u64],
     first: &mut [u64],
@@ -53,7 +53,7 @@ pub fn reduce(
     out: &mut [u8],
 ) -> usize
     requires { ⌜ 96 ≤ length (now out) ⌝ }
-    ensures { λ r. ⌜ Reduces (now (text .entry)) (work (now (tag .entry)) (now (first .entry)) (now (second .entry)) (now (link .entry)) (now (table .entry))) (now (out .entry)) r (now (out .exit)) ⌝ }
+    ensures { λ r. ⌜ Reduces (capacity (work (now (tag .entry)) (now (first .entry)) (now (second .entry)) (now (link .entry)) (now (table .entry)))) (now (text .entry)) (now (out .entry)) r (now (out .exit)) ⌝ }
     ensures within { λ r. ⌜ Counts r (now (out .exit)) ⌝ }
 {
     if MOST < text.len() {
@@ -64,4 +64,32 @@ pub fn reduce(
         Simplified::Bytes { bytes, calls: _ } => part(out, bytes),
         Simplified::Refused(why) => write_refusal(out, why),
     }
+}
+
+fn slice_of_the_store() -> [u64; 4096]
+    ensures { λ r. ⌜ 4096 ≡ length r ⌝ }
+{
+    [0; 4096]
+}
+
+// How many bytes at the start of the output are to be printed. An output of 65,536 bytes has room for every result.
+pub fn reduce(text: &[u8], out: &mut [u8]) -> usize
+    requires { ⌜ 96 ≤ length (now out) ⌝ }
+    ensures { λ r. ⌜ Reduces 4096 (now (text .entry)) (now (out .entry)) r (now (out .exit)) ⌝ }
+    ensures within { λ r. ⌜ Counts r (now (out .exit)) ⌝ }
+{
+    let mut tag = slice_of_the_store();
+    let mut first = slice_of_the_store();
+    let mut second = slice_of_the_store();
+    let mut link = slice_of_the_store();
+    let mut table = [0; 8192];
+    reduce_with(
+        text,
+        &mut tag,
+        &mut first,
+        &mut second,
+        &mut link,
+        &mut table,
+        out,
+    )
 }

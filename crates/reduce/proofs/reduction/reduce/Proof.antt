@@ -1,39 +1,24 @@
 -- `reduce` meets its contract. Assumes nothing.
-use Rattle.reduce.proofs.Printing.{too-long, prints-listing, prints-refusal}
+use Rattle.reduce.proofs.Printing.{with-4096}
 use borrow.Author.Needs.{needs}
 use Rattle.reduce.proofs.reduction.reduce.Statement.{statement}
 use Rattle.reduce.proofs.reduction.reduce.Tie as tie
 
 returns : tie.Need-returns
-returns c = too-long (c .before .before .before .before .if1 .taken) (c .before .before .write-refused .ensures)
-
-returns-2 : tie.Need-returns-2
-returns-2 c = prints-listing (c .before .before .before .before .before .before .before .before .before .before .before .before .before .before .before .before .before .before .before .before .before .before .if1 .left) (c .before .before .before .before .before .before .before .before .before .before .before .before .before .before .before .simplify-text .ensures) (c .before .before .before .answer .given .1) (c .part .ensures .0) (c .part .ensures .1)
-
-returns-3 : tie.Need-returns-3
-returns-3 c = prints-refusal (c .before .before .before .before .before .before .before .before .before .before .before .before .before .before .before .before .before .before .before .before .before .before .before .before .if1 .left) (c .before .before .before .before .before .before .before .before .before .before .before .before .before .before .before .before .before .simplify-text .ensures) (c .before .before .before .before .before .answer2 .given .1) (c .before .before .write-refusal .ensures)
+returns c = (with-4096 (c .before .before .before .before .before .before .before .before .before .before .before .before .before .before .before .before .slice-of-the-store .result) (c .before .before .before .before .before .before .before .before .before .before .before .before .before .before .before .slice-of-the-store2 .result) (c .before .before .before .before .before .before .before .before .before .before .before .before .before .before .slice-of-the-store3 .result) (c .before .before .before .before .before .before .before .before .before .before .before .before .before .slice-of-the-store4 .result) (c .before .before .before .before .before .before .before .before .before .before .before .before .before .before .before .before .slice-of-the-store .ensures) (c .before .before .before .before .before .before .before .before .before .before .before .before .before .before .before .slice-of-the-store2 .ensures) (c .before .before .before .before .before .before .before .before .before .before .before .before .before .before .slice-of-the-store3 .ensures) (c .before .before .before .before .before .before .before .before .before .before .before .before .before .slice-of-the-store4 .ensures) (c .before .before .before .before .before .before .reduce-with .ensures .0), c .before .before .before .before .before .before .reduce-with .ensures .1)
 
 pub reduce-spec : {M : Type 1} → statement M
 reduce-spec =
     tie.close
     (tie.spec
     (λ c κs. search needs)
-    (λ c. search needs)
-    returns
     (λ c κs. search needs)
-    (λ c. search needs)
     (λ c κs. search needs)
-    (λ c. search needs)
     (λ c κs. search needs)
     (λ c. search needs)
     (λ c. search needs)
     (λ c. search needs)
     (λ c. search needs)
+    (λ c κs. search needs)
     (λ c. search needs)
-    returns-2
-    (λ c. search needs)
-    (λ c. search needs)
-    (λ c. search needs)
-    (λ c. search needs)
-    (λ c. search needs)
-    returns-3)
+    returns)
