@@ -1,5 +1,5 @@
 -- The laws that the proofs of this crate, and where `pub` of its callers, cite.
-mod Valued
-mod Replacing
+pub mod Valued
+pub mod Replacing
 mod Parts
 mod Examples

@@ -27,30 +27,30 @@ use Rattle.evaluation.proofs.Valued.{within-node, tree-of-node}
 
 -- ---- which operands a node has
 
-IsNothing : Operands → Type 0
+unfoldable pub IsNothing : Operands → Type 0
 IsNothing Operands.Nothing = Unit {0}
 IsNothing (Operands.One a) = ⊥
 IsNothing (Operands.Two a b) = ⊥
 
-IsOne : ℕ → Operands → Type 0
+unfoldable pub IsOne : ℕ → Operands → Type 0
 IsOne a Operands.Nothing = ⊥
 IsOne a (Operands.One b) = b ≡ a
 IsOne a (Operands.Two b c) = ⊥
 
-IsTwo : ℕ → ℕ → Operands → Type 0
+unfoldable pub IsTwo : ℕ → ℕ → Operands → Type 0
 IsTwo a b Operands.Nothing = ⊥
 IsTwo a b (Operands.One c) = ⊥
 IsTwo a b (Operands.Two c d) = (c ≡ a) × (d ≡ b)
 
-nothing-under : (e : Expression) → operandsOf e ≡ Operands.Nothing → IsNothing (operandsOf e)
+pub nothing-under : (e : Expression) → operandsOf e ≡ Operands.Nothing → IsNothing (operandsOf e)
 unfolding IsNothing
 nothing-under e q = subst IsNothing (sym q) tt
 
-one-under : (e : Expression) (a : ℕ) → operandsOf e ≡ Operands.One a → IsOne a (operandsOf e)
+pub one-under : (e : Expression) (a : ℕ) → operandsOf e ≡ Operands.One a → IsOne a (operandsOf e)
 unfolding IsOne
 one-under e a q = subst (IsOne a) (sym q) refl
 
-two-under : (e : Expression) (a b : ℕ) → operandsOf e ≡ Operands.Two a b → IsTwo a b (operandsOf e)
+pub two-under : (e : Expression) (a b : ℕ) → operandsOf e ≡ Operands.Two a b → IsTwo a b (operandsOf e)
 unfolding IsTwo
 two-under e a b q = subst (IsTwo a b) (sym q) (refl, refl)
 
@@ -127,7 +127,7 @@ within-rebuilt (Expression.Infix o a b) m k left last t l q = (l .0, q)
 
 -- ---- what the definition does at an operation
 
-within-one : (node : ℕ) (e : Expression) (a : ℕ) → operandsOf e ≡ Operands.One a → Within node e → a < node
+pub within-one : (node : ℕ) (e : Expression) (a : ℕ) → operandsOf e ≡ Operands.One a → Within node e → a < node
 unfolding operandsOf IsOne
 within-one node (Expression.Number z) a q w = absurd (one-under (Expression.Number z) a q)
 within-one node Expression.PiConstant a q w = absurd (one-under Expression.PiConstant a q)
@@ -137,7 +137,7 @@ within-one node (Expression.FunctionCall f b) a q w = rw (← one-under (Express
 within-one node (Expression.Prefix o b) a q w = rw (← one-under (Expression.Prefix o b) a q) w
 within-one node (Expression.Infix o b c) a q w = absurd (one-under (Expression.Infix o b c) a q)
 
-within-two : (node : ℕ) (e : Expression) (a b : ℕ) → operandsOf e ≡ Operands.Two a b → Within node e → (a < node) × (b < node)
+pub within-two : (node : ℕ) (e : Expression) (a b : ℕ) → operandsOf e ≡ Operands.Two a b → Within node e → (a < node) × (b < node)
 unfolding operandsOf IsTwo
 within-two node (Expression.Number z) a b q w = absurd (two-under (Expression.Number z) a b q)
 within-two node Expression.PiConstant a b q w = absurd (two-under Expression.PiConstant a b q)

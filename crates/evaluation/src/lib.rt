@@ -29,7 +29,7 @@ pub enum Evaluation {
 }
 
 // A variable or a cell that is not bound is a lack.
-fn bound_value(found: Found) -> Evaluation
+pub fn bound_value(found: Found) -> Evaluation
     ensures { λ r. ⌜ r ≡ bound (seenFound found) ⌝ }
 {
     match found {

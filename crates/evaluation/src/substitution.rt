@@ -17,7 +17,7 @@ pub enum Operands {
     Two(usize, usize),
 }
 
-fn operands_of(e: Expression) -> Operands
+pub fn operands_of(e: Expression) -> Operands
     ensures { λ r. ⌜ r ≡ operandsOf e ⌝ }
 {
     match e {

@@ -11,9 +11,8 @@ use Rattle.complex.proofs.Doubles.{bits-below}
 use Rattle.expression.proofs.Numbering.{infix-known, prefix-known, function-known}
 use Rattle.steps.specs.declared.Step.{Step}
 use Rattle.steps.specs.declared.Fields.{Fields}
-use Rattle.steps.specs.Steps.{fields, fieldsOf, little, headOf, bytesOf, encoded, tapeOf, spelt, first, fieldsIn, known, stepOf}
+use Rattle.steps.specs.Steps.{fields, fieldsOf, little, headOf, bytesOf, encoded, spelt, first, fieldsIn, known, stepOf}
 use Rattle.steps.proofs.Knowing.{ProperStep, known-fields, step-back}
-use Rattle.steps.proofs.Writing.{step-size}
 
 -- ---- what was written is read
 

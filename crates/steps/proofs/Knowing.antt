@@ -1,24 +1,23 @@
 -- Known fields are those of the step that they say, and a step is what its fields say. Assumes nothing.
 use mathlib.Core.Path.{_≡_, refl, sym, ap, subst, _∙_}
-use mathlib.Core.Bool.{Bool, true, false, cond, _&&_}
-use Prim.Native.Nat.{ℕ, zero, suc, _<_, _≤_}
+use mathlib.Core.Bool.{Bool, true, false, _&&_}
+use Prim.Native.Nat.{ℕ, zero, suc, _≤_}
 use native.Mathlib.Omega.{arith}
 use native.Mathlib.Decide.{decLt}
-use lib.Dec.{T, ltb, eqb}
-use borrow.Author.Tests.{ltb-true, lt-ltb, le-ltb, eqb-true, eqb-false, eq-eqb, ne-eqb}
-use Rattle.complex.specs.Bits.{bitsOf, doubleOf}
+use lib.Dec.{T, eqb}
+use borrow.Author.Tests.{lt-ltb, le-ltb, eqb-true, eq-eqb, ne-eqb}
 use Rattle.complex.proofs.Doubles.{double-back}
 use Rattle.expression.specs.declared.InfixOperator.{InfixOperator}
 use Rattle.expression.specs.declared.PrefixOperator.{PrefixOperator}
 use Rattle.expression.specs.declared.ExpressionFunction.{ExpressionFunction}
 use Rattle.expression.specs.Codes.{infixCode, infixOf, prefixCode, prefixOf, functionCode, functionOf}
 use Rattle.expression.specs.Limits.{ProperLeaf}
-use Rattle.expression.specs.Trees.{Leaf, number, pi, variable, cell}
+use Rattle.expression.specs.Trees.{number, variable, cell}
 use Rattle.expression.proofs.Numbering as Numbering
 use Rattle.expression.proofs.Numbering.{infix-back, prefix-back, function-back, infix-known, prefix-known, function-known, infix-code-back, prefix-code-back, function-code-back}
 use Rattle.steps.specs.declared.Step.{Step}
 use Rattle.steps.specs.declared.Fields.{Fields}
-use Rattle.steps.specs.Steps.{fields, fieldsOf, unused, within, oneNan, bare, known, stepOf}
+use Rattle.steps.specs.Steps.{fields, fieldsOf, within, known, stepOf}
 use Rattle.steps.specs.Same.{same}
 
 never : {A : Type 0} → false ≡ true → A

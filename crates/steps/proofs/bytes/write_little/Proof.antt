@@ -1,6 +1,6 @@
 -- `write_little` meets its contract: what is still to be written is written. Assumes nothing.
 use mathlib.Core.Path.{_≡_}
-use Prim.Native.Nat.{_+_, _-_, _≤_}
+use Prim.Native.Nat.{_+_, _≤_, _-_}
 use native.Mathlib.Omega.{arith}
 use lib.Seq.{sets}
 use Rattle.steps.specs.Steps.{little}

@@ -1,0 +1,83 @@
+-- What the functions of `tape` ensure on slices and on the player's array. Only connecting.
+use mathlib.Core.Path.{_≡_}
+use Prim.Native.Nat.{ℕ, zero, suc, _+_, _≤_, _<_}
+use mathlib.Core.List.{List, [], _∷_}
+use mathlib.Core.Bool.{Bool, true, false, cond}
+use lib.ListN.{length, getD}
+use lib.Ieee.{nan}
+use Rattle.complex.specs.declared.Complex.{Complex}
+use Rattle.expression.specs.Trees.{number, pi, variable, cell}
+use Rattle.store.specs.declared.node.Expression.{Expression}
+use Rattle.store.specs.Memory.{Memory, memory, treeAt}
+use Rattle.store.specs.Held.{Holds}
+use Rattle.text.specs.Writing.{Put}
+use Rattle.listing.specs.declared.writing.Written.{Written}
+use Rattle.sheet.specs.Rows.{Rows}
+use Rattle.evaluation.specs.declared.Evaluation.{Evaluation}
+use Rattle.evaluation.specs.Evaluating.{calculateFunction, calculateInfix, calculatePrefix, leafValue}
+use Rattle.steps.specs.declared.Step.{Step}
+use Rattle.steps.specs.declared.Fields.{Fields}
+use Rattle.steps.specs.Steps.{encoded, stepOf}
+use Rattle.tape.specs.declared.Checked.{Checked}
+use Rattle.tape.specs.Tapes.{tape, compiled, after, allowed}
+
+-- ---- compiling
+
+-- the step of a node
+unfoldable pub stepFor : Expression → Step
+stepFor (Expression.Number z) = Step.Number z
+stepFor Expression.PiConstant = Step.Pi
+stepFor (Expression.Variable v) = Step.Variable v
+stepFor (Expression.Address region index) = Step.Memory region index
+stepFor (Expression.FunctionCall f a) = Step.Function f
+stepFor (Expression.Prefix o a) = Step.Prefix o
+stepFor (Expression.Infix o a b) = Step.Infix o
+
+-- a step, where there is room for it
+abbrev pub Places : (out : List ℕ) (at : ℕ) (s : Step) (r : ℕ) (out′ : List ℕ) → Type 0
+Places out at s r out′ = at + 24 ≤ length out → Put out at (encoded s) r out′
+
+abbrev pub EmitsFrom : (m : Memory) (node below at r : ℕ) (out out′ : List ℕ) → Type 0
+EmitsFrom m node below at r out out′ =
+    (n : ℕ) → Holds m n → node < n → node < below → at + length (tape (treeAt m node)) ≤ length out → Put out at (tape (treeAt m node)) r out′
+
+-- the tape of a node's tree, where there is room, whatever the fourth slice
+abbrev pub Emits : (tag first second : List ℕ) (node below at r : ℕ) (out out′ : List ℕ) → Type 0
+Emits tag first second node below at r out out′ = (link : List ℕ) → EmitsFrom (memory tag first second link) node below at r out out′
+
+abbrev pub CompilesFrom : (m : Memory) (root nodes : ℕ) (r : Written) (out out′ : List ℕ) → Type 0
+CompilesFrom m root nodes r out out′ = Holds m nodes → root < nodes → _≡_ {A = Written × List ℕ} (r, out′) (compiled (treeAt m root) out)
+
+abbrev pub Compiles : (tag first second : List ℕ) (root nodes : ℕ) (r : Written) (out out′ : List ℕ) → Type 0
+Compiles tag first second root nodes r out out′ = (link : List ℕ) → CompilesFrom (memory tag first second link) root nodes r out out′
+
+-- ---- checking
+
+-- how many values there are after a step, 0 if it is not allowed
+unfoldable pub valuesAfter : (values : ℕ) → Fields → ℕ
+valuesAfter values f = cond (allowed values f) (after values (stepOf f)) 0
+
+unfoldable pub isSound : Checked → Bool
+isSound Checked.Sound = true
+isSound (Checked.Bad step) = false
+
+-- ---- playing
+
+-- what the logic reads outside an array
+abbrev pub filler : Complex
+filler = record { re = nan; im = nan }
+
+-- the first values of the player's array as a stack, its top first
+unfoldable pub stackOf : List Complex → (depth : ℕ) → List Complex
+stackOf xs zero = []
+stackOf xs (suc k) = getD xs k filler ∷ stackOf xs k
+
+-- what a step puts on the stack in place of the values x and, above it, y
+unfoldable pub valueOf : Rows → Step → (x y : Complex) → Evaluation
+valueOf rows (Step.Number z) x y = leafValue rows (number z)
+valueOf rows Step.Pi x y = leafValue rows pi
+valueOf rows (Step.Variable v) x y = leafValue rows (variable v)
+valueOf rows (Step.Memory region index) x y = leafValue rows (cell region index)
+valueOf rows (Step.Function f) x y = calculateFunction rows f x
+valueOf rows (Step.Prefix o) x y = Evaluation.Value (calculatePrefix o x)
+valueOf rows (Step.Infix o) x y = calculateInfix rows o x y

@@ -1,0 +1,93 @@
+// The tape of a node's tree, written to an output: a step a node visit, in the order of evaluation.
+ghost use mathlib.Core.Path.{_≡_};
+ghost use Rattle.tape.specs.Run.{stepFor, Emits, Compiles, Places};
+use evaluation::substitution::Operands;
+use evaluation::substitution::operands_of;
+use expression::refusal::Refusal;
+use listing::writing::Written;
+use steps::Step;
+use steps::bytes::write_step;
+use store::node::Expression;
+use store::reading::expression_at;
+use store::reading::size_at;
+
+// The step of a node.
+fn step_for(e: Expression) -> Step
+    ensures { λ r. ⌜ r ≡ stepFor e ⌝ }
+{
+    match e {
+        Expression::Number(z) => Step::Number(z),
+        Expression::PiConstant => Step::Pi,
+        Expression::Variable(number) => Step::Variable(number),
+        Expression::Address(region, index) => Step::Memory(region, index),
+        Expression::FunctionCall(f, _) => Step::Function(f),
+        Expression::Prefix(o, _) => Step::Prefix(o),
+        Expression::Infix(o, _, _) => Step::Infix(o),
+    }
+}
+
+// A step, where there is room for it.
+fn place_step(out: &mut [u8], at: usize, s: Step) -> usize
+    ensures { λ r. ⌜ Places (now (out .entry)) at s r (now (out .exit)) ⌝ }
+{
+    if out.len() < 24 {
+        return at;
+    }
+    if out.len() - 24 < at {
+        return at;
+    }
+    write_step(out, at, s)
+}
+
+// The steps of a node's tree from a place on: those of its operands, left before right, and its own. A node is above
+// its operands, so `below` falls, as in evaluating.
+fn emit(
+    tag: &[u64],
+    first: &[u64],
+    second: &[u64],
+    node: usize,
+    below: usize,
+    out: &mut [u8],
+    at: usize,
+) -> usize
+    ensures { λ r. ⌜ Emits (now (tag .entry)) (now (first .entry)) (now (second .entry)) node below at r (now (out .entry)) (now (out .exit)) ⌝ }
+{
+    if below <= node {
+        return at;
+    }
+    let e = expression_at(tag, first, second, node);
+    let operands = operands_of(e);
+    match operands {
+        Operands::Nothing => place_step(out, at, step_for(e)),
+        Operands::One(a) => {
+            let p = emit(tag, first, second, a, node, out, at);
+            place_step(out, p, step_for(e))
+        }
+        Operands::Two(a, b) => {
+            let p = emit(tag, first, second, a, node, out, at);
+            let q = emit(tag, first, second, b, node, out, p);
+            place_step(out, q, step_for(e))
+        }
+    }
+}
+
+// The tape of a node's tree at the start of the output: 14, then 13, before the first byte is written.
+pub fn compile(
+    tag: &[u64],
+    first: &[u64],
+    second: &[u64],
+    root: usize,
+    nodes: usize,
+    out: &mut [u8],
+) -> Written
+    ensures { λ r. ⌜ Compiles (now (tag .entry)) (now (first .entry)) (now (second .entry)) root nodes r (now (out .entry)) (now (out .exit)) ⌝ }
+{
+    let size = size_at(tag, root);
+    if 512 < size {
+        return Written::Refused(Refusal::LongTape);
+    }
+    if (out.len() as u64) < 24 * size {
+        return Written::Refused(Refusal::OutRoom);
+    }
+    Written::Bytes(emit(tag, first, second, root, nodes, out, 0))
+}
