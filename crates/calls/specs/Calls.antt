@@ -20,6 +20,9 @@ use Rattle.evaluation.specs.Evaluating.{evaluate}
 use Rattle.evaluation.specs.Substituting.{substitute}
 use Rattle.evaluation.specs.Reals.{toReal}
 use Rattle.simplification.specs.Simplifying.{simplify}
+use Rattle.tape.specs.declared.Checked.{Checked}
+use Rattle.tape.specs.Tapes.{compiled, check}
+use Rattle.tape.specs.Playing.{played}
 use Rattle.calls.specs.declared.Evaluated.{Evaluated}
 use Rattle.calls.specs.declared.Simplified.{Simplified}
 
@@ -92,3 +95,22 @@ simplifyJob limit out (refused why) = (Simplified.Refused why, out)
 -- "Order: limit; listing line by line; sheet line by line; the operation in its running order; 2 for a result; 13"
 unfoldable pub simplifyCall : (room limit : ℕ) (list values out : List ℕ) → Simplified × List ℕ
 simplifyCall room limit list values out = cond (ltb 10 limit) (Simplified.Refused Refusal.BadLimit, out) (simplifyJob limit out (job room list values))
+
+-- compiling takes no sheet: the listing's refusals, then 14, then 13
+unfoldable pub compileCall : (room : ℕ) (list out : List ℕ) → Written × List ℕ
+compileCall room list out =
+    afterListing (λ why. (Written.Refused why, out)) (listing false list (fresh room 0)) λ root swaps store.
+    compiled root out
+
+-- playing needs no store: the tape, then the sheet, then a value, or 9, or 10
+unfoldable pub playSheet : (tape : List ℕ) → Whole Rows Refusal → Evaluated
+playSheet tape (Lines.read rows) = evaluated (played rows tape)
+playSheet tape (Lines.refused why) = Evaluated.Refused why
+
+-- "15 BAD_TAPE: tape unsound", with the "first bad step"; "The tape is checked before the sheet is read"
+unfoldable pub playChecked : Checked → (tape values : List ℕ) → Evaluated
+playChecked Checked.Sound tape values = playSheet tape (sheet values)
+playChecked (Checked.Bad step) tape values = Evaluated.Refused (Refusal.BadTape step)
+
+abbrev pub playCall : (tape values : List ℕ) → Evaluated
+playCall tape values = playChecked (check tape) tape values

@@ -2,19 +2,21 @@
 use mathlib.Core.Path.{_≡_}
 use Prim.Native.Nat.{ℕ, _<_}
 use mathlib.Core.List.{List}
+use lib.ListN.{length, replicate}
 use Rattle.store.specs.declared.Added.{Added}
 use Rattle.store.specs.Memory.{Memory, memory, room, treeAt, stateOf}
 use Rattle.store.specs.Held.{Holds, seen}
 use Rattle.listing.specs.declared.writing.Written.{Written}
 use Rattle.sheet.specs.declared.Sheet.{Sheet}
-use Rattle.sheet.specs.Table.{rowsOf, Held}
+use Rattle.sheet.specs.Rows.{sheet}
+use Rattle.sheet.specs.Table.{rowsOf, Held, heldBy, seen as seenSheet}
 use Rattle.evaluation.specs.declared.real.Real.{Real}
 use Rattle.calls.specs.declared.Evaluated.{Evaluated}
 use Rattle.calls.specs.declared.Simplified.{Simplified}
 use Rattle.calls.specs.declared.Job.{Job}
 use Rattle.calls.specs.Lent.{Work, capacity, zeroed}
 use Rattle.calls.specs.Calls as Calls
-use Rattle.calls.specs.Calls.{ready, job, writtenAnswer, evaluateCall, substituteCall, toRealCall, simplifyCall}
+use Rattle.calls.specs.Calls.{ready, job, writtenAnswer, evaluateCall, substituteCall, toRealCall, simplifyCall, compileCall, playSheet, playCall}
 
 -- ---- a job that was read
 
@@ -71,3 +73,18 @@ Simplifies limit list values out w r out′ w′ = _≡_ {A = (Simplified × Lis
 -- before the memory is cleared
 abbrev pub SimplifiesTexts : (limit : ℕ) (list values out : List ℕ) (w : Work) (r : Simplified) (out′ : List ℕ) → Type 0
 SimplifiesTexts limit list values out w r out′ = _≡_ {A = Simplified × List ℕ} (r, out′) (simplifyCall (capacity w) limit list values out)
+
+abbrev pub Compiles : (list out : List ℕ) (w : Work) (r : Written) (out′ : List ℕ) (w′ : Work) → Type 0
+Compiles list out w r out′ w′ = _≡_ {A = (Written × List ℕ) × Work} ((r, out′), w′) (compileCall (capacity w) list out, zeroed w)
+
+-- before the memory is cleared
+abbrev pub CompilesText : (list out : List ℕ) (w : Work) (r : Written) (out′ : List ℕ) → Type 0
+CompilesText list out w r out′ = _≡_ {A = Written × List ℕ} (r, out′) (compileCall (capacity w) list out)
+
+-- the work memory of playing is the table alone
+abbrev pub Plays : (tape values table : List ℕ) (r : Evaluated) (table′ : List ℕ) → Type 0
+Plays tape values table r table′ = _≡_ {A = Evaluated × List ℕ} (r, table′) (playCall tape values, replicate (length table) 0)
+
+-- a sound tape, where a sheet was read
+abbrev pub PlaysSheet : (tape table : List ℕ) → Sheet → Evaluated → Type 0
+PlaysSheet tape table found r = (values : List ℕ) → seenSheet table found ≡ sheet values → heldBy table found → r ≡ playSheet tape (sheet values)

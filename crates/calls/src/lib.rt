@@ -24,6 +24,7 @@ use simplification::limit::Limit;
 use store::Added;
 
 pub mod frame;
+pub mod tapes;
 
 // A listing and a sheet that were read: the node of the root, the count of nodes, and the rows.
 pub enum Job {

@@ -1,0 +1,19 @@
+-- `compile` meets its contract. Assumes nothing.
+use mathlib.Core.Path.{_∙_}
+use Rattle.calls.proofs.Framing.{ends, zeroed-alike}
+use borrow.Author.Needs.{needs}
+use Rattle.calls.proofs.tapes.compile.Statement.{statement}
+use Rattle.calls.proofs.tapes.compile.Tie as tie
+
+pub compile-spec : {M : Type 1} → statement M
+compile-spec =
+    tie.close
+    (tie.spec
+    (λ c κs. search needs)
+    (λ c κs. search needs)
+    (λ c. c .before .before .before .before .before .before .before .before .clear-work .kept .0 ∙ c .before .before .before .before .before .before .before .before .before .before .before .before .before .before .before .before .before .before .before .before .before .before .before .before .compile-text .kept .1 .0)
+    (λ c. c .before .before .before .before .before .before .before .before .clear-work .kept .1 .0 ∙ c .before .before .before .before .before .before .before .before .before .before .before .before .before .before .before .before .before .before .before .before .before .before .before .before .compile-text .kept .1 .1 .0)
+    (λ c. c .before .before .before .before .before .before .before .before .clear-work .kept .1 .1 .0 ∙ c .before .before .before .before .before .before .before .before .before .before .before .before .before .before .before .before .before .before .before .before .before .before .before .before .compile-text .kept .1 .1 .1 .0)
+    (λ c. c .before .before .before .before .before .before .before .before .clear-work .kept .1 .1 .1 .0 ∙ c .before .before .before .before .before .before .before .before .before .before .before .before .before .before .before .before .before .before .before .before .before .before .before .before .compile-text .kept .1 .1 .1 .1 .0)
+    (λ c. c .before .before .before .before .before .before .before .before .before .before .before .before .before .before .before .before .before .before .before .before .before .before .before .before .compile-text .kept .1 .1 .1 .1 .1 .1 .0)
+    (λ c. ends _ _ (c .before .before .before .before .before .before .before .before .before .before .before .before .before .before .before .before .before .before .before .before .before .before .before .before .compile-text .ensures) (c .before .before .before .before .before .before .before .before .clear-work .ensures) (zeroed-alike _ _ (c .before .before .before .before .before .before .before .before .before .before .before .before .before .before .before .before .before .before .before .before .before .before .before .before .compile-text .kept .1 .0) (c .before .before .before .before .before .before .before .before .before .before .before .before .before .before .before .before .before .before .before .before .before .before .before .before .compile-text .kept .1 .1 .0) (c .before .before .before .before .before .before .before .before .before .before .before .before .before .before .before .before .before .before .before .before .before .before .before .before .compile-text .kept .1 .1 .1 .0) (c .before .before .before .before .before .before .before .before .before .before .before .before .before .before .before .before .before .before .before .before .before .before .before .before .compile-text .kept .1 .1 .1 .1 .0) (c .before .before .before .before .before .before .before .before .before .before .before .before .before .before .before .before .before .before .before .before .before .before .before .before .compile-text .kept .1 .1 .1 .1 .1 .0))))

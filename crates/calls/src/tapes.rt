@@ -1,0 +1,95 @@
+// The public calls on tapes: an expression compiled to one, and one played under a sheet.
+ghost use mathlib.Core.Path.{_≡_};
+ghost use Prim.Native.Nat.{_≤_};
+ghost use lib.ListN.{length};
+ghost use Rattle.tape.specs.declared.Checked.{Checked};
+ghost use Rattle.tape.specs.Tapes as Tapes;
+ghost use Rattle.calls.specs.Lent.{work};
+ghost use Rattle.calls.specs.Calls.{playCall};
+ghost use Rattle.calls.specs.Frame.{Compiles, CompilesText, Plays, PlaysSheet};
+use super::Evaluated;
+use super::answer_of;
+use super::frame::clear_work;
+use expression::refusal::Refusal;
+use listing::Listing;
+use listing::read_listing;
+use listing::writing::Written;
+use sheet::Sheet;
+use sheet::read_sheet;
+use store::memory::zero;
+use tape::Checked;
+use tape::check;
+
+fn compile_text(
+    list: &[u8],
+    tag: &mut [u64],
+    first: &mut [u64],
+    second: &mut [u64],
+    link: &mut [u64],
+    table: &mut [u64],
+    out: &mut [u8],
+) -> Written
+    requires { ⌜ 8192 ≤ length (now table) ⌝ }
+    ensures { λ r. ⌜ CompilesText (now (list .entry)) (now (out .entry)) (work (now (tag .entry)) (now (first .entry)) (now (second .entry)) (now (link .entry)) (now (table .entry))) r (now (out .exit)) ⌝ }
+{
+    let listed = read_listing(list, false, tag, first, second, link, table);
+    match listed {
+        Listing::Read {
+            root,
+            nodes,
+            swaps: _,
+        } => tape::compile::compile(tag, first, second, root, nodes, out),
+        Listing::Refused(why) => Written::Refused(why),
+    }
+}
+
+// The tape of an expression, at the start of the output.
+pub fn compile(
+    list: &[u8],
+    tag: &mut [u64],
+    first: &mut [u64],
+    second: &mut [u64],
+    link: &mut [u64],
+    table: &mut [u64; 8192],
+    out: &mut [u8],
+) -> Written
+    ensures { λ r. ⌜ Compiles (now (list .entry)) (now (out .entry)) (work (now (tag .entry)) (now (first .entry)) (now (second .entry)) (now (link .entry)) (now (table .entry))) r (now (out .exit)) (work (now (tag .exit)) (now (first .exit)) (now (second .exit)) (now (link .exit)) (now (table .exit))) ⌝ }
+{
+    let answer = compile_text(list, tag, first, second, link, table, out);
+    clear_work(tag, first, second, link, table);
+    answer
+}
+
+// A sound tape under the sheet that was read, if it was.
+fn play_sheet(tape: &[u8], table: &[u64], found: Sheet) -> Evaluated
+    requires { ⌜ Tapes.check (now tape) ≡ Checked.Sound ⌝ }
+    ensures { λ r. ⌜ PlaysSheet (now (tape .entry)) (now (table .entry)) found r ⌝ }
+{
+    match found {
+        Sheet::Read(rows) => answer_of(tape::play::play(tape, table, rows)),
+        Sheet::Refused(why) => Evaluated::Refused(why),
+    }
+}
+
+fn play_texts(tape: &[u8], values: &[u8], table: &mut [u64]) -> Evaluated
+    requires { ⌜ 8192 ≤ length (now table) ⌝ }
+    ensures { λ r. ⌜ r ≡ playCall (now (tape .entry)) (now (values .entry)) ⌝ }
+{
+    let checked = check(tape);
+    match checked {
+        Checked::Sound => {
+            let found = read_sheet(values, table);
+            play_sheet(tape, table, found)
+        }
+        Checked::Bad(step) => Evaluated::Refused(Refusal::BadTape(step)),
+    }
+}
+
+// What a tape plays under a sheet: no store, and the table alone as work memory.
+pub fn play(tape: &[u8], values: &[u8], table: &mut [u64; 8192]) -> Evaluated
+    ensures { λ r. ⌜ Plays (now (tape .entry)) (now (values .entry)) (now (table .entry)) r (now (table .exit)) ⌝ }
+{
+    let answer = play_texts(tape, values, table);
+    zero(table);
+    answer
+}
