@@ -16,11 +16,13 @@ use Rattle.expression.specs.Refusals.{numberOf, placeOf}
 use Rattle.listing.specs.declared.writing.Written.{Written}
 use Rattle.sheet.specs.Rows.{operationNumber}
 use Rattle.evaluation.specs.declared.real.Real.{Real}
+use Rattle.tape.specs.declared.Picked.{Picked}
+use Rattle.tape.specs.Tapes.{picked, partOf}
 use Rattle.calls.specs.declared.Evaluated.{Evaluated}
 use Rattle.calls.specs.declared.Simplified.{Simplified}
 use Rattle.calls.specs.Lent.{Work}
 use Rattle.calls.specs.Frame as Frame
-use Rattle.exports.specs.Words.{words, carriedWords, refusalWords, evaluatedWords, realWords, writtenWords, simplifiedWords, firstWord, Answered, Evaluates, Substitutes, ReadsReal, Simplifies}
+use Rattle.exports.specs.Words.{words, carriedWords, refusalWords, evaluatedWords, realWords, writtenWords, simplifiedWords, firstWord, Answered, Evaluates, Substitutes, ReadsReal, Simplifies, Compiles, Plays, Picks, whichNumber}
 
 -- all six are written
 pub six : (s : List ℕ) (a b c d e f : ℕ) → length s ≡ 6 → set (set (set (set (set (set s 0 a) 1 b) 2 c) 3 d) 4 e) 5 f ≡ words a b c d e f
@@ -102,3 +104,33 @@ reads-real p a = record { answered = known-as (ap (λ x. realWords (x .0)) p) a;
 pub simplifies : {limit : ℕ} {list values out : List ℕ} {w w′ : Work} {e : Simplified} {r : ℕ} {answer out′ : List ℕ} → Frame.Simplifies limit list values out w e out′ w′
     → Answered (simplifiedWords e) r answer → Simplifies limit list values out w r answer out′ w′
 simplifies p a = record { answered = known-as (ap (λ x. simplifiedWords (x .0 .0)) p) a; output = ap (λ x. x .0 .1) p; left = ap (λ x. x .1) p }
+
+-- ---- tapes
+
+pub compiles : {list out : List ℕ} {w w′ : Work} {e : Written} {r : ℕ} {answer out′ : List ℕ} → Frame.Compiles list out w e out′ w′
+    → Answered (writtenWords e) r answer → Compiles list out w r answer out′ w′
+compiles p a = record { answered = known-as (ap (λ x. writtenWords (x .0 .0)) p) a; output = ap (λ x. x .0 .1) p; left = ap (λ x. x .1) p }
+
+pub plays : {tape values table table′ : List ℕ} {e : Evaluated} {r : ℕ} {answer : List ℕ} → Frame.Plays tape values table e table′
+    → Answered (evaluatedWords e) r answer → Plays tape values table r answer table′
+plays p a = record { answered = known-as (ap (λ x. evaluatedWords (x .0)) p) a; left = ap (λ x. x .1) p }
+
+pub two : (s : List ℕ) (a b : ℕ) → length s ≡ 2 → Answered (a ∷ b ∷ []) a (set (set s 0 a) 1 b)
+unfolding firstWord
+two [] a b p = absurd (omega (arith, p))
+two (x₀ ∷ []) a b p = absurd (omega (arith, p))
+two (x₀ ∷ x₁ ∷ []) a b p = record { words = refl; number = refl }
+two (x₀ ∷ x₁ ∷ x₂ ∷ s) a b p = absurd (omega (arith, p))
+
+module _ (a b : List ℕ) {choice : Picked} (p : choice ≡ picked a b) {r : ℕ} {answer : List ℕ} where
+  pub picks-first : choice ≡ Picked.First → Answered (1 ∷ length a ∷ []) r answer → Picks a b r answer
+  unfolding whichNumber partOf
+  picks-first told x = known-as (ap (λ c. whichNumber c ∷ length (partOf c a b) ∷ []) (sym told ∙ p)) x
+
+  pub picks-second : choice ≡ Picked.Second → Answered (2 ∷ length b ∷ []) r answer → Picks a b r answer
+  unfolding whichNumber partOf
+  picks-second told x = known-as (ap (λ c. whichNumber c ∷ length (partOf c a b) ∷ []) (sym told ∙ p)) x
+
+  pub picks-nothing : choice ≡ Picked.Nothing → Answered (0 ∷ 0 ∷ []) r answer → Picks a b r answer
+  unfolding whichNumber partOf
+  picks-nothing told x = known-as (ap (λ c. whichNumber c ∷ length (partOf c a b) ∷ []) (sym told ∙ p)) x

@@ -3,7 +3,7 @@ use mathlib.Core.Path.{_≡_, sym, _∙_}
 use Prim.Native.Nat.{ℕ}
 use mathlib.Core.List.{List}
 use Rattle.calls.specs.Lent.{Work}
-use Rattle.exports.specs.Words.{Answered, Evaluates, Substitutes, ReadsReal, Simplifies}
+use Rattle.exports.specs.Words.{Answered, Evaluates, Substitutes, ReadsReal, Simplifies, Compiles, Plays, Checks, Picks}
 
 one-words : {want : List ℕ} {r r′ : ℕ} {a a′ : List ℕ} → Answered want r a → Answered want r′ a′ → (r ≡ r′) × (a ≡ a′)
 one-words p q = (p .number ∙ sym (q .number), p .words ∙ sym (q .words))
@@ -23,3 +23,17 @@ one-real p q = (one-words (p .answered) (q .answered), p .left ∙ sym (q .left)
 pub one-simplified : {limit : ℕ} {list values out : List ℕ} {w : Work} {r r′ : ℕ} {a a′ out₁ out₂ : List ℕ} {w₁ w₂ : Work}
     → Simplifies limit list values out w r a out₁ w₁ → Simplifies limit list values out w r′ a′ out₂ w₂ → ((r ≡ r′) × (a ≡ a′)) × (out₁ ≡ out₂) × (w₁ ≡ w₂)
 one-simplified p q = (one-words (p .answered) (q .answered), p .output ∙ sym (q .output), p .left ∙ sym (q .left))
+
+pub one-compiled : {list out : List ℕ} {w : Work} {r r′ : ℕ} {a a′ out₁ out₂ : List ℕ} {w₁ w₂ : Work}
+    → Compiles list out w r a out₁ w₁ → Compiles list out w r′ a′ out₂ w₂ → ((r ≡ r′) × (a ≡ a′)) × (out₁ ≡ out₂) × (w₁ ≡ w₂)
+one-compiled p q = (one-words (p .answered) (q .answered), p .output ∙ sym (q .output), p .left ∙ sym (q .left))
+
+pub one-played : {tape values table : List ℕ} {r r′ : ℕ} {a a′ table₁ table₂ : List ℕ}
+    → Plays tape values table r a table₁ → Plays tape values table r′ a′ table₂ → ((r ≡ r′) × (a ≡ a′)) × (table₁ ≡ table₂)
+one-played p q = (one-words (p .answered) (q .answered), p .left ∙ sym (q .left))
+
+pub one-checked : (tape : List ℕ) {r r′ : ℕ} {a a′ : List ℕ} → Checks tape r a → Checks tape r′ a′ → (r ≡ r′) × (a ≡ a′)
+one-checked tape p q = one-words p q
+
+pub one-picked : (a b : List ℕ) {r r′ : ℕ} {x x′ : List ℕ} → Picks a b r x → Picks a b r′ x′ → (r ≡ r′) × (x ≡ x′)
+one-picked a b p q = one-words p q

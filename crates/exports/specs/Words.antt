@@ -2,16 +2,20 @@
 use mathlib.Core.Path.{_≡_}
 use Prim.Native.Nat.{ℕ}
 use mathlib.Core.List.{List, [], _∷_}
+use lib.ListN.{length, replicate}
 use Rattle.complex.specs.Bits.{bitsOf}
 use Rattle.expression.specs.declared.refusal.Refusal.{Refusal}
 use Rattle.expression.specs.Refusals.{numberOf, Carried, place, lacking, carries}
 use Rattle.listing.specs.declared.writing.Written.{Written}
 use Rattle.sheet.specs.Rows.{operationNumber}
 use Rattle.evaluation.specs.declared.real.Real.{Real}
+use Rattle.tape.specs.declared.Checked.{Checked}
+use Rattle.tape.specs.declared.Picked.{Picked}
+use Rattle.tape.specs.Tapes.{count, check, picked, pick}
 use Rattle.calls.specs.declared.Evaluated.{Evaluated}
 use Rattle.calls.specs.declared.Simplified.{Simplified}
 use Rattle.calls.specs.Lent.{Work, capacity, zeroed}
-use Rattle.calls.specs.Calls.{evaluateCall, substituteCall, toRealCall, simplifyCall}
+use Rattle.calls.specs.Calls.{evaluateCall, substituteCall, toRealCall, simplifyCall, compileCall, playCall}
 
 -- 0 or the refusal's number; then a count, a place or an operation; two numbers as the bits of their parts
 abbrev pub words : (number detail re im re2 im2 : ℕ) → List ℕ
@@ -41,6 +45,20 @@ unfoldable pub simplifiedWords : Simplified → List ℕ
 simplifiedWords (Simplified.Bytes count calls) = words 0 count calls 0 0 0
 simplifiedWords (Simplified.Refused why) = refusalWords why
 
+-- how many steps a sound tape has, or 15 and the first bad step
+unfoldable pub checkedWords : (steps : ℕ) → Checked → List ℕ
+checkedWords steps Checked.Sound = words 0 steps 0 0 0 0
+checkedWords steps (Checked.Bad step) = refusalWords (Refusal.BadTape step)
+
+-- a pick as which and how long: 1 the first, 2 the second, 0 neither
+unfoldable pub whichNumber : Picked → ℕ
+whichNumber Picked.First = 1
+whichNumber Picked.Second = 2
+whichNumber Picked.Nothing = 0
+
+abbrev pub pickedWords : (a b : List ℕ) → List ℕ
+pickedWords a b = whichNumber (picked a b) ∷ length (pick a b) ∷ []
+
 -- what is returned is the first word
 unfoldable pub firstWord : List ℕ → ℕ
 firstWord [] = 0
@@ -69,3 +87,18 @@ pub record Simplifies (limit : ℕ) (list values out : List ℕ) (w : Work) (r :
   pub answered : Answered (simplifiedWords (simplifyCall (capacity w) limit list values out .0)) r answer
   pub output : out′ ≡ simplifyCall (capacity w) limit list values out .1
   pub left : w′ ≡ zeroed w
+
+pub record Compiles (list out : List ℕ) (w : Work) (r : ℕ) (answer out′ : List ℕ) (w′ : Work) : Type 0 where
+  pub answered : Answered (writtenWords (compileCall (capacity w) list out .0)) r answer
+  pub output : out′ ≡ compileCall (capacity w) list out .1
+  pub left : w′ ≡ zeroed w
+
+pub record Plays (tape values table : List ℕ) (r : ℕ) (answer table′ : List ℕ) : Type 0 where
+  pub answered : Answered (evaluatedWords (playCall tape values)) r answer
+  pub left : table′ ≡ replicate (length table) 0
+
+abbrev pub Checks : (tape : List ℕ) (r : ℕ) (answer : List ℕ) → Type 0
+Checks tape r answer = Answered (checkedWords (count tape) (check tape)) r answer
+
+abbrev pub Picks : (a b : List ℕ) (r : ℕ) (answer : List ℕ) → Type 0
+Picks a b r answer = Answered (pickedWords a b) r answer

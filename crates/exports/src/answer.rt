@@ -1,8 +1,9 @@
 // Answers as six words, for languages that know numbers and bytes alone.
 ghost use mathlib.Core.Path.{_≡_};
+ghost use mathlib.Core.List.{[], _∷_};
 ghost use lib.ListN.{length};
 ghost use Rattle.sheet.specs.Rows.{operationNumber};
-ghost use Rattle.exports.specs.Words.{Answered, words, refusalWords, evaluatedWords, realWords, writtenWords, simplifiedWords};
+ghost use Rattle.exports.specs.Words.{Answered, words, refusalWords, evaluatedWords, realWords, writtenWords, simplifiedWords, checkedWords};
 use calls::Evaluated;
 use calls::Simplified;
 use complex::bits::to_bits;
@@ -10,6 +11,7 @@ use evaluation::real::Real;
 use expression::refusal::Operation;
 use expression::refusal::Refusal;
 use listing::writing::Written;
+use tape::Checked;
 
 fn put_words(
     answer: &mut [u64],
@@ -102,4 +104,25 @@ pub fn put_simplified(answer: &mut [u64], simplified: Simplified) -> u64
         Simplified::Bytes { bytes, calls } => put_words(answer, 0, bytes as u64, calls, 0, 0, 0),
         Simplified::Refused(why) => put_refusal(answer, why),
     }
+}
+
+// A sound tape's steps, or 15 and the first bad step.
+pub fn put_checked(answer: &mut [u64], steps: u64, checked: Checked) -> u64
+    requires { ⌜ length (now answer) ≡ 6 ⌝ }
+    ensures { λ r. ⌜ Answered (checkedWords steps checked) r (now (answer .exit)) ⌝ }
+{
+    match checked {
+        Checked::Sound => put_words(answer, 0, steps, 0, 0, 0, 0),
+        Checked::Bad(step) => put_refusal(answer, Refusal::BadTape(step)),
+    }
+}
+
+// A pick as two words.
+pub fn put_two(answer: &mut [u64], number: u64, detail: u64) -> u64
+    requires { ⌜ length (now answer) ≡ 2 ⌝ }
+    ensures { λ r. ⌜ Answered (number ∷ detail ∷ []) r (now (answer .exit)) ⌝ }
+{
+    answer[0] = number;
+    answer[1] = detail;
+    number
 }

@@ -1,15 +1,22 @@
 // The public calls for C, Rust and others, over numbers and slices alone; include/findavoreb.h says what each
 // parameter and each answer word is.
 ghost use Rattle.calls.specs.Lent.{work};
-ghost use Rattle.exports.specs.Words.{Evaluates, Substitutes, ReadsReal, Simplifies};
+ghost use Rattle.exports.specs.Words.{Evaluates, Substitutes, ReadsReal, Simplifies, Compiles, Plays, Checks, Picks};
+use answer::put_checked;
 use answer::put_evaluated;
 use answer::put_real;
 use answer::put_simplified;
+use answer::put_two;
 use answer::put_written;
 use calls::evaluate;
 use calls::simplify;
 use calls::substitute;
+use calls::tapes::compile;
+use calls::tapes::play;
 use calls::to_real;
+use tape::Picked;
+use tape::check;
+use tape::which;
 
 mod answer;
 
@@ -85,4 +92,52 @@ pub extern "C" fn findavoreb_simplify(
         answer,
         simplify(list, values, limit, tag, first, second, link, table, out),
     )
+}
+
+#[no_mangle]
+pub extern "C" fn findavoreb_compile(
+    list: &[u8],
+    tag: &mut [u64],
+    first: &mut [u64],
+    second: &mut [u64],
+    link: &mut [u64],
+    table: &mut [u64; 8192],
+    out: &mut [u8],
+    answer: &mut [u64; 6],
+) -> u64
+    ensures { λ r. ⌜ Compiles (now (list .entry)) (now (out .entry)) (work (now (tag .entry)) (now (first .entry)) (now (second .entry)) (now (link .entry)) (now (table .entry))) r (now (answer .exit)) (now (out .exit)) (work (now (tag .exit)) (now (first .exit)) (now (second .exit)) (now (link .exit)) (now (table .exit))) ⌝ }
+{
+    put_written(answer, compile(list, tag, first, second, link, table, out))
+}
+
+#[no_mangle]
+pub extern "C" fn findavoreb_play(
+    tape: &[u8],
+    values: &[u8],
+    table: &mut [u64; 8192],
+    answer: &mut [u64; 6],
+) -> u64
+    ensures { λ r. ⌜ Plays (now (tape .entry)) (now (values .entry)) (now (table .entry)) r (now (answer .exit)) (now (table .exit)) ⌝ }
+{
+    put_evaluated(answer, play(tape, values, table))
+}
+
+#[no_mangle]
+pub extern "C" fn findavoreb_check(tape: &[u8], answer: &mut [u64; 6]) -> u64
+    ensures { λ r. ⌜ Checks (now (tape .entry)) r (now (answer .exit)) ⌝ }
+{
+    let steps = (tape.len() / 24) as u64;
+    put_checked(answer, steps, check(tape))
+}
+
+#[no_mangle]
+pub extern "C" fn findavoreb_pick(a: &[u8], b: &[u8], picked: &mut [u64; 2]) -> u64
+    ensures { λ r. ⌜ Picks (now (a .entry)) (now (b .entry)) r (now (picked .exit)) ⌝ }
+{
+    let choice = which(a, b);
+    match choice {
+        Picked::First => put_two(picked, 1, a.len() as u64),
+        Picked::Second => put_two(picked, 2, b.len() as u64),
+        Picked::Nothing => put_two(picked, 0, 0),
+    }
 }
