@@ -1,5 +1,8 @@
 -- The laws that the proofs of this crate cite, and the theorems about its public calls.
 mod Framing
 mod Taping
+mod Lining
 pub mod OneAnswer
 pub mod Results
+pub mod Accepted
+pub mod Demand

@@ -2,7 +2,7 @@
 use mathlib.Core.Path.{_≡_, refl, sym, ap, subst}
 use mathlib.Core.Bool.{Bool, true, false, cond, _&&_}
 use mathlib.Core.List.{List, [], _∷_}
-use Prim.Native.Nat.{ℕ, zero, suc, _+_, _≤_}
+use Prim.Native.Nat.{ℕ, _+_, _≤_}
 use native.Mathlib.Omega.{arith}
 use borrow.Author.Tests.{ltb-false}
 use lib.Dec.{ltb, eqb}
@@ -12,7 +12,7 @@ use Rattle.expression.specs.Trees.{Tree, size, depth}
 use Rattle.expression.specs.Limits.{Limited, Proper, largest, deepest}
 use Rattle.text.specs.Reading.{Read, is, bad}
 use Rattle.text.specs.Lines as Lines
-use Rattle.text.specs.Lines.{Line, goes, stops, Whole, afterLine, atLine, lines}
+use Rattle.text.specs.Lines.{Line, Whole, lines}
 use Rattle.store.specs.declared.Added.{Added}
 use Rattle.store.specs.Storing as Storing
 use Rattle.store.specs.Storing.{nothing, State, state, Answer, gives, among, intern, recall, fresh}
@@ -33,6 +33,7 @@ use Rattle.calls.specs.Lent.{Work, capacity}
 use Rattle.calls.specs.Calls as Calls
 use Rattle.calls.specs.Calls.{Job, ready, afterListing, withSheet, job, writtenAnswer, withCalls, callsIn, simplifyJob, simplifyCall}
 use Rattle.calls.specs.Frame.{Simplifies}
+use Rattle.calls.proofs.Lining.{InLine, InWhole, to-the-end}
 
 -- ---- a store into which a listing was read: nothing is counted, and nothing kept
 
@@ -55,28 +56,6 @@ stores t (state room ts kept calls) f =
     (either-way (ltb largest (size t)) _ _ tt
     (either-way (ltb deepest (depth t)) _ _ tt
     (either-way (ltb (length ts) room) _ _ (record { uncounted = f .uncounted; unkept = f .unkept }) tt)))
-
--- what holds after each line holds at the end
-module _ {S R : Type 0} (P : S → Type 0) where
-  InLine : Line S R → Type 0
-  InLine (goes s rest) = P s
-  InLine (stops why) = Unit {0}
-
-  InWhole : Whole S R → Type 0
-  InWhole (Lines.read s) = P s
-  InWhole (Lines.refused why) = Unit {0}
-
-  after : (l : Line S R) (next : S → List ℕ → Whole S R) → InLine l → ((s : S) (bs : List ℕ) → P s → InWhole (next s bs)) → InWhole (afterLine l next)
-  unfolding afterLine InLine InWhole
-  after (goes s rest) next x f = f s rest x
-  after (stops why) next x f = tt
-
-  to-the-end : (line : S → ℕ → List ℕ → Line S R) → ((s : S) (b : ℕ) (bs : List ℕ) → P s → InLine (line s b bs))
-      → (fuel : ℕ) (s : S) (bs : List ℕ) → P s → InWhole (lines line fuel s bs)
-  unfolding lines atLine InWhole
-  to-the-end line f zero s bs x = x
-  to-the-end line f (suc fuel) s [] x = x
-  to-the-end line f (suc fuel) s (b ∷ bs) x = after (line s b bs) (λ s bs. lines line fuel s bs) (f s b bs x) λ s bs y. to-the-end line f fuel s bs y
 
 FreshKnown : Known → Type 0
 FreshKnown k = Fresh (k .store)
