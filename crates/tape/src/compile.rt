@@ -60,13 +60,13 @@ fn emit(
     match operands {
         Operands::Nothing => place_step(out, at, step_for(e)),
         Operands::One(a) => {
-            let p = emit(tag, first, second, a, node, out, at);
-            place_step(out, p, step_for(e))
+            let end = emit(tag, first, second, a, node, out, at);
+            place_step(out, end, step_for(e))
         }
         Operands::Two(a, b) => {
-            let p = emit(tag, first, second, a, node, out, at);
-            let q = emit(tag, first, second, b, node, out, p);
-            place_step(out, q, step_for(e))
+            let middle = emit(tag, first, second, a, node, out, at);
+            let end = emit(tag, first, second, b, node, out, middle);
+            place_step(out, end, step_for(e))
         }
     }
 }
