@@ -2,3 +2,4 @@
 pub mod Parts
 pub mod Lines
 pub mod TapeLines
+pub mod TapesBack

@@ -6,7 +6,7 @@ use native.Mathlib.Nat.{add-zero}
 use native.Mathlib.Numerals.{add-one}
 use native.Mathlib.Omega.{arith}
 use native.Mathlib.Decide.{decLt}
-use lib.ListN.{length, set, getD, take, drop, drop-of-length-le, length-append, length-set}
+use lib.ListN.{length, set, getD, take, drop, drop-of-length-le, length-append, length-set, List·getD-eq-default}
 use lib.Seq.{take-suc, take-all, take-suc-set, length-take-le}
 use borrow.Author.Tests.{lt-ltb, le-ltb, eq-eqb, ne-eqb}
 use Rattle.text.specs.declared.reading.Number.{Number}
@@ -89,13 +89,8 @@ pub digit-in : (s : List ℕ) (at : ℕ) → digitOf (getD s at 0) ≤ 15 → at
 unfolding digitOf
 digit-in s at h = elim (decLt at (length s)) [
   | yes lt ↦ lt
-  | no nlt ↦ absurd (omega (arith, rw (past s at (omega arith)) at h))
+  | no nlt ↦ let e : getD s at 0 ≡ 0 = List·getD-eq-default s 0 (omega arith) in absurd (omega (arith, rw e at h))
 ]
-  where
-    past : (s : List ℕ) (i : ℕ) → length s ≤ i → getD s i 0 ≡ 0
-    past [] i h = refl
-    past (b ∷ s) zero h = absurd (omega arith)
-    past (b ∷ s) (suc i) h = past s i (omega arith)
 
 digit-some : (s : List ℕ) (at k v : ℕ) → digitOf (getD s at 0) ≤ 15 → hexFrom (suc k) v (drop at s) ≡ hexFrom k (v * 16 + digitOf (getD s at 0)) (drop (at + 1) s)
 unfolding hexFrom
@@ -234,7 +229,7 @@ pub take-begins : (entry text : List ℕ) → Taking entry text entry 513 0 0
 unfolding tapeOf
 take-begins entry text = record { taken = []; rest = refl; put = put-none entry 0; room = refl; most = omega arith }
 
-steps-none : (most : ℕ) → steps most [] ≡ []
+pub steps-none : (most : ℕ) → steps most [] ≡ []
 unfolding steps
 steps-none zero = refl
 steps-none (suc most) = refl
