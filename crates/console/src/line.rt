@@ -53,6 +53,13 @@ fn write_parts(out: &mut [u8], at: usize, z: Complex, stop: u8) -> usize
     write_hex_field(out, next, to_bits(z.im), stop)
 }
 
+// The two parts alone, as the last fields of a line. Answers as io::write_all does.
+pub fn print_parts(file: i32, z: Complex) -> bool {
+    let mut parts = [0u8; 34];
+    let n = write_parts(&mut parts, 0, z, LF);
+    io::write_all(file, &parts[..n])
+}
+
 pub fn write_value(out: &mut [u8], z: Complex) -> usize
     requires { ⌜ 96 ≤ length (now out) ⌝ }
     ensures { λ r. ⌜ Put (now (out .entry)) 0 (valueLine z) r (now (out .exit)) ⌝ }
