@@ -16,7 +16,7 @@ use Rattle.text.specs.Writing.{byteOf, Put}
 use Rattle.text.proofs.Putting.{put-none, put-then, put-byte, put-length}
 use Rattle.text.proofs.Running.{here, ended-bad}
 use Rattle.text.proofs.Only.{ended-only}
-use Rattle.console.specs.Tapes.{stopAfter, stopping, inDigits, inLines, stopped, byteFrom, stepFrom, orZeros, nextLine, steps, tapeOf}
+use Rattle.console.specs.TapeText.{stopAfter, stopping, inDigits, inLines, stopped, byteFrom, stepFrom, orZeros, nextLine, steps, tapeOf}
 
 -- ---- a byte is written
 

@@ -13,7 +13,7 @@ use borrow.Author.Tests.{lt-ltb, le-ltb, eq-eqb, ne-eqb}
 use Rattle.text.specs.Reading.{is, then, ended, digitOf, hexFrom}
 use Rattle.text.specs.Writing.{byteOf}
 use Rattle.text.proofs.RoundTrip.{ended-here}
-use Rattle.console.specs.Tapes.{stops, stopAfter, stopping, inDigits, inLines, stopped, byteFrom, stepFrom, orZeros, nextLine, steps, tapeOf}
+use Rattle.console.specs.TapeText.{stops, stopAfter, stopping, inDigits, inLines, stopped, byteFrom, stepFrom, orZeros, nextLine, steps, tapeOf}
 use Rattle.console.proofs.TapeLines.{steps-none}
 
 -- ---- a byte

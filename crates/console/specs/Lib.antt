@@ -1,4 +1,4 @@
 -- The definitions that the contracts of `console` cite.
 pub mod Parting
 pub mod Answers
-pub mod Tapes
+pub mod TapeText

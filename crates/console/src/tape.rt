@@ -6,7 +6,7 @@ ghost use lib.ListN.{length, drop};
 ghost use Rattle.io.specs.Counts.{Counts};
 ghost use Rattle.text.specs.Seen.{seen};
 ghost use Rattle.text.specs.Writing.{Put};
-ghost use Rattle.console.specs.Tapes.{stopAfter, inDigits, inLines, byteFrom, stepFrom, orZeros, nextLine, tapeOf};
+ghost use Rattle.console.specs.TapeText.{stopAfter, inDigits, inLines, byteFrom, stepFrom, orZeros, nextLine, tapeOf};
 use text::reading::Number;
 use text::reading::byte_at;
 use text::reading::digit;

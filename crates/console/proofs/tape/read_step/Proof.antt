@@ -3,7 +3,7 @@ use mathlib.Core.Path.{ap}
 use Prim.Native.Nat.{_-_}
 use native.Mathlib.Omega.{arith}
 use Rattle.text.proofs.Fields.{told, told-bad}
-use Rattle.console.specs.Tapes.{orZeros}
+use Rattle.console.specs.TapeText.{orZeros}
 use Rattle.console.proofs.TapeLines.{byte-small, Stepping, step-begins, step-none, step-on, step-done}
 use borrow.Author.Needs.{needs}
 use Rattle.console.proofs.tape.read_step.Statement.{statement}

@@ -1,6 +1,6 @@
 -- `stop_after` meets its contract. Assumes nothing.
 use borrow.Author.Needs.{needs}
-use Rattle.console.specs.Tapes.{stopAfter}
+use Rattle.console.specs.TapeText.{stopAfter}
 use Rattle.console.proofs.tape.stop_after.Statement.{statement}
 use Rattle.console.proofs.tape.stop_after.Tie as tie
 
