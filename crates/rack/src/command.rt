@@ -8,6 +8,9 @@ pub enum Command {
     Substitute,
     Real,
     Simplify(u64),
+    Compile,
+    Play,
+    Show,
 }
 
 pub enum Given {
@@ -17,6 +20,19 @@ pub enum Given {
 
 // The limit of `simplify` where none is given.
 const LIMIT: u64 = 10;
+
+fn tape_command_of(word: &[u8]) -> Given {
+    if same(word, b"compile") {
+        return Given::Known(Command::Compile);
+    }
+    if same(word, b"play") {
+        return Given::Known(Command::Play);
+    }
+    if same(word, b"show") {
+        return Given::Known(Command::Show);
+    }
+    Given::Unknown
+}
 
 fn command_of(word: &[u8]) -> Given {
     if same(word, b"evaluate") {
@@ -31,7 +47,7 @@ fn command_of(word: &[u8]) -> Given {
     if same(word, b"simplify") {
         return Given::Known(Command::Simplify(LIMIT));
     }
-    Given::Unknown
+    tape_command_of(word)
 }
 
 fn simplify_at(word: &[u8]) -> Given {

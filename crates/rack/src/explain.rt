@@ -65,7 +65,11 @@ fn need(operation: Operation) {
 
 fn bad_tape(step: u64) {
     words_at(b"The tape's step", step);
-    words(b" is unsound.\n");
+    words(b" is missing, malformed or unsound");
+    if step == 0 {
+        words(b", or there are more than 512 steps");
+    }
+    words(b".\n");
 }
 
 pub fn refusal(why: Refusal) {

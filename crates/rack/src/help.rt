@@ -19,6 +19,13 @@ fn commands() {
     line(
         b"  simplify    reads what evaluate reads; prints the listing simplified at LIMIT, 0 to 10, which is 10 if left out",
     );
+    line(
+        b"  compile     reads a listing; prints its expression's tape, a line a step: the step's 24 bytes in hex, in six fields",
+    );
+    line(
+        b"  play        reads a tape as compile prints it and, after an empty line, a sheet of values; prints what it gives",
+    );
+    line(b"  show        reads a tape as compile prints it; prints its steps in words");
 }
 
 fn answers() {
@@ -26,7 +33,7 @@ fn answers() {
         b"A job that has no answer prints incomplete, or need and the function value that is lacking, or refused, the",
     );
     line(
-        b"refusal's number and the place: a line counted from 0. The sentence on standard error counts lines from 1.",
+        b"refusal's number and the place: a line or a step counted from 0. The sentence on standard error counts from 1.",
     );
 }
 

@@ -7,12 +7,15 @@ use console::input;
 use console::input::Input;
 
 mod command;
+mod compile;
 mod evaluate;
 mod explain;
 mod help;
 mod limit;
+mod play;
 mod real;
 mod say;
+mod show;
 mod simplify;
 mod substitute;
 
@@ -33,6 +36,9 @@ fn obey(
         Command::Substitute => substitute::run(text, tag, first, second, link, table),
         Command::Real => real::run(text, tag, first, second, link, table),
         Command::Simplify(limit) => simplify::run(text, limit, tag, first, second, link, table),
+        Command::Compile => compile::run(text, tag, first, second, link, table),
+        Command::Play => play::run(text, table),
+        Command::Show => show::run(text),
     }
 }
 

@@ -1,5 +1,7 @@
-// What is printed on standard output: one line of fields that are parted by tabs, or a listing. A sentence on standard
-// error goes with what is no success.
+// What is printed on standard output: one line of fields that are parted by tabs, a listing, or a tape. A sentence on
+// standard error goes with what is no success.
+ghost use Prim.Native.Nat.{_≤_};
+ghost use lib.ListN.{length};
 use super::explain;
 use complex::Complex;
 use console::input::part;
@@ -8,6 +10,7 @@ use console::line::write_real;
 use console::line::write_refusal;
 use console::line::write_refused;
 use console::line::write_value;
+use console::tape::write_tape;
 use expression::refusal::Refusal;
 use libc::STDOUT_FILENO;
 
@@ -31,6 +34,15 @@ pub fn real(x: f64) {
 pub fn listing(out: &[u8], n: usize) {
     let m = part(out, n);
     word(&out[..m]);
+}
+
+// A tape, a line a step.
+pub fn tape(bytes: &[u8])
+    requires { ⌜ length (now bytes) ≤ 12288 ⌝ }
+{
+    let mut text = [0u8; 36_864];
+    let n = write_tape(&mut text, bytes);
+    word(&text[..n]);
 }
 
 fn refusal(why: Refusal) {
