@@ -3,3 +3,4 @@ pub mod Parts
 pub mod Lines
 pub mod TapeLines
 pub mod TapesBack
+pub mod TapesOnly

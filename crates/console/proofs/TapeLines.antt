@@ -9,14 +9,12 @@ use native.Mathlib.Decide.{decLt}
 use lib.ListN.{length, set, getD, take, drop, drop-of-length-le, length-append, length-set, List·getD-eq-default}
 use lib.Seq.{take-suc, take-all, take-suc-set, length-take-le}
 use borrow.Author.Tests.{lt-ltb, le-ltb, eq-eqb, ne-eqb}
-use Rattle.text.specs.declared.reading.Number.{Number}
 use Rattle.text.specs.Reading.{Read, is, bad, then, ended, digitOf, hexFrom}
-use Rattle.text.specs.Seen.{seen}
 use Rattle.text.specs.Writing.{byteOf, Put}
-use Rattle.text.proofs.Putting.{put-none, put-then, put-byte, put-length}
+use Rattle.text.proofs.Putting.{put-none, put-then, put-byte}
 use Rattle.text.proofs.Running.{here, ended-bad}
 use Rattle.text.proofs.Only.{ended-only}
-use Rattle.console.specs.TapeText.{stopAfter, stopping, inDigits, inLines, stopped, byteFrom, stepFrom, orZeros, nextLine, steps, tapeOf}
+use Rattle.console.specs.TapeText.{stopAfter, stopping, inDigits, inLines, stopped, byteFrom, stepFrom, orZeros, nextLine, readSteps, tapeIn}
 
 -- ---- a byte is written
 
@@ -130,30 +128,59 @@ module _ (s : List ℕ) (at stop : ℕ) {high low b c : ℕ} (p : b ≡ getD s a
         some zero h r = absurd (h refl)
         some (suc k) h r = refl
 
--- two digits say less than 256
-never : {A B : Type 0} {x : B} {rest : List ℕ} → bad ≡ is x rest → A
+-- ---- only what is written is read
+
+pub never : {A B : Type 0} {x : B} {rest : List ℕ} → bad ≡ is x rest → A
 never e = let z : _≡_ {A = ℕ} 0 1 = cc in absurd (omega arith)
 
-one-small : (v : ℕ) (bs : List ℕ) {x : ℕ} {rest : List ℕ} → hexFrom 1 v bs ≡ is x rest → x < v * 16 + 16
+byte-digit : (b : ℕ) → digitOf b < 16 → byteOf (digitOf b) ≡ b
+unfolding digitOf byteOf
+byte-digit b h = elim (decLt b 48) [
+  | yes lt ↦ absurd (omega (arith, rw (lt-ltb b 48 lt) at h))
+  | no ge ↦ elim (decLt b 58) [
+    | yes lt ↦ rw (le-ltb b 48 (omega arith), lt-ltb b 58 lt, lt-ltb (b - 48) 10 (omega arith)) (omega arith)
+    | no ge2 ↦ elim (decLt b 65) [
+      | yes lt ↦ absurd (omega (arith, rw (le-ltb b 48 (omega arith), le-ltb b 58 (omega arith), lt-ltb b 65 lt) at h))
+      | no ge3 ↦ elim (decLt b 71) [
+        | yes lt ↦ rw (le-ltb b 48 (omega arith), le-ltb b 58 (omega arith), le-ltb b 65 (omega arith), lt-ltb b 71 lt, le-ltb (b - 55) 10 (omega arith)) (omega arith)
+        | no ge4 ↦ absurd (omega (arith, rw (le-ltb b 48 (omega arith), le-ltb b 58 (omega arith), le-ltb b 65 (omega arith), le-ltb b 71 (omega arith)) at h))
+      ]
+    ]
+  ]
+]
+
+-- a digit after those that spell v
+record Digit (k v : ℕ) (bs : List ℕ) (x : ℕ) (rest : List ℕ) : Type 0 where
+  d : ℕ
+  more : List ℕ
+  small : d < 16
+  here : bs ≡ byteOf d ∷ more
+  then : hexFrom k (v * 16 + d) more ≡ is x rest
+
+digit-only : (k v : ℕ) (bs : List ℕ) {x : ℕ} {rest : List ℕ} → hexFrom (suc k) v bs ≡ is x rest → Digit k v bs x rest
 unfolding hexFrom
-one-small v [] e = never e
-one-small v (b ∷ bs) {x} {rest} e = elim (decLt (digitOf b) 16) [
-  | yes lt ↦ let q = rw (lt-ltb (digitOf b) 16 lt) at e in let z : x ≡ v * 16 + digitOf b = cc in omega arith
+digit-only k v [] e = never e
+digit-only k v (b ∷ bs) e = elim (decLt (digitOf b) 16) [
+  | yes lt ↦ record { d = digitOf b; more = bs; small = lt; here = ap (λ y. y ∷ bs) (sym (byte-digit b lt)); then = rw (lt-ltb (digitOf b) 16 lt) at e }
   | no ge ↦ never (rw (le-ltb (digitOf b) 16 (omega arith)) at e)
 ]
 
-two-small : (bs : List ℕ) {x : ℕ} {rest : List ℕ} → hexFrom 2 0 bs ≡ is x rest → x < 256
+two-only : (bs : List ℕ) {x : ℕ} {rest : List ℕ} → hexFrom 2 0 bs ≡ is x rest → (x < 256) × (bs ≡ byteOf (x / 16) ∷ byteOf (x % 16) ∷ rest)
 unfolding hexFrom
-two-small [] e = never e
-two-small (b ∷ bs) {x} {rest} e = elim (decLt (digitOf b) 16) [
-  | yes lt ↦ let q = one-small (0 * 16 + digitOf b) bs {x = x} {rest = rest} (rw (lt-ltb (digitOf b) 16 lt) at e) in omega arith
-  | no ge ↦ never (rw (le-ltb (digitOf b) 16 (omega arith)) at e)
-]
+two-only bs {x} {rest} e =
+    let a = digit-only 1 0 bs e in
+    let b = digit-only 0 (0 * 16 + a .d) (a .more) (a .then) in
+    let o : is ((0 * 16 + a .d) * 16 + b .d) (b .more) ≡ is x rest = b .then in
+    let z : x ≡ (0 * 16 + a .d) * 16 + b .d = cc in
+    let t : b .more ≡ rest = cc in
+    let d : x / 16 ≡ a .d = omega (arith, z, a .small, b .small) in
+    let m : x % 16 ≡ b .d = omega (arith, z, a .small, b .small) in
+    (omega (arith, z, a .small, b .small), a .here ∙ ap (λ l. byteOf (a .d) ∷ l) (b .here) ∙ (λ i. byteOf (sym d i) ∷ byteOf (sym m i) ∷ t i))
 
-pub byte-small : (stop : ℕ) (bs : List ℕ) {x : ℕ} {rest : List ℕ} → byteFrom stop bs ≡ is x rest → x < 256
-unfolding byteFrom stopped
-byte-small zero bs e = two-small bs e
-byte-small (suc s) bs {x} {rest} e = two-small bs (ended-only (suc s) (hexFrom 2 0 bs) x rest e)
+pub byte-only : (stop : ℕ) (bs : List ℕ) {x : ℕ} {rest : List ℕ} → byteFrom stop bs ≡ is x rest → (x < 256) × (bs ≡ inDigits x stop ++ rest)
+unfolding byteFrom stopped inDigits stopping
+byte-only zero bs e = two-only bs e
+byte-only (suc s) bs {x} {rest} e = two-only bs (ended-only (suc s) (hexFrom 2 0 bs) x rest e)
 
 -- ---- a step is read
 
@@ -220,38 +247,38 @@ module _ {s : List ℕ} {at i : ℕ} (g : Searching s at i) where
 
 pub record Taking (entry text out : List ℕ) (left at n : ℕ) : Type 0 where
   pub taken : List ℕ
-  pub rest : taken ++ steps left (drop at text) ≡ tapeOf text
+  pub rest : taken ++ readSteps left (drop at text) ≡ tapeIn text
   pub put : Put entry 0 taken n out
   pub room : n + left * 24 ≡ 12312
   pub most : at ≤ length text
 
 pub take-begins : (entry text : List ℕ) → Taking entry text entry 513 0 0
-unfolding tapeOf
+unfolding tapeIn
 take-begins entry text = record { taken = []; rest = refl; put = put-none entry 0; room = refl; most = omega arith }
 
-pub steps-none : (most : ℕ) → steps most [] ≡ []
-unfolding steps
+pub steps-none : (most : ℕ) → readSteps most [] ≡ []
+unfolding readSteps
 steps-none zero = refl
 steps-none (suc most) = refl
 
 module _ {entry text out : List ℕ} {left at n : ℕ} (g : Taking entry text out left at n) where
   pub take-on : {step exit : List ℕ} {m next : ℕ} → (left ≡ 0 → ⊥) → at < length text → length step ≡ 24 → step ≡ orZeros (stepFrom 24 [] (drop at text))
       → Put out n step m exit → next ≤ length text → drop next text ≡ nextLine (drop at text) → Taking entry text exit (left - 1) next m
-  unfolding steps
+  unfolding readSteps
   take-on {step} {exit} {m} {next} h o l p q w e =
       let z : left ≡ suc (left - 1) = omega (arith, h) in
       let d = here text at o in
       record {
         taken = g .taken ++ step;
-        rest = rw (append-assoc (g .taken) step (steps (left - 1) (drop next text)), p, e, d) (rw (z, d) at (g .rest));
+        rest = rw (append-assoc (g .taken) step (readSteps (left - 1) (drop next text)), p, e, d) (rw (z, d) at (g .rest));
         put = put-then (g .put) q;
         room = omega (arith, g .room, q .place, l, z);
         most = w;
       }
 
-  pub take-full : left ≡ 0 → Put entry 0 (tapeOf text) n out
-  unfolding steps
+  pub take-full : left ≡ 0 → Put entry 0 (tapeIn text) n out
+  unfolding readSteps
   take-full z = rw (← (rw z at (g .rest)), append-nil (g .taken)) (g .put)
 
-  pub take-all-lines : length text ≤ at → Put entry 0 (tapeOf text) n out
+  pub take-all-lines : length text ≤ at → Put entry 0 (tapeIn text) n out
   take-all-lines h = rw (← (g .rest), drop-of-length-le text {i = at} h, steps-none left, append-nil (g .taken)) (g .put)

@@ -1,19 +1,19 @@
 -- What is written of a tape reads back: `tape-back`. Assumes nothing.
 use mathlib.Core.Path.{_≡_, refl, sym, ap, _∙_}
 use mathlib.Core.List.{List, [], _∷_, _++_, append-assoc, append-nil}
-use mathlib.Core.Bool.{Bool, true, false, cond, _&&_}
+use mathlib.Core.Bool.{Bool, true, _&&_}
 use Prim.Native.Nat.{ℕ, zero, suc, _+_, _-_, _*_, _/_, _%_, _≤_, _<_}
 use native.Mathlib.Nat.{add-zero}
 use native.Mathlib.Omega.{arith}
 use native.Mathlib.Decide.{decLt}
-use lib.ListN.{length, getD, take, drop, length-append, length-drop, take-append-drop, List·getD-eq-default}
-use lib.Dec.{ltb, eqb}
+use lib.ListN.{length, getD, take, drop, length-drop, take-append-drop, List·getD-eq-default}
+use lib.Dec.{ltb}
 use lib.Seq.{length-take-le, getD-take, getD-drop}
-use borrow.Author.Tests.{lt-ltb, le-ltb, eq-eqb, ne-eqb}
+use borrow.Author.Tests.{lt-ltb, le-ltb, ne-eqb}
 use Rattle.text.specs.Reading.{is, then, ended, digitOf, hexFrom}
 use Rattle.text.specs.Writing.{byteOf}
 use Rattle.text.proofs.RoundTrip.{ended-here}
-use Rattle.console.specs.TapeText.{stops, stopAfter, stopping, inDigits, inLines, stopped, byteFrom, stepFrom, orZeros, nextLine, steps, tapeOf}
+use Rattle.console.specs.TapeText.{stops, stopAfter, stopping, inDigits, inLines, stopped, byteFrom, stepFrom, orZeros, nextLine, readSteps, tapeIn}
 use Rattle.console.proofs.TapeLines.{steps-none}
 
 -- ---- a byte
@@ -95,7 +95,7 @@ last-stop : (l : List ℕ) → nextLine (stopping (stopAfter 23) ++ l) ≡ l
 unfolding nextLine stopping stopAfter
 last-stop l = refl
 
-line-over : (j i left : ℕ) (xs rest : List ℕ) → i + suc left ≡ 24 → length xs ≡ suc left → nextLine (inLines (j * 24 + i) xs ++ rest) ≡ rest
+pub line-over : (j i left : ℕ) (xs rest : List ℕ) → i + suc left ≡ 24 → length xs ≡ suc left → nextLine (inLines (j * 24 + i) xs ++ rest) ≡ rest
 unfolding inLines
 line-over j i left [] rest e l = absurd (omega arith)
 line-over j i zero (x ∷ y ∷ xs) rest e l = absurd (omega arith)
@@ -112,7 +112,7 @@ line-over j i (suc left) (x ∷ xs) rest e l =
 
 -- ---- a tape
 
-lines-append : (k : ℕ) (xs ys : List ℕ) → inLines k (xs ++ ys) ≡ inLines k xs ++ inLines (k + length xs) ys
+pub lines-append : (k : ℕ) (xs ys : List ℕ) → inLines k (xs ++ ys) ≡ inLines k xs ++ inLines (k + length xs) ys
 unfolding inLines
 lines-append k [] ys = rw add-zero
 lines-append k (x ∷ xs) ys =
@@ -124,12 +124,12 @@ unfolding inLines inDigits
 some-line k [] rest h = absurd (omega arith)
 some-line k (x ∷ xs) rest h = omega arith
 
-some-step : (most : ℕ) (bs : List ℕ) → 0 < length bs → steps (suc most) bs ≡ orZeros (stepFrom 24 [] bs) ++ steps most (nextLine bs)
-unfolding steps
+some-step : (most : ℕ) (bs : List ℕ) → 0 < length bs → readSteps (suc most) bs ≡ orZeros (stepFrom 24 [] bs) ++ readSteps most (nextLine bs)
+unfolding readSteps
 some-step most [] h = absurd (omega arith)
 some-step most (b ∷ bs) h = refl
 
-lines-read : (n j most : ℕ) (tape : List ℕ) → length tape ≡ n * 24 → n ≤ most → Bytes tape → steps most (inLines (j * 24) tape) ≡ tape
+lines-read : (n j most : ℕ) (tape : List ℕ) → length tape ≡ n * 24 → n ≤ most → Bytes tape → readSteps most (inLines (j * 24) tape) ≡ tape
 unfolding inLines orZeros
 lines-read zero j most [] l m h = steps-none most
 lines-read zero j most (x ∷ xs) l m h = absurd (omega arith)
@@ -145,12 +145,12 @@ lines-read (suc n) j (suc most) tape l m h =
     ap (inLines (j * 24)) s ∙ lines-append (j * 24) (take 24 tape) (drop 24 tape) ∙ rw (o, ← z) in
     let hs : Bytes (take 24 tape) = λ k. elim (decLt k 24) [ yes lt ↦ rw (getD-take 24 tape k 0 lt) (h k) | no ge ↦ (let e : getD (take 24 tape) k 0 ≡ 0 = List·getD-eq-default (take 24 tape) 0 (omega (arith, a)) in omega (arith, e)) ] in
     let ht : Bytes (drop 24 tape) = λ k. rw (getD-drop 24 tape k 0) (h (24 + k)) in
-    ap (steps (suc most)) t ∙
+    ap (readSteps (suc most)) t ∙
     some-step most (inLines (j * 24 + 0) (take 24 tape) ++ rest) (some-line (j * 24 + 0) (take 24 tape) rest (omega (arith, a))) ∙
     rw (step-reads j 0 24 [] (take 24 tape) rest refl a hs, line-over j 0 23 (take 24 tape) rest refl a, lines-read n (suc j) most (drop 24 tape) d (omega arith) ht)
     (take-append-drop 24 tape)
 
 -- A tape of whole steps, as many as are read.
-pub tape-back : (n : ℕ) (tape : List ℕ) → length tape ≡ n * 24 → n ≤ 513 → ((k : ℕ) → getD tape k 0 < 256) → tapeOf (inLines 0 tape) ≡ tape
-unfolding tapeOf
+pub tape-back : (n : ℕ) (tape : List ℕ) → length tape ≡ n * 24 → n ≤ 513 → ((k : ℕ) → getD tape k 0 < 256) → tapeIn (inLines 0 tape) ≡ tape
+unfolding tapeIn
 tape-back n tape l m h = lines-read n 0 513 tape l m h

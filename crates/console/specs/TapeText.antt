@@ -56,11 +56,11 @@ nextLine [] = []
 nextLine (b ∷ bs) = cond (eqb b lf) bs (nextLine bs)
 
 -- at most so many steps
-unfoldable pub steps : (most : ℕ) → List ℕ → List ℕ
-steps zero bs = []
-steps (suc most) [] = []
-steps (suc most) (b ∷ bs) = orZeros (stepFrom 24 [] (b ∷ bs)) ++ steps most (nextLine (b ∷ bs))
+unfoldable pub readSteps : (most : ℕ) → List ℕ → List ℕ
+readSteps zero bs = []
+readSteps (suc most) [] = []
+readSteps (suc most) (b ∷ bs) = orZeros (stepFrom 24 [] (b ∷ bs)) ++ readSteps most (nextLine (b ∷ bs))
 
 -- The bytes that a text says. One step more than a tape may have shows that there are too many.
-unfoldable pub tapeOf : List ℕ → List ℕ
-tapeOf = steps 513
+unfoldable pub tapeIn : List ℕ → List ℕ
+tapeIn = readSteps 513

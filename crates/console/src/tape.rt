@@ -6,7 +6,7 @@ ghost use lib.ListN.{length, drop};
 ghost use Rattle.io.specs.Counts.{Counts};
 ghost use Rattle.text.specs.Seen.{seen};
 ghost use Rattle.text.specs.Writing.{Put};
-ghost use Rattle.console.specs.TapeText.{stopAfter, inDigits, inLines, byteFrom, stepFrom, orZeros, nextLine, tapeOf};
+ghost use Rattle.console.specs.TapeText.{stopAfter, inDigits, inLines, byteFrom, stepFrom, orZeros, nextLine, tapeIn};
 use text::reading::Number;
 use text::reading::byte_at;
 use text::reading::digit;
@@ -115,7 +115,7 @@ fn next_line(s: &[u8], at: usize) -> usize
 // The bytes that a text says, at the start of an output: 24 for each line.
 pub fn read_tape(out: &mut [u8], text: &[u8]) -> usize
     requires { ⌜ 12312 ≤ length (now out) ⌝ }
-    ensures { λ r. ⌜ Put (now (out .entry)) 0 (tapeOf (now (text .entry))) r (now (out .exit)) ⌝ }
+    ensures { λ r. ⌜ Put (now (out .entry)) 0 (tapeIn (now (text .entry))) r (now (out .exit)) ⌝ }
     ensures within { λ r. ⌜ Counts r (now (out .exit)) ⌝ }
 {
     let mut left = STEPS;

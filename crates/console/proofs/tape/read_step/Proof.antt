@@ -4,7 +4,7 @@ use Prim.Native.Nat.{_-_}
 use native.Mathlib.Omega.{arith}
 use Rattle.text.proofs.Fields.{told, told-bad}
 use Rattle.console.specs.TapeText.{orZeros}
-use Rattle.console.proofs.TapeLines.{byte-small, Stepping, step-begins, step-none, step-on, step-done}
+use Rattle.console.proofs.TapeLines.{byte-only, Stepping, step-begins, step-none, step-on, step-done}
 use borrow.Author.Needs.{needs}
 use Rattle.console.proofs.tape.read_step.Statement.{statement}
 use Rattle.console.proofs.tape.read_step.Tie as tie
@@ -23,7 +23,7 @@ unfolding orZeros
 returns c = ap orZeros (step-none (c .before .before .before .before .before .loop .inv) (c .before .before .before .stop-after .ensures) (c .before .before .before .before .loop-test .taken) (told-bad (c .before .before .before .before .before .before .before .args .s .now) (c .before .before .read-byte .ensures) (c .enum-told .given .1)))
 
 cast-step : tie.Need-cast-step Inv-loop μ-loop
-cast-step c = omega (arith, byte-small _ _ (told (c .before .before .before .before .before .before .before .before .args .s .now) (c .before .before .before .read-byte .ensures) (c .before .b .given .1)))
+cast-step c = omega (arith, byte-only _ _ (told (c .before .before .before .before .before .before .before .before .args .s .now) (c .before .before .before .read-byte .ensures) (c .before .b .given .1)) .0)
 
 array-write-step : tie.Need-array-write-step Inv-loop μ-loop
 array-write-step c = omega (arith, c .before .before .before .before .before .before .loop .inv .long, c .before .before .before .before .before .loop-test .taken)
