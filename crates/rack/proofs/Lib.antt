@@ -1,2 +1,3 @@
--- The laws that the proofs of this crate cite.
+-- The laws that the proofs of this crate cite, and what its texts are.
 mod Alone
+mod Accepted
