@@ -3,7 +3,7 @@
 use mathlib.Core.Path.{_≡_, refl}
 use mathlib.Core.List.{List, [], _∷_}
 use mathlib.Core.Bool.{Bool, true, false, cond}
-use Prim.Native.Nat.{ℕ, zero, suc, _+_, _*_, _/_, _%_, _≤_, _<_}
+use Prim.Native.Nat.{ℕ, zero, suc, _+_, _*_, _/_, _%_, _<_}
 use native.Mathlib.Omega.{arith}
 use lib.ListN.{length, getD, drop}
 use lib.Dec.{ltb, eqb}
@@ -14,7 +14,7 @@ use Rattle.steps.proofs.Knowing.{first-true, second-true}
 use Rattle.tape.specs.declared.Checked.{Checked}
 use Rattle.tape.specs.Tapes.{count, whole, allowed, after, fieldsOfAll, checkFrom, check}
 use Rattle.console.specs.TapeText.{inLines, tapeIn}
-use Rattle.console.proofs.TapesOnly.{Begun, tape-only}
+use Rattle.console.proofs.TapesOnly.{tape-only}
 
 -- no step that is known begins with 0
 known-begins : (bs : List ℕ) → known (fieldsIn bs) ≡ true → 0 < getD bs 0 0
