@@ -15,7 +15,7 @@ pub fn run(
     table: &mut [u64; 8192],
 ) {
     let mut out = [0u8; ROOM];
-    let answer = calls::tape::compile(text, tag, first, second, link, table, &mut out);
+    let answer = calls::tapes::compile(text, tag, first, second, link, table, &mut out);
     match answer {
         Written::Bytes(n) => {
             let m = part(&out, n);

@@ -11,7 +11,7 @@ pub fn run(text: &[u8], table: &mut [u64; 8192]) {
     let sheet = sheet_of(&text[n..]);
     let mut tape = [0u8; ROOM];
     let m = read_tape(&mut tape, &text[..n]);
-    let answer = calls::tape::play(&tape[..m], sheet, table);
+    let answer = calls::tapes::play(&tape[..m], sheet, table);
     match answer {
         Evaluated::Value(z) => say::value(z),
         Evaluated::Refused(why) => say::refused(why),
