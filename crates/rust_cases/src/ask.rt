@@ -1,50 +1,23 @@
 // The port is asked, and everything that is stored of the Rust's answer is compared with what it gives.
-ghost use Rattle.io.specs.Counts.{Counts};
-use super::answer::Answer;
-use super::answer::of_evaluated;
-use super::answer::of_real;
-use super::answer::of_refusal;
-use super::frame::Line;
-use super::say;
-use super::slices::is_all;
-use super::slices::is_same;
-use super::slices::part_of_bytes;
 use calls::Simplified;
 use listing::writing::Written;
+use replay::answer::Answer;
+use replay::answer::of_real;
+use replay::answer::of_refusal;
+use replay::frame::Line;
+use replay::frame::read_text;
+use replay::memory::BLANK;
+use replay::memory::is_written;
+use replay::say::is_right;
+use replay::slices::part_of_bytes;
 
-// What the paper of an output has everywhere before something is written there.
-const BLANK: u8 = 0xa5;
-
-// Puts the next bytes of the list at the start of a slice, and answers how many they are.
-pub fn read_text(list: i32, text: &mut [u8], length: usize) -> usize
-    ensures { λ r. ⌜ Counts r (now (text .exit)) ⌝ }
-{
-    let most = part_of_bytes(text, length);
-    let n = io::read_full(list, &mut text[..most]);
-    part_of_bytes(text, n)
-}
-
-fn is_right(wanted: Answer, got: Answer) -> bool {
-    if wanted.is_same(got) {
-        return true;
-    }
-    say::answer(b"the Rust", wanted);
-    say::answer(b"the port", got);
-    false
-}
-
-pub fn evaluate(
-    line: Line,
-    text: &[u8],
-    sheet: &[u8],
-    tag: &mut [u64],
-    first: &mut [u64],
-    second: &mut [u64],
-    link: &mut [u64],
-    table: &mut [u64; 8192],
-) -> bool {
-    let answer = calls::evaluate(text, sheet, tag, first, second, link, table);
-    is_right(line.wanted.with_one_zero(), of_evaluated(answer))
+// Whether an answer is the Rust's, a value's zeros of either sign as one.
+pub fn is_value(line: Line, got: Answer) -> bool {
+    is_right(
+        b"the Rust",
+        line.wanted.with_one_zero(),
+        got.with_one_zero(),
+    )
 }
 
 pub fn to_real(
@@ -57,33 +30,19 @@ pub fn to_real(
     table: &mut [u64; 8192],
 ) -> bool {
     let answer = calls::to_real(text, tag, first, second, link, table);
-    is_right(line.wanted.with_one_zero(), of_real(answer))
+    is_value(line, of_real(answer))
 }
 
 fn both(x: bool, y: bool) -> bool {
     if x { y } else { false }
 }
 
-// Whether the first n bytes of the paper are what follows in the list, and the others blank.
-fn is_written(list: i32, line: Line, paper: &[u8], n: usize) -> bool {
+// Both: the paper's first n bytes, which follow in the list, and the answer.
+fn is_told(list: i32, line: Line, paper: &[u8], n: usize, got: Answer) -> bool {
     let mut wanted = [0u8; 32768];
     let length = read_text(list, &mut wanted, line.written_length());
-    let written = part_of_bytes(paper, n);
-    if !is_same(&wanted[..length], &paper[..written]) {
-        say::fault(b"the port has written something else");
-        return false;
-    }
-    if !is_all(paper, n, BLANK) {
-        say::fault(b"the port has changed bytes beside what it wrote");
-        return false;
-    }
-    true
-}
-
-// Both: the paper's first n bytes, and the answer.
-fn is_told(list: i32, line: Line, paper: &[u8], n: usize, got: Answer) -> bool {
-    let is_there = is_written(list, line, paper, n);
-    both(is_there, is_right(line.wanted, got))
+    let is_there = is_written(&wanted[..length], paper, n);
+    both(is_there, is_right(b"the Rust", line.wanted, got))
 }
 
 // Substitutes on a paper of which as much is lent as the line says.

@@ -1,35 +1,21 @@
-// Replays the cases of the list that its argument names: texts and what the Rust answers, stored by tests/rust/run. Says
-// which answers of the port differ, and how many there were.
-use frame::Line;
-use frame::next_line;
-use slices::fill;
+// Replays the cases of the list that its argument names: texts and what the Rust answers, stored by tests/rust/run. What is
+// evaluated is also compiled and played. Says which answers of the port differ, and how many there were.
+use outcome::Outcome;
+use outcome::Tapes;
+use replay::frame::Line;
+use replay::frame::next_line;
+use replay::memory::prepare;
+use replay::say;
 
-mod answer;
 mod ask;
-mod frame;
+mod outcome;
 mod run;
-mod say;
-mod slices;
+mod tapes;
 
 // More cases than any list has.
 const MOST: u64 = 1_000_000;
 
 // The table and the work slices hold the case's word before it.
-fn prepare(
-    line: Line,
-    tag: &mut [u64],
-    first: &mut [u64],
-    second: &mut [u64],
-    link: &mut [u64],
-    table: &mut [u64],
-) {
-    fill(tag, line.junk);
-    fill(first, line.junk);
-    fill(second, line.junk);
-    fill(link, line.junk);
-    fill(table, line.junk);
-}
-
 fn run_case(
     list: i32,
     line: Line,
@@ -38,9 +24,22 @@ fn run_case(
     second: &mut [u64],
     link: &mut [u64],
     table: &mut [u64; 8192],
-) -> bool {
-    prepare(line, tag, first, second, link, table);
+) -> Outcome {
+    prepare(line.junk, tag, first, second, link, table);
     run::run(list, line, tag, first, second, link, table)
+}
+
+fn end(cases: u64, wrong: u64, tapes: Tapes) {
+    say::decimal(cases);
+    say::word(b" cases from the Rust, ");
+    say::decimal(wrong);
+    say::word(b" wrong\n");
+    say::decimal(tapes.played);
+    say::word(b" compiled and played, ");
+    say::decimal(tapes.long);
+    say::word(b" too long for a tape, ");
+    say::decimal(tapes.refused);
+    say::word(b" refused\n");
 }
 
 fn run_list(list: i32) {
@@ -51,12 +50,13 @@ fn run_list(list: i32) {
     let mut table = [0; 8192];
     let mut count = 0;
     let mut wrong = 0;
+    let mut tapes = Tapes::none();
     while count < MOST {
         let line = next_line(list);
         if line.is_none() {
             break;
         }
-        let is_right = run_case(
+        let outcome = run_case(
             list,
             line,
             &mut tag,
@@ -65,10 +65,11 @@ fn run_list(list: i32) {
             &mut link,
             &mut table,
         );
-        wrong += say::count_wrong(count, is_right);
+        wrong += say::count_wrong(count, outcome.is_right());
+        tapes = tapes.with(outcome);
         count += 1;
     }
-    say::end(count, wrong);
+    end(count, wrong, tapes);
 }
 
 fn main() {

@@ -8,11 +8,11 @@ use Rattle.rust_cases.proofs.run_list.Statement.{statement}
 use Rattle.rust_cases.proofs.run_list.Tie as tie
 
 abbrev Inv-loop : tie.InvT-loop
-Inv-loop list tag₀ first₀ second₀ link₀ table₀ count₀ wrong₀ tag first second link table count wrong =
+Inv-loop list tag₀ first₀ second₀ link₀ table₀ count₀ wrong₀ tapes₀ tag first second link table count wrong tapes =
     (wrong ≤ count) × (4096 ≡ length tag) × (4096 ≡ length first) × (4096 ≡ length second) × (4096 ≡ length link)
 
 abbrev μ-loop : tie.MeasureT-loop
-μ-loop list tag₀ first₀ second₀ link₀ table₀ count₀ wrong₀ tag first second link table count wrong = 1000000 - count
+μ-loop list tag₀ first₀ second₀ link₀ table₀ count₀ wrong₀ tapes₀ tag first second link table count wrong tapes = 1000000 - count
 
 pub run-list-spec : {M : Type 1} → statement M
 run-list-spec =
@@ -20,6 +20,7 @@ run-list-spec =
     (tie.spec
     Inv-loop
     μ-loop
+    (λ c κs. search needs)
     (λ c. search needs)
     (λ c κs. search needs)
     (λ c κs. search needs)
@@ -29,7 +30,9 @@ run-list-spec =
     (λ c. search needs)
     (λ c κs. search needs)
     (λ c κs. search needs)
+    (λ c κs. search needs)
     (λ c. search needs)
+    (λ c κs. search needs)
     (λ c. search needs)
     (λ c. search needs)
     (λ c. search needs)

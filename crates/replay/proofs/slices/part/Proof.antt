@@ -1,9 +1,9 @@
--- `rust_cases::slices::part` meets its contract: n or the length, whichever is less, counts elements of s. Assumes nothing.
+-- `replay::slices::part` meets its contract: n or the length, whichever is less, counts elements of s. Assumes nothing.
 use mathlib.Core.Path.{sym}
 use native.Mathlib.Omega.{arith}
 use lib.Seq.{length-take-le}
-use Rattle.rust_cases.proofs.slices.part.Statement.{statement}
-use Rattle.rust_cases.proofs.slices.part.Tie as tie
+use Rattle.replay.proofs.slices.part.Statement.{statement}
+use Rattle.replay.proofs.slices.part.Tie as tie
 
 pub part-spec : {M : Type 1} → statement M
 part-spec =

@@ -1,6 +1,8 @@
-// A line of the list of cases: two letters and eleven fields of 16 digits, parted by tabs. What they stand for is said in
-// tests/rust/README.md.
+// A line of a list of cases: two letters and eleven fields of 16 digits, parted by tabs. What they stand for is said where
+// a list is made: tests/rust/README.md and tests/tape_cases.py.
+ghost use Rattle.io.specs.Counts.{Counts};
 use super::answer::Answer;
+use super::slices::part_of_bytes;
 
 const LENGTH: usize = 190;
 
@@ -32,11 +34,12 @@ impl Line {
         self.kind == 0
     }
 
-    pub fn listing_length(self) -> usize {
+    // Of the first text.
+    pub fn first_length(self) -> usize {
         (self.texts / 4294967296) as usize
     }
 
-    pub fn sheet_length(self) -> usize {
+    pub fn second_length(self) -> usize {
         (self.texts % 4294967296) as usize
     }
 
@@ -99,4 +102,13 @@ pub fn next_line(list: i32) -> Line {
     let mut bytes = [0u8; 190];
     let n = io::read_full(list, &mut bytes);
     line_of(&bytes[..n])
+}
+
+// Puts the next bytes of the list at the start of a slice, and answers how many they are.
+pub fn read_text(list: i32, text: &mut [u8], length: usize) -> usize
+    ensures { λ r. ⌜ Counts r (now (text .exit)) ⌝ }
+{
+    let most = part_of_bytes(text, length);
+    let n = io::read_full(list, &mut text[..most]);
+    part_of_bytes(text, n)
 }

@@ -1,9 +1,9 @@
--- `rust_cases::frame::number` is safe and ends: each digit once. Assumes nothing.
+-- `replay::frame::number` is safe and ends: each digit once. Assumes nothing.
 use Prim.Native.Nat.{_≤_, _-_}
 use lib.ListN.{length}
 use borrow.Author.Needs.{needs}
-use Rattle.rust_cases.proofs.frame.number.Statement.{statement}
-use Rattle.rust_cases.proofs.frame.number.Tie as tie
+use Rattle.replay.proofs.frame.number.Statement.{statement}
+use Rattle.replay.proofs.frame.number.Tie as tie
 
 abbrev Inv-loop : tie.InvT-loop
 Inv-loop digits v₀ i₀ v i = i ≤ length digits

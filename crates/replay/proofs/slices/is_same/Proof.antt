@@ -1,9 +1,9 @@
--- `rust_cases::slices::is_same` is safe and ends: each place at most once. Nothing has to hold from turn to turn. Assumes nothing.
+-- `replay::slices::is_same` is safe and ends: each place at most once. Nothing has to hold from turn to turn. Assumes nothing.
 use Prim.Native.Nat.{_-_}
 use lib.ListN.{length}
 use borrow.Author.Needs.{needs}
-use Rattle.rust_cases.proofs.slices.is_same.Statement.{statement}
-use Rattle.rust_cases.proofs.slices.is_same.Tie as tie
+use Rattle.replay.proofs.slices.is_same.Statement.{statement}
+use Rattle.replay.proofs.slices.is_same.Tie as tie
 
 abbrev Inv-loop : tie.InvT-loop
 Inv-loop a b i₀ i = Unit {0}

@@ -1,13 +1,13 @@
-// What is written: a line for each wrong case, and one at the end.
+// What is printed: lines for each wrong case, and counts at the end.
 ghost use Prim.Native.Nat.{_≤_};
 use super::answer::Answer;
 use libc::STDOUT_FILENO;
 
-fn word(text: &[u8]) {
+pub fn word(text: &[u8]) {
     io::write_all(STDOUT_FILENO, text);
 }
 
-fn decimal(n: u64) {
+pub fn decimal(n: u64) {
     io::print_decimal(STDOUT_FILENO, n);
 }
 
@@ -48,9 +48,12 @@ pub fn count_wrong(case: u64, is_right: bool) -> u64
     1
 }
 
-pub fn end(cases: u64, wrong: u64) {
-    decimal(cases);
-    word(b" cases from the Rust, ");
-    decimal(wrong);
-    word(b" wrong\n");
+// Whether an answer is the wanted one. `whose` is the one that it was wanted from.
+pub fn is_right(whose: &[u8], wanted: Answer, got: Answer) -> bool {
+    if wanted.is_same(got) {
+        return true;
+    }
+    answer(whose, wanted);
+    answer(b"the port", got);
+    false
 }

@@ -1,10 +1,10 @@
--- `rust_cases::slices::fill` is safe and ends. The invariant: the length is as it was. Assumes nothing.
+-- `replay::slices::fill` is safe and ends. The invariant: the length is as it was. Assumes nothing.
 use Prim.Native.Nat.{_-_}
 use mathlib.Core.Path.{_≡_}
 use lib.ListN.{length}
 use borrow.Author.Needs.{needs}
-use Rattle.rust_cases.proofs.slices.fill.Statement.{statement}
-use Rattle.rust_cases.proofs.slices.fill.Tie as tie
+use Rattle.replay.proofs.slices.fill.Statement.{statement}
+use Rattle.replay.proofs.slices.fill.Tie as tie
 
 abbrev Inv-loop : tie.InvT-loop
 Inv-loop s₀ word i₀ s i = length s ≡ length s₀

@@ -1,8 +1,7 @@
-// An answer as numbers, so that the port's and the Rust's can be compared: a refusal's number or 0, the operation or
-// the line that it names, and a value's bits or the operands. A value's zeros of either sign are one, and its NaNs.
+// An answer as numbers, so that the port's can be compared with a stored one: a refusal's number or 0, the operation, the
+// line or the step that it names, and a value's bits or the operands. All NaNs are one.
 use calls::Evaluated;
 use complex::Complex;
-use complex::bits::class_of;
 use complex::bits::class_of_bits;
 use complex::bits::to_bits;
 use evaluation::real::Real;
@@ -21,9 +20,14 @@ pub struct Answer {
 impl Answer {
     // What a text that was written answers.
     pub fn none() -> Self {
+        Self::plain(0, 0)
+    }
+
+    // A number and a place alone.
+    pub fn plain(number: u64, place: u64) -> Self {
         Self {
-            number: 0,
-            place: 0,
+            number: number,
+            place: place,
             a: 0,
             b: 0,
             c: 0,
@@ -47,8 +51,8 @@ impl Answer {
         Self {
             number: 0,
             place: 0,
-            a: class_of(re),
-            b: class_of(im),
+            a: to_bits(re),
+            b: to_bits(im),
             c: 0,
             d: 0,
         }
@@ -65,18 +69,7 @@ impl Answer {
         }
     }
 
-    fn plain(number: u64, place: u64) -> Self {
-        Self {
-            number: number,
-            place: place,
-            a: 0,
-            b: 0,
-            c: 0,
-            d: 0,
-        }
-    }
-
-    // The stored answer, with one zero where it is a value.
+    // The answer with one zero where it is a value.
     pub fn with_one_zero(self) -> Self {
         if self.number != 0 {
             return self;
