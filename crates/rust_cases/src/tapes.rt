@@ -85,7 +85,7 @@ fn compile(
     table: &mut [u64; 8192],
 ) -> Outcome {
     let mut tape = [0u8; 12288];
-    let answer = calls::tape::compile(text, tag, first, second, link, table, &mut tape);
+    let answer = calls::tapes::compile(text, tag, first, second, link, table, &mut tape);
     if !is_zero_again(tag, first, second, link, table) {
         return Outcome::Wrong;
     }
@@ -106,7 +106,7 @@ fn play(
     table: &mut [u64; 8192],
 ) -> Outcome {
     fill(table, line.junk);
-    let played = of_evaluated(calls::tape::play(tape, sheet, table));
+    let played = of_evaluated(calls::tapes::play(tape, sheet, table));
     if !is_right(b"evaluating", evaluated, played) {
         return Outcome::Wrong;
     }

@@ -12,7 +12,7 @@ use replay::say::is_right;
 use replay::slices::is_same;
 use replay::slices::part_of_bytes;
 use tape::Checked;
-use tape::Which;
+use tape::Picked;
 
 fn of_checked(answer: Checked) -> Answer {
     match answer {
@@ -25,11 +25,11 @@ pub fn check(line: Line, tape: &[u8]) -> bool {
     is_right(b"wanted", line.wanted, of_checked(tape::check(tape)))
 }
 
-fn number_of(which: Which) -> u64 {
+fn number_of(which: Picked) -> u64 {
     match which {
-        Which::Nothing => 0,
-        Which::First => 1,
-        Which::Second => 2,
+        Picked::Nothing => 0,
+        Picked::First => 1,
+        Picked::Second => 2,
     }
 }
 
@@ -44,7 +44,7 @@ fn is_part(which: u64, a: &[u8], b: &[u8], part: &[u8]) -> bool {
 
 pub fn pick<'a>(line: Line, a: &'a [u8], b: &'a [u8]) -> bool {
     let part = tape::pick(a, b);
-    let which = number_of(tape::picked(a, b));
+    let which = number_of(tape::which(a, b));
     let got = Answer::plain(which, part.len() as u64);
     if !is_right(b"wanted", line.wanted, got) {
         return false;
@@ -81,7 +81,7 @@ fn compile_on(
     paper: &mut [u8],
 ) -> bool {
     let room = part_of_bytes(paper, line.output_length());
-    match calls::tape::compile(text, tag, first, second, link, table, &mut paper[..room]) {
+    match calls::tapes::compile(text, tag, first, second, link, table, &mut paper[..room]) {
         Written::Bytes(n) => is_told(list, line, paper, n, Answer::none()),
         Written::Refused(why) => is_told(list, line, paper, 0, of_refusal(why)),
     }
@@ -112,6 +112,6 @@ pub fn compile(
 }
 
 pub fn play(line: Line, tape: &[u8], sheet: &[u8], table: &mut [u64; 8192]) -> bool {
-    let answer = calls::tape::play(tape, sheet, table);
+    let answer = calls::tapes::play(tape, sheet, table);
     is_right(b"wanted", line.wanted, of_evaluated(answer))
 }
