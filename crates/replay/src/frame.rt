@@ -52,24 +52,29 @@ impl Line {
     }
 }
 
-fn digit(c: u8) -> u64 {
+// The value of a hex digit in lower case.
+pub fn digit(c: u8) -> u8 {
     if c < b'0' {
         return 0;
     }
     if c <= b'9' {
-        return (c - b'0') as u64;
+        return c - b'0';
     }
     if c < b'a' {
         return 0;
     }
-    (c - b'a') as u64 % 6 + 10
+    (c - b'a') % 6 + 10
+}
+
+fn wide(b: u8) -> u64 {
+    b as u64
 }
 
 fn number(digits: &[u8]) -> u64 {
     let mut v: u64 = 0;
     let mut i = 0;
     while i < digits.len() {
-        v = (v << 4) | digit(digits[i]);
+        v = (v << 4) | wide(digit(digits[i]));
         i += 1;
     }
     v

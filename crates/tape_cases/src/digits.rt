@@ -1,20 +1,8 @@
 // A tape as it stands in a list of cases: two hex digits a byte, and a line feed after each step and at the end.
 ghost use Rattle.io.specs.Counts.{Counts};
+use replay::frame::digit;
 use replay::frame::read_text;
 use replay::slices::part_of_bytes;
-
-fn digit(c: u8) -> u8 {
-    if c < b'0' {
-        return 0;
-    }
-    if c <= b'9' {
-        return c - b'0';
-    }
-    if c < b'a' {
-        return 0;
-    }
-    (c - b'a') % 6 + 10
-}
 
 fn digit_at(digits: &[u8], i: usize) -> u8 {
     if i < digits.len() {
