@@ -82,14 +82,10 @@ class Cases:
         assert self.is_new(a, b)
         self.add('picks', 'p', [in_hex(a), in_hex(b)], [len(a), len(b)], (which, len(part)))
 
-    def compile(self, listing, nodes=WORK, spare=None, room=None):
-        """`spare` is how much longer the output is than the tape."""
-        try:
-            exact = len(compiled(listing, nodes, TAPE))
-        except Refused:
-            exact = 0
+    def compile(self, listing, nodes=WORK, room=None):
+        """With an output that is just long enough, or a little longer, unless `room` says how long."""
         if room is None:
-            room = exact + (pick.choice([0, 1, 23, 24, 500]) if spare is None else spare)
+            room = length_of(listing, nodes) + pick.choice([0, 1, 23, 24, 500])
         try:
             answer, tape = (0, 0), compiled(listing, nodes, room)
         except Refused as why:
@@ -100,6 +96,14 @@ class Cases:
 
     def play(self, tape, sheet):
         self.add('plays', 'y', [in_hex(tape), sheet], [len(tape), len(sheet)], answer_of(tape, sheet))
+
+
+def length_of(listing, nodes):
+    """How long its tape is, 0 if it has none."""
+    try:
+        return len(compiled(listing, nodes, TAPE))
+    except Refused:
+        return 0
 
 
 def answer_of(tape, sheet):
