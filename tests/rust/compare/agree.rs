@@ -2,6 +2,7 @@
 // ones, at every limit from 0 to 10. The port is not asked. Arguments: how many random trees, and a seed. tests/rust/run
 // builds it.
 #![allow(dead_code)] // what only the other comparison uses
+mod arithmetic;
 mod cases;
 mod forest;
 mod model;
@@ -9,6 +10,7 @@ mod question;
 mod random;
 mod rust;
 mod store;
+mod tape;
 mod texts;
 mod verdict;
 mod zero;

@@ -6,6 +6,7 @@ use oracle::nodes::Node;
 use std::collections::BTreeSet;
 
 pub mod arms;
+pub mod tapes;
 
 pub const FUNCTIONS: [ExpressionFunction; 5] = [
     ExpressionFunction::Sine,
@@ -321,6 +322,13 @@ impl<'a> Maker<'a> {
         cells
     }
 
+    // The lines, and what a sheet binds.
+    fn bound(mut self) -> Case {
+        let how = self.random.below(10);
+        let (variables, cells) = (self.bound_variables(how), self.bound_cells(how));
+        Case { nodes: self.nodes, swaps: vec![], variables, cells }
+    }
+
     // What s lines put in: any line's tree, for variables that occur and for some that do not.
     fn put_in(&mut self) -> Vec<(u16, usize)> {
         let mut names = self.used_variables();
@@ -341,9 +349,7 @@ impl<'a> Maker<'a> {
 pub fn to_evaluate(random: &mut Random) -> Case {
     let mut maker = Maker::new(random);
     maker.shape();
-    let how = maker.random.below(10);
-    let (variables, cells) = (maker.bound_variables(how), maker.bound_cells(how));
-    Case { nodes: maker.nodes, swaps: vec![], variables, cells }
+    maker.bound()
 }
 
 // A case for substituting: variables are more frequent among its leaves.

@@ -11,6 +11,7 @@ use oracle::trace::Asked;
 use std::collections::{BTreeMap, HashSet};
 
 mod simplify;
+mod tape;
 
 const SHOWN: u64 = 5;
 const NEEDS: [&str; 5] = ["NEED: sin", "NEED: cos", "NEED: exp", "NEED: sqrt", "NEED: pow"];
@@ -18,6 +19,7 @@ const NEEDS: [&str; 5] = ["NEED: sin", "NEED: cos", "NEED: exp", "NEED: sqrt", "
 #[derive(Default)]
 pub struct Tally {
     cases: BTreeMap<(&'static str, String), u64>,
+    tries: BTreeMap<(&'static str, String), u64>, // that are no cases of their own
     notes: BTreeMap<&'static str, u64>,
     compared: u64,
     zeros: u64,
@@ -28,6 +30,10 @@ pub struct Tally {
 impl Tally {
     fn count(&mut self, what: &'static str, outcome: &str) {
         *self.cases.entry((what, outcome.to_string())).or_default() += 1;
+    }
+
+    fn tried(&mut self, what: &'static str, outcome: &str) {
+        *self.tries.entry((what, outcome.to_string())).or_default() += 1;
     }
 
     fn note(&mut self, what: &'static str) {
@@ -63,6 +69,7 @@ impl Tally {
                 self.differs(q, &format!("the Rust\n{expected:x?}\nthe port\n{got:x?}"));
             }
         }
+        self.compare_played(q, &got);
         got.bytes
     }
 
@@ -215,7 +222,7 @@ impl Tally {
         if !self.hits.is_empty() {
             print_hits(&self.hits);
         }
-        for ((what, outcome), n) in &self.cases {
+        for ((what, outcome), n) in self.cases.iter().chain(&self.tries) {
             println!("{n:>10}  {what}: {outcome}");
         }
         for (what, n) in &self.notes {

@@ -50,6 +50,7 @@ pub fn question(random: &mut Random, kind: Kind, case: &Case, rust: &Rust, most:
         lengths: lengths(random, needed, most),
         out: 0,
         junk: junk(random),
+        tape: None,
     }
 }
 
@@ -63,6 +64,7 @@ pub fn simplify_question(random: &mut Random, nodes: &[Node], limit: u64, needed
         lengths: lengths(random, needed, most),
         out: 0,
         junk: junk(random),
+        tape: None,
     }
 }
 

@@ -1,5 +1,6 @@
 // Simplifying as the rules say it, as plainly as can be, over the plain store: the result, the number of calls, which
 // function values are asked for, what is refused, and how often each arm was taken.
+use crate::arithmetic::{function_value, infix_value, negated, real};
 use crate::store::{Store, children};
 use crate::zero::{is_one, is_zero};
 use num_complex::Complex64;
@@ -63,31 +64,6 @@ pub struct Model<'a> {
     pub asks: Asks,
     pub hits: Hits,
     pub at_the_border: bool, // whether a number was tested that is too near T for the Rust's rounded norm
-}
-
-fn real(x: f64) -> Complex64 {
-    Complex64::new(x, 0.0)
-}
-
-fn plus(x: Complex64, y: Complex64) -> Complex64 {
-    Complex64::new(x.re + y.re, x.im + y.im)
-}
-
-fn minus(x: Complex64, y: Complex64) -> Complex64 {
-    Complex64::new(x.re - y.re, x.im - y.im)
-}
-
-fn times(x: Complex64, y: Complex64) -> Complex64 {
-    Complex64::new(x.re * y.re - x.im * y.im, x.re * y.im + x.im * y.re)
-}
-
-fn over(x: Complex64, y: Complex64) -> Complex64 {
-    let n = y.re * y.re + y.im * y.im;
-    Complex64::new((x.re * y.re + x.im * y.im) / n, (x.im * y.re - x.re * y.im) / n)
-}
-
-fn negated(x: Complex64) -> Complex64 {
-    Complex64::new(-x.re, -x.im)
 }
 
 use InfixOperator::{Caret, Minus, Plus, Slash, Star};
@@ -165,31 +141,6 @@ impl<'a> Model<'a> {
         if self.rows.is_none_or(|rows| rows.contains(&asked)) { Ok(asked.value()) } else { Err(Stop::Need(asked)) }
     }
 
-    fn function_value(&mut self, function: ExpressionFunction, x: Complex64) -> Result<Complex64, Stop> {
-        let zero = real(0.0);
-        match function {
-            ExpressionFunction::Sine => self.ask(Operation::Sine, x, zero),
-            ExpressionFunction::Cosine => self.ask(Operation::Cosine, x, zero),
-            ExpressionFunction::Exponent => self.ask(Operation::Exponent, x, zero),
-            ExpressionFunction::SquareRoot => self.ask(Operation::SquareRoot, x, zero),
-            ExpressionFunction::Cis => {
-                let cosine = self.ask(Operation::Cosine, x, zero)?;
-                let sine = self.ask(Operation::Sine, x, zero)?;
-                Ok(plus(cosine, times(Complex64::new(0.0, 1.0), sine)))
-            }
-        }
-    }
-
-    fn infix_value(&mut self, x: Complex64, op: InfixOperator, y: Complex64) -> Result<Complex64, Stop> {
-        match op {
-            Plus => Ok(plus(x, y)),
-            Minus => Ok(minus(x, y)),
-            Star => Ok(times(x, y)),
-            Slash => Ok(over(x, y)),
-            Caret => self.ask(Operation::Power, x, y),
-        }
-    }
-
     // Simplifying.
 
     fn simplify(&mut self, e: usize, limit: u64) -> Found {
@@ -232,7 +183,7 @@ impl<'a> Model<'a> {
         match self.value(x) {
             Some(z) => {
                 self.hit(0, "function folded");
-                let value = self.function_value(function, z)?;
+                let value = function_value(function, z, |o, x, y| self.ask(o, x, y))?;
                 self.number(value)
             }
             None => {
@@ -279,7 +230,7 @@ impl<'a> Model<'a> {
         }
         if let (Some(x), Some(y)) = (self.value(l), self.value(r)) {
             self.hit(17, name(op));
-            let value = self.infix_value(x, op, y)?;
+            let value = infix_value(x, op, y, |o, x, y| self.ask(o, x, y))?;
             return self.number(value);
         }
         let groups = [Self::with_negations, Self::affine, Self::regrouped, Self::distributed, Self::with_quotients];

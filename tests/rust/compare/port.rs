@@ -1,6 +1,8 @@
 // The proved port, called as C calls it. Around each lent slice stand words that have to stay as they are.
 use crate::question::{Answer, Kind, NEED, Question};
 
+pub mod tape;
+
 #[rustfmt::skip]
 unsafe extern "C" {
     fn findavoreb_evaluate(
@@ -23,6 +25,12 @@ unsafe extern "C" {
     ) -> u64;
     fn findavoreb_simplify(
         listing: *const u8, listing_length: usize, sheet: *const u8, sheet_length: usize, limit: u64,
+        tag: *mut u64, tag_length: usize, first: *mut u64, first_length: usize,
+        second: *mut u64, second_length: usize, link: *mut u64, link_length: usize,
+        table: *mut u64, out: *mut u8, out_length: usize, answer: *mut u64,
+    ) -> u64;
+    fn findavoreb_compile(
+        listing: *const u8, listing_length: usize,
         tag: *mut u64, tag_length: usize, first: *mut u64, first_length: usize,
         second: *mut u64, second_length: usize, link: *mut u64, link_length: usize,
         table: *mut u64, out: *mut u8, out_length: usize, answer: *mut u64,
@@ -100,8 +108,27 @@ fn call(q: &Question, work: &mut [Words; 4], table: &mut Words, paper: &mut Pape
                 text, length, sheet, sheet_length, limit, a, al, b, bl, c, cl, d, dl, table, out, out_length, answer,
             ),
             Kind::ToReal => findavoreb_to_real(text, length, a, al, b, bl, c, cl, d, dl, table, answer),
+            Kind::Compile => {
+                findavoreb_compile(text, length, a, al, b, bl, c, cl, d, dl, table, out, out_length, answer)
+            }
         }
     }
+}
+
+// The answer without its bytes, in its place what the second word holds; or what was wrong about the memory.
+fn answered(number: u64, answer: &mut Words) -> Result<Answer, &'static str> {
+    if !answer.edges_kept() {
+        return Err("words beside the answer were changed");
+    }
+    let [first, place, words @ ..] = answer.lent() else { return Err("no answer") };
+    if *first != number {
+        return Err("the answer's first word is not what was returned");
+    }
+    let (place, words) = (*place, [words[0], words[1], words[2], words[3]]);
+    if number != 0 && number != NEED && words != [0; 4] {
+        return Err("words of the answer that are not used are not zero");
+    }
+    Ok(Answer { number, place, words, bytes: vec![] })
 }
 
 // The answer, or what was wrong about the memory after the call.
@@ -116,19 +143,11 @@ pub fn ask(q: &Question) -> Result<Answer, &'static str> {
     if !table.is_zero() {
         return Err("the table is not zero");
     }
-    if !answer.edges_kept() {
-        return Err("words beside the answer were changed");
+    let mut got = answered(number, &mut answer)?;
+    let written = if number == 0 { got.place as usize } else { 0 };
+    got.bytes = paper.written(written).ok_or("bytes of the output beside the result were changed")?;
+    if number == 0 {
+        got.place = 0;
     }
-    let [first, place, words @ ..] = answer.lent() else { return Err("no answer") };
-    if *first != number {
-        return Err("the answer's first word is not what was returned");
-    }
-    let (place, words) = (*place, [words[0], words[1], words[2], words[3]]);
-    let written = if number == 0 { place as usize } else { 0 };
-    let bytes = paper.written(written).ok_or("bytes of the output beside the result were changed")?;
-    if number != 0 && number != NEED && words != [0; 4] {
-        return Err("words of the answer that are not used are not zero");
-    }
-    let place = if number == 0 { 0 } else { place };
-    Ok(Answer { number, place, words, bytes })
+    Ok(got)
 }

@@ -8,9 +8,11 @@ pub enum Kind {
     Substitute,
     ToReal,
     Simplify(u64), // to this limit
+    Compile,
 }
 
-// The two texts; how long the four work slices and the output are; what they hold at entry.
+// The two texts; how long the four work slices and the output are; what they hold at entry; for evaluating, a tape of the
+// same that is to be played besides.
 #[derive(Clone, Debug)]
 pub struct Question {
     pub kind: Kind,
@@ -19,6 +21,7 @@ pub struct Question {
     pub lengths: [usize; 4],
     pub out: usize,
     pub junk: u64,
+    pub tape: Option<Vec<u8>>,
 }
 
 impl Question {
@@ -27,7 +30,7 @@ impl Question {
     }
 
     pub fn writes(&self) -> bool {
-        matches!(self.kind, Kind::Substitute | Kind::Simplify(_))
+        matches!(self.kind, Kind::Substitute | Kind::Simplify(_) | Kind::Compile)
     }
 
     pub fn capacity(&self) -> usize {
@@ -35,8 +38,8 @@ impl Question {
     }
 }
 
-// A refusal's number or 0; the operation that NEED names, or the line; a value's bits, NEED's operands, or the number of
-// simplify calls; the bytes.
+// A refusal's number or 0; the operation that NEED names, the line, or a tape's step, and after a check the number of its
+// steps; a value's bits, NEED's operands, or the number of simplify calls; the bytes.
 #[derive(Clone, Debug, Default, PartialEq, Eq)]
 pub struct Answer {
     pub number: u64,
@@ -53,6 +56,8 @@ pub const INCOMPLETE: u64 = 10;
 pub const NOT_REAL: u64 = 11;
 pub const NOT_A_NUMBER: u64 = 12;
 pub const OUT_ROOM: u64 = 13;
+pub const LONG_TAPE: u64 = 14;
+pub const BAD_TAPE: u64 = 15;
 
 impl Answer {
     pub fn refusal(number: u64) -> Self {

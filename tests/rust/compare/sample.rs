@@ -1,6 +1,7 @@
 // Stores some hundreds of cases of every outcome with the Rust's answers, in the form that the program rust_cases
 // reads, or says whether a file has them. The port is not asked. tests/rust/run builds it.
 #![allow(dead_code)] // what only the comparison uses
+mod arithmetic;
 mod cases;
 mod drawing;
 mod expected;
@@ -9,6 +10,7 @@ mod question;
 mod random;
 mod rust;
 mod store;
+mod tape;
 mod texts;
 mod verdict;
 mod zero;
@@ -72,6 +74,7 @@ fn letter(kind: Kind) -> char {
         Kind::Substitute => 's',
         Kind::ToReal => 'r',
         Kind::Simplify(_) => 'z',
+        Kind::Compile => unreachable!("none is stored"),
     }
 }
 
@@ -191,6 +194,7 @@ fn outcome(q: &Question, expected: &Answer) -> Option<String> {
         Kind::ToReal if expected.number == 0 => "to_real",
         Kind::ToReal => return Some("to_real other".into()),
         Kind::Simplify(_) => "simplify",
+        Kind::Compile => return None,
     };
     let with = if long { " long" } else { "" };
     Some(format!("{what} {}{with}", expected.number))

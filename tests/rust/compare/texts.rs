@@ -4,15 +4,16 @@ use internment::ArcIntern;
 use num_complex::Complex64;
 use oracle::expression::{Expression, FunctionCallExpression, InfixExpression, PrefixExpression};
 use oracle::nodes::{Node, number_of};
-use oracle::trace::{Asked, Operation, bits};
+use oracle::trace::{Asked, OPERATIONS, Operation, bits};
 use std::collections::HashMap;
 use std::fmt::{Debug, Write};
 
 const FUNCTION_NAMES: [&str; 5] = ["sin", "cos", "exp", "sqrt", "cis"];
 const PREFIX_NAMES: [&str; 2] = ["+", "-"];
 const INFIX_NAMES: [&str; 5] = ["+", "-", "*", "/", "^"];
+const ROW_NAMES: [&str; 5] = ["sin", "cos", "exp", "sqrt", "pow"];
 
-fn place<T: PartialEq>(all: &[T], one: T) -> usize {
+pub fn place<T: PartialEq>(all: &[T], one: T) -> usize {
     all.iter().position(|x| *x == one).expect("one of these")
 }
 
@@ -39,7 +40,11 @@ pub fn listing(nodes: &[Node], swaps: &[(u16, usize)]) -> String {
 }
 
 fn row_name(operation: Operation) -> &'static str {
-    ["sin", "cos", "exp", "sqrt", "pow"][operation as usize - 1]
+    ROW_NAMES[operation as usize - 1]
+}
+
+pub fn operation_of(name: &str) -> Operation {
+    OPERATIONS[place(&ROW_NAMES, name)]
 }
 
 pub fn row(asked: Asked, value: Complex64) -> String {
@@ -120,14 +125,14 @@ pub fn in_order(tree: &Expression) -> Vec<Node> {
     order.nodes
 }
 
-fn field<T: std::str::FromStr>(text: &str) -> T
+pub fn field<T: std::str::FromStr>(text: &str) -> T
 where
     T::Err: Debug,
 {
     text.parse().expect("a number")
 }
 
-fn double(text: &str) -> f64 {
+pub fn double(text: &str) -> f64 {
     f64::from_bits(u64::from_str_radix(text, 16).expect("sixteen digits"))
 }
 

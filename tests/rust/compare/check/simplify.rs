@@ -142,7 +142,7 @@ impl Tally {
 }
 
 // The line that was put behind a listing's last one.
-fn refused_line(q: &Question, line: usize) -> Answer {
+pub(super) fn refused_line(q: &Question, line: usize) -> Answer {
     let is_node = !q.listing.lines().nth(line).is_some_and(|l| l.starts_with('s'));
     Answer::at(if line == LINES && is_node { LONG_LIST } else { BAD_LIST }, line as u64)
 }
