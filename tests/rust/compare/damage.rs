@@ -5,6 +5,7 @@ use crate::tape::{STACK, STEP, STEPS, step, takes};
 use oracle::nodes::Node;
 
 const PLUS: Node = Node::Infix(INFIXES[0], 0, 0);
+const FIELDS: [(usize, usize); 6] = [(0, 1), (1, 1), (2, 2), (4, 4), (8, 8), (16, 8)]; // where they begin, and how long they are
 const NANS: [u64; 3] = [0xFFF8_0000_0000_0000, 0x7FF0_0000_0000_0001, 0x7FF8_0000_0000_0001];
 
 fn steps_of(tape: &[u8]) -> Vec<[u8; STEP]> {
@@ -78,14 +79,15 @@ fn with_steps_moved(random: &mut Random, tape: &[u8]) -> Vec<u8> {
     steps.concat()
 }
 
-// A byte of one step: most often one of its opcode, sub, u16 and u32.
+// A byte of one field of a step.
 fn with_a_byte_changed(random: &mut Random, tape: &[u8]) -> Vec<u8> {
     let mut tape = tape.to_vec();
-    let (from, width) = (STEP * random.below(tape.len() / STEP), random.pick(&[1, 2, 8, STEP]));
-    let at = from + random.below(width);
-    tape[at] = match random.below(3) {
+    let (field, width) = random.pick(&FIELDS);
+    let at = STEP * random.below(tape.len() / STEP) + field + random.below(width);
+    tape[at] = match random.below(4) {
         0 => random.below(9) as u8,
-        1 => tape[at] ^ 1 << random.below(8),
+        1 => tape[at].wrapping_add(1),
+        2 => tape[at] ^ 1 << random.below(8),
         _ => random.next() as u8,
     };
     tape

@@ -62,7 +62,7 @@ impl Tally {
         }
     }
 
-    // The port's tape for a case, if there is one: where the memory or the output was too short, that of a second call.
+    // The tape of a case, if there is one and the port gives it: where the memory or the output was too short, by a second call.
     fn compile(&mut self, random: &mut Random, case: &Case, rust: &Rust) -> Option<(Question, Vec<u8>)> {
         let tape = compiled(&case.nodes);
         let mut q = question(random, Kind::Compile, case, rust, usize::MAX);
@@ -70,7 +70,7 @@ impl Tally {
         let exact = tape.as_ref().map_or(24 * STEPS, Vec::len);
         q.out = if random.once_in(4) { out_length(random, exact) } else { exact + random.below(100) };
         let mut expected = compile_answer(rust, &q, tape.as_deref());
-        let mut bytes = self.compare(&q, &expected);
+        self.compare(&q, &expected);
         self.tried("compile", &outcome(&expected, "a tape"));
         if random.once_in(20) {
             self.with_bad_line(random, &q, case, rust);
@@ -78,13 +78,13 @@ impl Tally {
         if [ROOM, OUT_ROOM].contains(&expected.number) {
             (q.lengths, q.out) = ([rust.needed(Kind::Compile).0; 4], exact);
             expected = compile_answer(rust, &q, tape.as_deref());
-            bytes = self.compare(&q, &expected);
+            self.compare(&q, &expected);
         }
         if expected.number != 0 {
             self.count(WHAT, &format!("refused {}", expected.number));
             return None;
         }
-        Some((q, bytes))
+        Some((q, expected.bytes))
     }
 
     // A bad line behind the listing is refused before a tree too large and an output too short.
