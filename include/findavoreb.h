@@ -1,16 +1,17 @@
-/* Findavoreb for C and for all that calls C: expressions evaluated, simplified, substituted and read as real numbers.
+/* Findavoreb for C and for all that calls C: expressions evaluated, simplified, substituted and read as real numbers, or compiled to a
+ * tape that is checked, played and picked.
  *
  * The functions are those of the static library that `rt staticlib exports` writes, target/staticlib/libexports.a, for x86-64. A
- * listing, a sheet and the written result are texts as the rules have them (README.md says where those are); what is named here is
- * what a caller lends and what comes back.
+ * listing, a sheet and a written listing are texts and a tape is bytes as the rules have them (README.md says where those are); what is
+ * named here is what a caller lends and what comes back.
  *
- * What a function asks of its caller: nothing of the bytes and nothing of the lengths. Whatever the texts, the work memory and the
- * answer hold at entry, a function returns, and its answer is what the rules say. It keeps nothing between calls and allocates
+ * What a function asks of its caller: nothing of the bytes and nothing of the lengths. Whatever texts, tapes, work memory and answer
+ * hold at entry, a function returns, and its answer is what the rules say. It keeps nothing between calls and allocates
  * nothing, so that calls with memory of their own may run at the same time.
  *
  * What C has a caller see to: a pointer is not null and is aligned for what it points to, also where its length is 0; there are as
  * many elements behind it as its length, or the parameter's comment, says; and the lent memory (tag, first, second, link, table,
- * out, answer) overlaps neither itself nor a text.
+ * out, answer, picked) overlaps neither itself nor a text nor a tape.
  *
  * What holds at every return, also after a refusal: each word of tag, first, second, link and table is 0. After a refusal, out is as
  * it was; after a success its first bytes are the result, and the rest is as it was. */
@@ -25,7 +26,7 @@ extern "C" {
 #endif
 
 /* answer[0], which is also what each function returns: 0 for a success, else why the job is refused. The numbers and the names are
- * those of the rules. Those marked with a star belong to functions that are not here yet. */
+ * those of the rules. */
 enum findavoreb_refusal {
     FINDAVOREB_DONE = 0,
     FINDAVOREB_BAD_LIST = 1,     /* a line of the listing is malformed, out of order or without its line feed; or no node line */
@@ -41,8 +42,8 @@ enum findavoreb_refusal {
     FINDAVOREB_NOT_REAL = 11,    /* the number's imaginary part is not below 1e-16 in magnitude */
     FINDAVOREB_NOT_A_NUMBER = 12, /* the expression is neither a number nor pi */
     FINDAVOREB_OUT_ROOM = 13,    /* out is shorter than the result */
-    FINDAVOREB_LONG_TAPE = 14,   /* * an expression of a size above 512 */
-    FINDAVOREB_BAD_TAPE = 15     /* * an unsound tape */
+    FINDAVOREB_LONG_TAPE = 14,   /* an expression of a size above 512, to be compiled */
+    FINDAVOREB_BAD_TAPE = 15     /* an unsound tape */
 };
 
 /* answer[1] after FINDAVOREB_NEED: which function value is lacking. */
@@ -55,22 +56,27 @@ enum findavoreb_operation {
 };
 
 /* Sizes. tag, first, second and link together are the store of nodes: as many fit as the shortest of the four has words, and no more
- * than 4096. The table and the answer have exactly the size that is given here. No result is longer than 1024 lines of 36 bytes. */
+ * than 4096. The table, the answer and what is picked have exactly the size that is given here. No written listing is longer than 1024
+ * lines of 36 bytes, no tape longer than 512 steps of 24 bytes. */
 enum {
     FINDAVOREB_STORE_WORDS = 4096,
     FINDAVOREB_TABLE_WORDS = 8192,
     FINDAVOREB_ANSWER_WORDS = 6,
-    FINDAVOREB_OUT_BYTES = 36864
+    FINDAVOREB_OUT_BYTES = 36864,
+    FINDAVOREB_TAPE_BYTES = 12288,
+    FINDAVOREB_PICKED_WORDS = 2
 };
 
 /* The answer's words; those that are not used are 0.
  *
  *   [0]       0, or the number of the refusal; it is returned as well
- *   [1]       after a success: how many bytes were written to out, 0 for a function without out
+ *   [1]       after a success: how many bytes were written to out, 0 for a function without out; from check the number of steps
  *             after FINDAVOREB_NEED: the operation
+ *             after FINDAVOREB_BAD_TAPE: the first bad step, counted from 0; 0 for a length that no tape has; the step past the last
+ *             where the tape does not end with one value
  *             after another refusal: the line of the listing or of the sheet, counted from 0, if the refusal carries one
  *   [2], [3]  after a success: the bits of the value's real and imaginary part; of the real number and 0 from to_real; 0, 0 from
- *             substitute; the number of simplify calls that were made and 0 from simplify
+ *             substitute, compile and check; the number of simplify calls that were made and 0 from simplify
  *             after FINDAVOREB_NEED: the bits of the real and imaginary part of the operand, for pow of the first one
  *   [4], [5]  after FINDAVOREB_NEED: the same of the second operand, 0, 0 unless the operation is pow
  *
@@ -121,6 +127,38 @@ uint64_t findavoreb_simplify(
     uint64_t *table,   /* FINDAVOREB_TABLE_WORDS words */
     uint8_t *out, size_t out_length,
     uint64_t *answer); /* FINDAVOREB_ANSWER_WORDS words */
+
+/* The listing's expression compiled, written to out as a tape: 24 bytes for each node as often as evaluation visits it. */
+uint64_t findavoreb_compile(
+    const uint8_t *listing, size_t listing_length,
+    uint64_t *tag, size_t tag_length,
+    uint64_t *first, size_t first_length,
+    uint64_t *second, size_t second_length,
+    uint64_t *link, size_t link_length,
+    uint64_t *table,   /* FINDAVOREB_TABLE_WORDS words */
+    uint8_t *out, size_t out_length,
+    uint64_t *answer); /* FINDAVOREB_ANSWER_WORDS words */
+
+/* The tape played under the sheet, which may be empty. A tape that was compiled gives what findavoreb_evaluate gives for its listing:
+ * the same six words. The tape is checked before the sheet is read. No store is needed. */
+uint64_t findavoreb_play(
+    const uint8_t *tape, size_t tape_length,
+    const uint8_t *sheet, size_t sheet_length,
+    uint64_t *table,   /* FINDAVOREB_TABLE_WORDS words */
+    uint64_t *answer); /* FINDAVOREB_ANSWER_WORDS words */
+
+/* Whether the bytes are a sound tape: FINDAVOREB_DONE and the number of steps, or FINDAVOREB_BAD_TAPE and the first bad step. */
+uint64_t findavoreb_check(
+    const uint8_t *tape, size_t tape_length,
+    uint64_t *answer); /* FINDAVOREB_ANSWER_WORDS words */
+
+/* Which of two tapes is picked: the one with fewer steps, the first at a tie; an unsound one loses. It is returned, and is picked[0] too:
+ * 1 for the first, 2 for the second, 0 if neither is sound. picked[1] is how many bytes the picked one has, 0 for neither. The two may
+ * overlap or be the same. */
+uint64_t findavoreb_pick(
+    const uint8_t *first, size_t first_length,
+    const uint8_t *second, size_t second_length,
+    uint64_t *picked); /* FINDAVOREB_PICKED_WORDS words */
 
 #ifdef __cplusplus
 }

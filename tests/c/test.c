@@ -16,6 +16,7 @@ static const uint8_t BLANK = 0xA5;
 static uint64_t store[4][FINDAVOREB_STORE_WORDS + GUARD];
 static uint64_t table[FINDAVOREB_TABLE_WORDS + GUARD];
 static uint64_t answer[FINDAVOREB_ANSWER_WORDS + GUARD];
+static uint64_t picked[FINDAVOREB_PICKED_WORDS + GUARD];
 static uint8_t out[PAPER];
 
 /* How much of the memory a call is lent. */
@@ -24,7 +25,7 @@ struct lent {
     size_t bytes;
 };
 
-static const struct lent ALL = {{4096, 4096, 4096, 4096}, PAPER};
+static const struct lent ALL = {{4096, 4096, 4096, 4096}, PAPER}, NO_STORE = {{0, 0, 0, 0}, 0};
 
 /* ---- what is counted and said */
 
@@ -66,11 +67,11 @@ static void prepare(void)
         fill(store[k], FINDAVOREB_STORE_WORDS + GUARD, JUNK + (uint64_t)k);
     fill(table, FINDAVOREB_TABLE_WORDS + GUARD, JUNK);
     fill(answer, FINDAVOREB_ANSWER_WORDS + GUARD, JUNK);
+    fill(picked, FINDAVOREB_PICKED_WORDS + GUARD, JUNK);
     memset(out, BLANK, PAPER);
 }
 
-/* "Every lent work slice is zero over its whole length", and what was not lent is as it was. */
-static void check_memory(const char *name, struct lent lent)
+static void check_store(const char *name, struct lent lent)
 {
     for (int k = 0; k < 4; k++) {
         if (!all_are(store[k], 0, lent.words[k], 0))
@@ -78,12 +79,28 @@ static void check_memory(const char *name, struct lent lent)
         if (!all_are(store[k], lent.words[k], FINDAVOREB_STORE_WORDS + GUARD, JUNK + (uint64_t)k))
             complain(name, "a word past a work slice was changed");
     }
+}
+
+/* "Every lent work slice is zero over its whole length", and what was not lent is as it was. */
+static void check_memory(const char *name, struct lent lent)
+{
+    check_store(name, lent);
     if (!all_are(table, 0, FINDAVOREB_TABLE_WORDS, 0))
         complain(name, "the table is not zero");
     if (!all_are(table, FINDAVOREB_TABLE_WORDS, FINDAVOREB_TABLE_WORDS + GUARD, JUNK))
         complain(name, "a word past the table was changed");
     if (!all_are(answer, FINDAVOREB_ANSWER_WORDS, FINDAVOREB_ANSWER_WORDS + GUARD, JUNK))
         complain(name, "a word past the answer was changed");
+}
+
+/* After a function that is lent no work memory and no output. */
+static void check_untouched(const char *name)
+{
+    check_store(name, NO_STORE);
+    if (!all_are(table, 0, FINDAVOREB_TABLE_WORDS + GUARD, JUNK))
+        complain(name, "the table was changed");
+    if (!is_blank_from(0))
+        complain(name, "the output was changed");
 }
 
 static void check_answer(const char *name, uint64_t returned, const uint64_t *want)
@@ -129,13 +146,18 @@ static void to_real_in(const char *name, struct lent lent, const char *listing, 
         complain(name, "the output was changed");
 }
 
-/* The output is the text that is written, and blank from there on; the text is empty after a refusal. */
+/* The output is what is written, and blank from there on; nothing is after a refusal. */
+static void check_bytes(const char *name, const uint8_t *written, size_t count)
+{
+    if (memcmp(out, written, count) != 0)
+        complain(name, "the output is another one");
+    if (!is_blank_from(count))
+        complain(name, "the output was changed past the result");
+}
+
 static void check_output(const char *name, const char *written)
 {
-    if (memcmp(out, written, strlen(written)) != 0)
-        complain(name, "the output is another text");
-    if (!is_blank_from(strlen(written)))
-        complain(name, "the output was changed past the result");
+    check_bytes(name, bytes(written), strlen(written));
 }
 
 static void substitute_in(const char *name, struct lent lent, const char *listing, const char *written, const uint64_t *want)
@@ -159,6 +181,92 @@ static void simplify_in(
     check_answer(name, returned, want);
     check_memory(name, lent);
     check_output(name, written);
+}
+
+/* ---- tapes: steps in C's own form, and their bytes */
+
+struct step {
+    unsigned opcode, sub, half;
+    uint32_t word;
+    uint64_t re, im;
+};
+
+struct tape {
+    size_t length;
+    uint8_t bytes[FINDAVOREB_TAPE_BYTES + 48];
+};
+
+static uint8_t *little(uint8_t *to, uint64_t number, int count)
+{
+    for (int i = 0; i < count; i++)
+        to[i] = (uint8_t)(number >> 8 * i);
+    return to + count;
+}
+
+static void add_step(struct tape *tape, struct step step)
+{
+    uint8_t *to = tape->bytes + tape->length;
+    to = little(little(to, step.opcode, 1), step.sub, 1);
+    to = little(little(to, step.half, 2), step.word, 4);
+    to = little(little(to, step.re, 8), step.im, 8);
+    tape->length = (size_t)(to - tape->bytes);
+}
+
+static struct tape tape_of(const struct step *steps, size_t count)
+{
+    struct tape tape = {0, {0}};
+    for (size_t i = 0; i < count; i++)
+        add_step(&tape, steps[i]);
+    return tape;
+}
+
+#define TAPE(...) tape_of((struct step[]){__VA_ARGS__}, sizeof((struct step[]){__VA_ARGS__}) / sizeof(struct step))
+
+static const struct tape EMPTY = {0, {0}};
+
+/* ---- one call each of the functions that know tapes */
+
+static void compile_in(const char *name, struct lent lent, const char *listing, struct tape written, const uint64_t *want)
+{
+    prepare();
+    uint64_t returned = findavoreb_compile(
+        bytes(listing), strlen(listing), store[0], lent.words[0], store[1], lent.words[1], store[2], lent.words[2], store[3],
+        lent.words[3], table, out, lent.bytes, answer);
+    check_answer(name, returned, want);
+    check_memory(name, lent);
+    check_bytes(name, written.bytes, written.length);
+}
+
+static void play_all(const char *name, struct tape tape, const char *sheet, const uint64_t *want)
+{
+    prepare();
+    uint64_t returned = findavoreb_play(tape.bytes, tape.length, bytes(sheet), strlen(sheet), table, answer);
+    check_answer(name, returned, want);
+    check_memory(name, NO_STORE);
+    if (!is_blank_from(0))
+        complain(name, "the output was changed");
+}
+
+static void check_all(const char *name, struct tape tape, const uint64_t *want)
+{
+    prepare();
+    uint64_t returned = findavoreb_check(tape.bytes, tape.length, answer);
+    check_answer(name, returned, want);
+    check_untouched(name);
+    if (!all_are(answer, FINDAVOREB_ANSWER_WORDS, FINDAVOREB_ANSWER_WORDS + GUARD, JUNK))
+        complain(name, "a word past the answer was changed");
+}
+
+static void pick(const char *name, struct tape first, struct tape second, uint64_t which, size_t length_of_it)
+{
+    prepare();
+    uint64_t returned = findavoreb_pick(first.bytes, first.length, second.bytes, second.length, picked);
+    calls++;
+    if (returned != which || picked[0] != which || picked[1] != length_of_it)
+        complain(name, "another one is picked");
+    check_untouched(name);
+    if (!all_are(picked, FINDAVOREB_PICKED_WORDS, FINDAVOREB_PICKED_WORDS + GUARD, JUNK))
+        complain(name, "a word past what is picked was changed");
 }
 
 /* ---- the same with all the memory, and what is wanted in a few words */
@@ -219,6 +327,65 @@ static void need_to_simplify(const char *name, const char *listing, const char *
         (uint64_t[]){FINDAVOREB_NEED, operation, operands[0], operands[1], operands[2], operands[3]});
 }
 
+static void compiled(const char *name, const char *listing, struct tape written)
+{
+    compile_in(name, ALL, listing, written, (uint64_t[]){0, written.length, 0, 0, 0, 0});
+}
+
+static void not_compiled(const char *name, const char *listing, uint64_t refusal, uint64_t place)
+{
+    compile_in(name, ALL, listing, EMPTY, (uint64_t[]){refusal, place, 0, 0, 0, 0});
+}
+
+static void played(const char *name, struct tape tape, const char *sheet, uint64_t re, uint64_t im)
+{
+    play_all(name, tape, sheet, (uint64_t[]){0, 0, re, im, 0, 0});
+}
+
+static void not_played(const char *name, struct tape tape, const char *sheet, uint64_t refusal, uint64_t place)
+{
+    play_all(name, tape, sheet, (uint64_t[]){refusal, place, 0, 0, 0, 0});
+}
+
+static void need_to_play(const char *name, struct tape tape, const char *sheet, uint64_t operation, const uint64_t *operands)
+{
+    play_all(
+        name, tape, sheet, (uint64_t[]){FINDAVOREB_NEED, operation, operands[0], operands[1], operands[2], operands[3]});
+}
+
+static void sound(const char *name, struct tape tape)
+{
+    check_all(name, tape, (uint64_t[]){0, tape.length / 24, 0, 0, 0, 0});
+}
+
+/* A bad tape is refused by the check and by the player alike. */
+static void unsound(const char *name, struct tape tape, uint64_t step)
+{
+    const uint64_t want[] = {FINDAVOREB_BAD_TAPE, step, 0, 0, 0, 0};
+    check_all(name, tape, want);
+    play_all(name, tape, "q", want);
+}
+
+/* The listing is compiled, and its tape gives the six words that evaluating gives. */
+static void same_played(const char *name, const char *listing, const char *sheet)
+{
+    uint64_t want[FINDAVOREB_ANSWER_WORDS];
+    struct tape tape;
+    prepare();
+    findavoreb_evaluate(
+        bytes(listing), strlen(listing), bytes(sheet), strlen(sheet), store[0], 4096, store[1], 4096, store[2], 4096, store[3], 4096,
+        table, answer);
+    memcpy(want, answer, sizeof want);
+    prepare();
+    findavoreb_compile(
+        bytes(listing), strlen(listing), store[0], 4096, store[1], 4096, store[2], 4096, store[3], 4096, table, tape.bytes,
+        FINDAVOREB_TAPE_BYTES, answer);
+    tape.length = answer[0] == 0 ? (size_t)answer[1] : 0;
+    calls += 2;
+    sound(name, tape);
+    play_all(name, tape, sheet, want);
+}
+
 /* ---- pieces of texts: doubles by their bits */
 
 #define ZERO "0000000000000000"
@@ -246,7 +413,7 @@ static void need_to_simplify(const char *name, const char *listing, const char *
 #define COS_OF_HALF ROW("cos", HALF, ZERO, "3FEC1528065B7D50", "8000000000000000")
 #define SIN_OF_HALF ROW("sin", HALF, ZERO, "3FDEAEE8744B05F0", ZERO)
 
-static const uint64_t HALF_BITS = 0x3FE0000000000000, TWO_BITS = 0x4000000000000000, THREE_BITS = 0x4008000000000000,
+static const uint64_t HALF_BITS = 0x3FE0000000000000, ONE_BITS = 0x3FF0000000000000, TWO_BITS = 0x4000000000000000, THREE_BITS = 0x4008000000000000,
                       NAN_BITS = 0x7FF8000000000000, PI_BITS = 0x400921FB54442D18, MINUS_ZERO_BITS = 0x8000000000000000;
 
 /* ---- texts that are too long to be written out */
@@ -430,6 +597,209 @@ static void to_real_jobs(void)
     no_real("1025 lines", many("p\n", "v\t%u\n", 1024), FINDAVOREB_LONG_LIST, 1024);
 }
 
+/* Steps: opcode, sub, u16, u32 and the bits of two doubles. */
+#define PI_STEP {2, 0, 0, 0, 0, 0}
+#define NUMBER_STEP(re, im) {1, 0, 0, 0, re, im}
+#define VARIABLE_STEP(number) {3, 0, number, 0, 0, 0}
+#define CELL_STEP(region, index) {4, 0, region, index, 0, 0}
+#define FUNCTION_STEP(sub) {5, sub, 0, 0, 0, 0}
+#define PREFIX_STEP(sub) {6, sub, 0, 0, 0, 0}
+#define INFIX_STEP(sub) {7, sub, 0, 0, 0, 0}
+
+static void compile_results(void)
+{
+    compiled("half of a difference", HALF_DIFFERENCE,
+             TAPE(VARIABLE_STEP(0), VARIABLE_STEP(1), INFIX_STEP(2), NUMBER_STEP(TWO_BITS, 0), INFIX_STEP(4)));
+    compiled("a leaf", "p\n", TAPE(PI_STEP));
+    compiled("evaluation's order, not the listing's", "v\t0\nv\t1\n" INFIX("^", "1", "0"),
+             TAPE(VARIABLE_STEP(1), VARIABLE_STEP(0), INFIX_STEP(5)));
+    compiled("a node twice, and one that is not reached", "v\t65535\np\n" INFIX("*", "0", "0"),
+             TAPE(VARIABLE_STEP(65535), VARIABLE_STEP(65535), INFIX_STEP(3)));
+    compiled("a cell and prefixes", "m\t65534\t4294967295\nu\t+\t0\nu\t-\t1\n",
+             TAPE(CELL_STEP(65534, 4294967295), PREFIX_STEP(1), PREFIX_STEP(2)));
+    compiled("all functions", "p\nf\tsin\t0\nf\tcos\t1\nf\texp\t2\nf\tsqrt\t3\nf\tcis\t4\n",
+             TAPE(PI_STEP, FUNCTION_STEP(1), FUNCTION_STEP(2), FUNCTION_STEP(3), FUNCTION_STEP(4), FUNCTION_STEP(5)));
+    compiled("every NaN is one", NUMBER(A_NAN, "8000000000000000"), TAPE(NUMBER_STEP(NAN_BITS, MINUS_ZERO_BITS)));
+}
+
+static void compile_refusals(void)
+{
+    not_compiled("an empty listing", "", FINDAVOREB_BAD_LIST, 0);
+    not_compiled("an s line", "v\t0\ns\t0\t0\n", FINDAVOREB_BAD_LIST, 1);
+    not_compiled("1025 lines", many("p\n", "v\t%u\n", 1024), FINDAVOREB_LONG_LIST, 1024);
+    not_compiled("a size of 1048575", many("v\t0\n", INFIX("+", "%u", "%u"), 19), FINDAVOREB_BIG, 0);
+    not_compiled("a depth of 65", many("p\n", "u\t-\t%u\n", 64), FINDAVOREB_DEEP, 0);
+    many("v\t0\n", INFIX("+", "%u", "%u"), 8);
+    add("u\t-\t8\nu\t-\t9\n", 0, 0);
+    not_compiled("a size of 513", text, FINDAVOREB_LONG_TAPE, 0);
+    compile_in("that comes before a short output", (struct lent){{4096, 4096, 4096, 4096}, 0}, text, EMPTY,
+               (uint64_t[]){FINDAVOREB_LONG_TAPE, 0, 0, 0, 0, 0});
+}
+
+/* (theta - phi) / 2 has 5 nodes and 5 steps. */
+static void compile_short_memory(void)
+{
+    const uint64_t full[] = {FINDAVOREB_ROOM, 0, 0, 0, 0, 0}, short_of_out[] = {FINDAVOREB_OUT_ROOM, 0, 0, 0, 0, 0};
+    const struct tape tape = TAPE(VARIABLE_STEP(0), VARIABLE_STEP(1), INFIX_STEP(2), NUMBER_STEP(TWO_BITS, 0), INFIX_STEP(4));
+    struct lent lent = {{5, 5, 5, 5}, 120};
+    compile_in("just enough to compile", lent, HALF_DIFFERENCE, tape, (uint64_t[]){0, 120, 0, 0, 0, 0});
+    lent.bytes = 119;
+    compile_in("an output too short", lent, HALF_DIFFERENCE, EMPTY, short_of_out);
+    lent.bytes = 0;
+    compile_in("an empty output", lent, HALF_DIFFERENCE, EMPTY, short_of_out);
+    for (int k = 0; k < 4; k++) {
+        lent.words[k] = 4;
+        compile_in("full before it is compiled", lent, HALF_DIFFERENCE, EMPTY, full);
+        lent.words[k] = 5;
+    }
+}
+
+static void play_values(void)
+{
+    played("half of a difference", TAPE(VARIABLE_STEP(0), VARIABLE_STEP(1), INFIX_STEP(2), NUMBER_STEP(TWO_BITS, 0), INFIX_STEP(4)),
+           BOUND("0", "3FF4000000000000") BOUND("1", HALF), 0x3FD8000000000000, 0);
+    played("cis", TAPE(NUMBER_STEP(HALF_BITS, 0), FUNCTION_STEP(5)), SIN_OF_HALF COS_OF_HALF, 0x3FEC1528065B7D50, 0x3FDEAEE8744B05F0);
+    played("a power", TAPE(NUMBER_STEP(TWO_BITS, 0), NUMBER_STEP(THREE_BITS, 0), INFIX_STEP(5)),
+           ROW("pow", TWO, THREE, "4020000000000000", ZERO), 0x4020000000000000, 0);
+    played("a cell", TAPE(CELL_STEP(3, 4294967295), PREFIX_STEP(2)), "m\t3\t4294967295\t" ONE "\n", 0xBFF0000000000000, MINUS_ZERO_BITS);
+    played("pi", TAPE(PI_STEP), "", PI_BITS, 0);
+    played("zero by zero", TAPE(NUMBER_STEP(0, 0), NUMBER_STEP(0, 0), INFIX_STEP(4)), "", NAN_BITS, NAN_BITS);
+    played("a zero keeps its sign", TAPE(NUMBER_STEP(MINUS_ZERO_BITS, 0), PREFIX_STEP(1)), "", MINUS_ZERO_BITS, 0);
+}
+
+static void play_lacks(void)
+{
+    const uint64_t half[] = {HALF_BITS, 0, 0, 0};
+    const struct tape cis = TAPE(NUMBER_STEP(HALF_BITS, 0), FUNCTION_STEP(5));
+    need_to_play("no sine", TAPE(NUMBER_STEP(HALF_BITS, 0), FUNCTION_STEP(1)), COS_OF_HALF, FINDAVOREB_SIN, half);
+    need_to_play("cis asks cos first", cis, SIN_OF_HALF, FINDAVOREB_COS, half);
+    need_to_play("then sin", cis, COS_OF_HALF, FINDAVOREB_SIN, half);
+    need_to_play("no power", TAPE(NUMBER_STEP(TWO_BITS, HALF_BITS), NUMBER_STEP(THREE_BITS, NAN_BITS), INFIX_STEP(5)), "", FINDAVOREB_POW,
+                 (uint64_t[]){TWO_BITS, HALF_BITS, THREE_BITS, NAN_BITS});
+    not_played("a free variable", TAPE(VARIABLE_STEP(1)), BOUND("0", ONE), FINDAVOREB_INCOMPLETE, 0);
+    not_played("a free cell", TAPE(CELL_STEP(0, 1)), "m\t0\t0\t" ONE "\n", FINDAVOREB_INCOMPLETE, 0);
+    not_played("a sheet with an empty line", TAPE(PI_STEP), BOUND("0", ONE) "\n", FINDAVOREB_BAD_SHEET, 1);
+    not_played("257 rows", TAPE(PI_STEP), many("", SIN_OF_HALF, 257), FINDAVOREB_LONG_SHEET, 256);
+}
+
+static void compile_and_play(void)
+{
+    same_played("half of a difference", HALF_DIFFERENCE, BOUND("0", "3FF4000000000000") BOUND("1", HALF));
+    same_played("the left lack first", "v\t0\n" NUMBER(HALF, ZERO) "f\tsin\t1\n" INFIX("+", "0", "2"), "");
+    same_played("a lack to the left of a free variable", "v\t0\n" NUMBER(HALF, ZERO) "f\tsin\t1\n" INFIX("+", "2", "0"), "");
+    same_played("a stack of 64", many(NUMBER(ONE, ZERO), INFIX("+", "0", "%u"), 63), "");
+    same_played("a stack of 2", many(NUMBER(ONE, ZERO), INFIX("-", "%u", "0"), 63), "");
+    many("v\t0\n", INFIX("+", "%u", "%u"), 8);
+    add("u\t-\t8\n", 0, 0);
+    same_played("512 steps", text, BOUND("0", HALF));
+}
+
+/* How many subs an opcode has; those without any want a sub of 0. */
+static int is_known(unsigned opcode, unsigned sub)
+{
+    const unsigned subs[] = {0, 0, 0, 0, 0, 5, 2, 5};
+    if (opcode < 1 || opcode > 7)
+        return 0;
+    return subs[opcode] == 0 ? sub == 0 : sub >= 1 && sub <= subs[opcode];
+}
+
+static void check_codes(void)
+{
+    for (unsigned code = 0; code < 80; code++) {
+        const struct step step = {code / 8, code % 8, 0, 0, 0, 0};
+        const struct tape leaf = TAPE(PI_STEP, PI_STEP, step, INFIX_STEP(1), INFIX_STEP(1)), one = TAPE(PI_STEP, step),
+                          two = TAPE(PI_STEP, PI_STEP, step);
+        if (is_known(step.opcode, step.sub))
+            sound("a known code", step.opcode == 7 ? two : step.opcode >= 5 ? one : leaf);
+        else
+            unsound("a code that is not known", leaf, 2);
+    }
+}
+
+static void check_fields(void)
+{
+    unsound("a number's u16", TAPE({1, 0, 1, 0, 0, 0}), 0);
+    unsound("a number's u32", TAPE({1, 0, 0, 1, 0, 0}), 0);
+    unsound("pi's u16", TAPE({2, 0, 256, 0, 0, 0}), 0);
+    unsound("pi's u32", TAPE({2, 0, 0, 65536, 0, 0}), 0);
+    unsound("pi's real part", TAPE({2, 0, 0, 0, PI_BITS, 0}), 0);
+    unsound("pi's imaginary part", TAPE({2, 0, 0, 0, 0, MINUS_ZERO_BITS}), 0);
+    unsound("a variable's u32", TAPE({3, 0, 1, 16777216, 0, 0}), 0);
+    unsound("a variable's real part", TAPE({3, 0, 1, 0, 1, 0}), 0);
+    unsound("a cell's imaginary part", TAPE({4, 0, 1, 1, 0, 1}), 0);
+    unsound("a function's u16", TAPE(PI_STEP, {5, 1, 1, 0, 0, 0}), 1);
+    unsound("a prefix's u32", TAPE(PI_STEP, {6, 1, 0, 1, 0, 0}), 1);
+    unsound("an infix's imaginary part", TAPE(PI_STEP, PI_STEP, {7, 1, 0, 0, 0, 1}), 2);
+    unsound("another NaN", TAPE(NUMBER_STEP(0xFFF8000000000000, 0)), 0);
+    unsound("one in the imaginary part", TAPE(PI_STEP, NUMBER_STEP(0, 0x7FF0000000000001)), 1);
+    sound("the one NaN, and infinities",
+          TAPE(NUMBER_STEP(NAN_BITS, 0x7FF0000000000000), NUMBER_STEP(0xFFF0000000000000, 0), INFIX_STEP(1)));
+}
+
+/* A tape of pushes, and infixes after them. */
+static struct tape tower(unsigned pushes, unsigned infixes)
+{
+    struct tape tape = EMPTY;
+    for (unsigned i = 0; i < pushes; i++)
+        add_step(&tape, (struct step)NUMBER_STEP(ONE_BITS, 0));
+    for (unsigned i = 0; i < infixes; i++)
+        add_step(&tape, (struct step)INFIX_STEP(1));
+    return tape;
+}
+
+static struct tape prefixes(unsigned steps)
+{
+    struct tape tape = TAPE(PI_STEP);
+    for (unsigned i = 1; i < steps; i++)
+        add_step(&tape, (struct step)PREFIX_STEP(1));
+    return tape;
+}
+
+static struct tape cut(struct tape tape, size_t to)
+{
+    tape.length = to;
+    return tape;
+}
+
+static void check_lengths_and_counts(void)
+{
+    unsound("no bytes", EMPTY, 0);
+    for (size_t i = 1; i < 24; i++) {
+        unsound("a part of a step", cut(TAPE(PI_STEP), i), 0);
+        unsound("a step and a part of one", cut(TAPE(PI_STEP, PREFIX_STEP(1)), 24 + i), 0);
+    }
+    sound("512 steps", prefixes(512));
+    unsound("513 steps", prefixes(513), 0);
+    unsound("a prefix of nothing", TAPE(PREFIX_STEP(1)), 0);
+    unsound("a function of nothing", TAPE(FUNCTION_STEP(1)), 0);
+    unsound("an infix of nothing", TAPE(INFIX_STEP(1)), 0);
+    unsound("an infix of one", TAPE(PI_STEP, PREFIX_STEP(2), INFIX_STEP(1)), 2);
+    unsound("two values at the end", TAPE(PI_STEP, PI_STEP), 2);
+    sound("a stack of 64", tower(64, 63));
+    unsound("a stack of 65", tower(65, 64), 64);
+    unsound("64 values at the end", tower(64, 0), 64);
+    unsound("an infix too many", tower(64, 64), 127);
+    played("64 ones", tower(64, 63), "", 0x4050000000000000, 0);
+    not_played("the tape speaks before the sheet", TAPE(PI_STEP, PI_STEP), "q\n", FINDAVOREB_BAD_TAPE, 2);
+}
+
+static void picks(void)
+{
+    const struct tape one = TAPE(PI_STEP), other = TAPE(VARIABLE_STEP(0)), two = TAPE(PI_STEP, PREFIX_STEP(2)),
+                      bad = TAPE(PREFIX_STEP(2)), long_one = prefixes(512), too_long = prefixes(513);
+    pick("the first is shorter", one, two, 1, 24);
+    pick("the second is shorter", two, one, 2, 24);
+    pick("a tie", one, other, 1, 24);
+    pick("the same", two, two, 1, 48);
+    pick("the first is unsound", bad, long_one, 2, 12288);
+    pick("the second is unsound", long_one, bad, 1, 12288);
+    pick("an empty second", two, EMPTY, 1, 48);
+    pick("an empty first", EMPTY, two, 2, 48);
+    pick("a part of a step", cut(two, 47), two, 2, 48);
+    pick("neither is sound", bad, too_long, 0, 0);
+    pick("neither is there", EMPTY, EMPTY, 0, 0);
+}
+
 /* With each of the four slices as the shortest: room for two nodes, for one, for none. */
 static void short_slices(void)
 {
@@ -496,6 +866,16 @@ int main(void)
     short_slices();
     short_memory();
     simplify_short_memory();
+    compile_results();
+    compile_refusals();
+    compile_short_memory();
+    play_values();
+    play_lacks();
+    compile_and_play();
+    check_codes();
+    check_fields();
+    check_lengths_and_counts();
+    picks();
     printf("%u calls, %u wrong\n", calls, wrong);
     return wrong == 0 ? EXIT_SUCCESS : EXIT_FAILURE;
 }
