@@ -57,7 +57,7 @@ fn put_value(value: &mut [u64], z: Complex)
 }
 
 // 0 and the bits of the value, or the number of the refusal that a lack becomes.
-fn put_evaluation(value: &mut [u64], answer: Evaluation) -> u64
+pub fn put_evaluation(value: &mut [u64], answer: Evaluation) -> u64
     ensures { λ r. ⌜ _≡_ {A = ℕ × List ℕ} (r, now (value .exit)) (valueOf answer (now (value .entry))) ⌝ }
 {
     match answer {
@@ -70,7 +70,7 @@ fn put_evaluation(value: &mut [u64], answer: Evaluation) -> u64
     }
 }
 
-fn put_evaluated(value: &mut [u64], answer: Evaluated) -> u64
+pub fn put_evaluated(value: &mut [u64], answer: Evaluated) -> u64
     ensures { λ r. ⌜ _≡_ {A = ℕ × List ℕ} (r, now (value .exit)) (evaluatedOf answer (now (value .entry))) ⌝ }
 {
     match answer {

@@ -36,7 +36,7 @@ fn packed_added(answer: Added) -> u64
     }
 }
 
-fn packed_written(answer: Written) -> u64
+pub fn packed_written(answer: Written) -> u64
     ensures { λ r. ⌜ r ≡ writtenOf answer ⌝ }
 {
     match answer {

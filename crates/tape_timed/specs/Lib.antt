@@ -1,0 +1,2 @@
+-- What the contracts of `tape_timed` cite.
+pub mod Packed
