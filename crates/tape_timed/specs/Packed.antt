@@ -6,12 +6,14 @@ use Rattle.sheet.specs.declared.Rows.{Rows as Counts}
 use Rattle.sheet.specs.Table.{rowsOf, Held}
 use Rattle.listing.specs.declared.writing.Written.{Written}
 use Rattle.evaluation.specs.declared.Evaluation.{Evaluation}
-use Rattle.evaluation_timed.specs.Packed.{valueOf}
+use Rattle.evaluation_timed.specs.Packed.{valueOf, evaluatedOf}
 use Rattle.simplification_timed.specs.Packed.{writtenOf}
 use Rattle.tape.specs.declared.Checked.{Checked}
 use Rattle.tape.specs.Tapes.{check}
 use Rattle.tape.specs.Playing.{played}
 use Rattle.tape.specs.Run as Run
+use Rattle.calls.specs.declared.Evaluated.{Evaluated}
+use Rattle.calls.specs.Frame as Frame
 
 -- 0, or the number of the refusal of an unsound tape
 abbrev pub checkedOf : Checked → ℕ
@@ -33,3 +35,8 @@ pub record Plays (tape table : List ℕ) (rows : Counts) (r : ℕ) (out out′ :
 abbrev pub ChecksAndPlays : (checked : Checked) (tape table : List ℕ) (rows : Counts) (r : ℕ) (out out′ : List ℕ) → Type 0
 ChecksAndPlays Checked.Sound tape table rows r out out′ = Plays tape table rows r out out′
 ChecksAndPlays (Checked.Bad step) tape table rows r out out′ = _≡_ {A = ℕ × List ℕ} (r, out′) (15, out)
+
+pub record PlaysBytes (tape values table : List ℕ) (r : ℕ) (out out′ table′ : List ℕ) : Type 0 where
+  pub answer : Evaluated
+  pub words : _≡_ {A = ℕ × List ℕ} (r, out′) (evaluatedOf answer out)
+  pub plays : Frame.Plays tape values table answer table′

@@ -4,7 +4,8 @@ ghost use mathlib.Core.Path.{_≡_};
 ghost use Rattle.evaluation_timed.specs.Packed.{counts};
 ghost use Rattle.tape.specs.declared.Checked.{Checked as CheckedTape};
 ghost use Rattle.tape.specs.Tapes as Tapes;
-ghost use Rattle.tape_timed.specs.Packed.{checkedOf, CompilesNode, Plays, ChecksAndPlays};
+ghost use Rattle.tape_timed.specs.Packed.{checkedOf, CompilesNode, Plays, ChecksAndPlays, PlaysBytes};
+use evaluation_timed::put_evaluated;
 use evaluation_timed::put_evaluation;
 use sheet::Rows;
 use simplification_timed::packed_written;
@@ -81,4 +82,17 @@ pub extern "C" fn timed_check_and_play(
         Checked::Sound => put_evaluation(value, play(tape, table, rows)),
         Checked::Bad(_) => 15,
     }
+}
+
+// The whole call from bytes, with the work memory cleared.
+#[no_mangle]
+pub extern "C" fn timed_play_bytes(
+    tape: &[u8],
+    values: &[u8],
+    table: &mut [u64; 8192],
+    value: &mut [u64],
+) -> u64
+    ensures { λ r. ⌜ PlaysBytes (now (tape .entry)) (now (values .entry)) (now (table .entry)) r (now (value .entry)) (now (value .exit)) (now (table .exit)) ⌝ }
+{
+    put_evaluated(value, calls::tapes::play(tape, values, table))
 }
