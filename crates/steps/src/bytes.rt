@@ -1,6 +1,6 @@
 // The 24 bytes of a step: its fields read from a tape, and written to one.
-ghost use Prim.Native.Nat.{_≤_, _<_, _+_};
 ghost use mathlib.Core.Path.{_≡_};
+ghost use Prim.Native.Nat.{_+_, _<_, _≤_};
 ghost use lib.ListN.{length, drop};
 ghost use Rattle.text.specs.Writing.{Put};
 ghost use Rattle.steps.specs.Steps.{first, fieldsIn, little, headOf, encoded};

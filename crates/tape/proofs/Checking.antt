@@ -253,3 +253,27 @@ taken p q = p ∙ ap takes q
 pub is-bad : {r want : Checked} {k : ℕ} → r ≡ Checked.Bad k → r ≡ want → false ≡ isSound want
 unfolding isSound
 is-bad p q = ap isSound (sym p ∙ q)
+
+-- ---- which of the two it is
+
+IsFirst : Picked → Type 0
+IsFirst Picked.First = Unit {0}
+IsFirst Picked.Second = ⊥
+IsFirst Picked.Nothing = ⊥
+
+IsSecond : Picked → Type 0
+IsSecond Picked.First = ⊥
+IsSecond Picked.Second = Unit {0}
+IsSecond Picked.Nothing = ⊥
+
+pub not-both : {A : Type 0} {p : Picked} → p ≡ Picked.First → p ≡ Picked.Second → A
+unfolding IsFirst
+not-both e f = absurd (subst IsFirst (sym e ∙ f) tt)
+
+pub not-first : {A : Type 0} {p : Picked} → p ≡ Picked.Nothing → p ≡ Picked.First → A
+unfolding IsFirst
+not-first e f = absurd (subst IsFirst (sym f ∙ e) tt)
+
+pub not-second : {A : Type 0} {p : Picked} → p ≡ Picked.Nothing → p ≡ Picked.Second → A
+unfolding IsSecond
+not-second e f = absurd (subst IsSecond (sym f ∙ e) tt)
