@@ -14,7 +14,7 @@ use console::tape::write_tape;
 use expression::refusal::Refusal;
 use libc::STDOUT_FILENO;
 
-fn word(text: &[u8]) {
+pub fn word(text: &[u8]) {
     io::write_all(STDOUT_FILENO, text);
 }
 

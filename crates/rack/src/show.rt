@@ -1,5 +1,6 @@
 // The command `show`: the steps of a sound tape in words, a line a step: its number from 0, what it is, and its operands.
 use super::say;
+use super::say::word;
 use console::line::print_parts;
 use console::tape::ROOM;
 use console::tape::read_tape;
@@ -15,10 +16,6 @@ use tape::Checked;
 
 // The bytes of a step.
 const STEP: usize = 24;
-
-fn word(text: &[u8]) {
-    io::write_all(STDOUT_FILENO, text);
-}
 
 fn number(n: u64) {
     io::print_decimal(STDOUT_FILENO, n);
