@@ -13,7 +13,7 @@ use Rattle.text.specs.Reading.{Read, is, bad, then, ended, digitOf, hexFrom}
 use Rattle.text.specs.Writing.{byteOf, Put}
 use Rattle.text.proofs.Putting.{put-none, put-then, put-byte}
 use Rattle.text.proofs.Running.{here, ended-bad}
-use Rattle.text.proofs.Only.{ended-only}
+use Rattle.text.proofs.Only.{ended-only, byte-digit}
 use Rattle.console.specs.TapeText.{stopAfter, stopping, inDigits, inLines, stopped, byteFrom, stepFrom, orZeros, nextLine, readSteps, tapeIn}
 
 -- ---- a byte is written
@@ -132,22 +132,6 @@ module _ (s : List ℕ) (at stop : ℕ) {high low b c : ℕ} (p : b ≡ getD s a
 
 pub never : {A B : Type 0} {x : B} {rest : List ℕ} → bad ≡ is x rest → A
 never e = let z : _≡_ {A = ℕ} 0 1 = cc in absurd (omega arith)
-
-byte-digit : (b : ℕ) → digitOf b < 16 → byteOf (digitOf b) ≡ b
-unfolding digitOf byteOf
-byte-digit b h = elim (decLt b 48) [
-  | yes lt ↦ absurd (omega (arith, rw (lt-ltb b 48 lt) at h))
-  | no ge ↦ elim (decLt b 58) [
-    | yes lt ↦ rw (le-ltb b 48 (omega arith), lt-ltb b 58 lt, lt-ltb (b - 48) 10 (omega arith)) (omega arith)
-    | no ge2 ↦ elim (decLt b 65) [
-      | yes lt ↦ absurd (omega (arith, rw (le-ltb b 48 (omega arith), le-ltb b 58 (omega arith), lt-ltb b 65 lt) at h))
-      | no ge3 ↦ elim (decLt b 71) [
-        | yes lt ↦ rw (le-ltb b 48 (omega arith), le-ltb b 58 (omega arith), le-ltb b 65 (omega arith), lt-ltb b 71 lt, le-ltb (b - 55) 10 (omega arith)) (omega arith)
-        | no ge4 ↦ absurd (omega (arith, rw (le-ltb b 48 (omega arith), le-ltb b 58 (omega arith), le-ltb b 65 (omega arith), le-ltb b 71 (omega arith)) at h))
-      ]
-    ]
-  ]
-]
 
 -- a digit after those that spell v
 record Digit (k v : ℕ) (bs : List ℕ) (x : ℕ) (rest : List ℕ) : Type 0 where

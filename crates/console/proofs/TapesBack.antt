@@ -10,20 +10,13 @@ use lib.ListN.{length, getD, take, drop, length-drop, take-append-drop, List·ge
 use lib.Dec.{ltb}
 use lib.Seq.{length-take-le, getD-take, getD-drop}
 use borrow.Author.Tests.{lt-ltb, le-ltb, ne-eqb}
-use Rattle.text.specs.Reading.{is, then, ended, digitOf, hexFrom}
+use Rattle.text.specs.Reading.{is, then, ended, hexFrom}
 use Rattle.text.specs.Writing.{byteOf}
-use Rattle.text.proofs.RoundTrip.{ended-here}
+use Rattle.text.proofs.RoundTrip.{digit-byte, ended-here}
 use Rattle.console.specs.TapeText.{stops, stopAfter, stopping, inDigits, inLines, stopped, byteFrom, stepFrom, orZeros, nextLine, readSteps, tapeIn}
 use Rattle.console.proofs.TapeLines.{steps-none}
 
 -- ---- a byte
-
-digit-byte : (d : ℕ) → d < 16 → digitOf (byteOf d) ≡ d
-unfolding digitOf byteOf
-digit-byte d h = elim (decLt d 10) [
-  | yes lt ↦ rw (lt-ltb d 10 lt, le-ltb (48 + d) 48 (omega arith), lt-ltb (48 + d) 58 (omega arith)) (omega arith)
-  | no ge ↦ rw (le-ltb d 10 (omega arith), le-ltb (55 + d) 48 (omega arith), le-ltb (55 + d) 58 (omega arith), le-ltb (55 + d) 65 (omega arith), lt-ltb (55 + d) 71 (omega arith)) (omega arith)
-]
 
 two-read : (b : ℕ) (rest : List ℕ) → b < 256 → hexFrom 2 0 (byteOf (b / 16) ∷ byteOf (b % 16) ∷ rest) ≡ is b rest
 unfolding hexFrom

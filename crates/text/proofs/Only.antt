@@ -17,7 +17,7 @@ use Rattle.text.proofs.Running.{too-large}
 use Rattle.text.proofs.RoundTrip.{Small}
 
 -- a digit's byte is told by its value
-byte-digit : (b : ℕ) → digitOf b < 16 → byteOf (digitOf b) ≡ b
+pub byte-digit : (b : ℕ) → digitOf b < 16 → byteOf (digitOf b) ≡ b
 unfolding digitOf byteOf
 byte-digit b h = elim (decLt b 48) [
   | yes lt ↦ absurd (omega (arith, rw (lt-ltb b 48 lt) at h))

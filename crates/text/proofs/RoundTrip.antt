@@ -12,7 +12,7 @@ use Rattle.text.specs.Reading.{is, ended, digitOf, run, value, spelt, de
 use Rattle.text.specs.Writing.{byteOf, digits, inDecimal, lastHex, inHex}
 use Rattle.text.proofs.Putting.{digits-one, digits-more, by-digits}
 
-digit-byte : (d : ℕ) → d < 16 → digitOf (byteOf d) ≡ d
+pub digit-byte : (d : ℕ) → d < 16 → digitOf (byteOf d) ≡ d
 unfolding digitOf byteOf
 digit-byte d h = elim (decLt d 10) [
   | yes lt ↦ rw (lt-ltb d 10 lt, le-ltb (48 + d) 48 (omega arith), lt-ltb (48 + d) 58 (omega arith)) (omega arith)
