@@ -23,8 +23,8 @@ const NUMBERS: [Numbers; 7] =
     [Numbers::Plane, Numbers::Plane, Numbers::Line, Numbers::Wild, Numbers::Wild, Numbers::Few, Numbers::Bits];
 const LINES: usize = 1024; // that a listing may have
 const DEEPEST: usize = 64;
-const SHEET_VARIABLES: usize = 256;
-const SHEET_CELLS: usize = 1024;
+pub const SHEET_VARIABLES: usize = 256;
+pub const SHEET_CELLS: usize = 1024;
 const SWAPS: usize = 256;
 const LARGE: usize = 4000; // a tree of this size is still quick to evaluate in the Rust
 

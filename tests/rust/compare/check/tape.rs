@@ -2,9 +2,9 @@
 // picked, by the port beside the rules' tape and the Rust's evaluate.
 use super::Tally;
 use super::simplify::refused_line;
-use crate::cases::{Case, tapes};
+use crate::cases::{Case, SHEET_CELLS, SHEET_VARIABLES, tapes};
 use crate::damage::damaged;
-use crate::drawing::{out_length, question};
+use crate::drawing::{ROWS, out_length, question};
 use crate::forest;
 use crate::port::tape as port;
 use crate::question::{Answer, BAD_SHEET, Kind, LONG_TAPE, OUT_ROOM, Question};
@@ -18,7 +18,6 @@ use oracle::trace::{Asked, OPERATIONS};
 
 const WHAT: &str = "compile, then play";
 const LONG_SHEET: u64 = 4;
-const ROWS: usize = 256; // that a sheet may have
 const DAMAGES: usize = 3; // of each tape
 
 // What compiling has to answer, by the plain store and the plain tape.
@@ -35,11 +34,19 @@ fn outcome(answer: &Answer, done: &str) -> String {
     if answer.number == 0 { done.into() } else { format!("refused {}", answer.number) }
 }
 
+// How a bad line behind a sheet is refused: by 4 where the sheet has as many lines of its letter as it may have.
+fn refused_behind(sheet: &str, bad: &str) -> Answer {
+    let letter = &bad[..1];
+    let count = sheet.lines().filter(|line| line.starts_with(letter)).count();
+    let is_full = letter == "v" && count == SHEET_VARIABLES || letter == "m" && count == SHEET_CELLS;
+    Answer::at(if is_full { LONG_SHEET } else { BAD_SHEET }, sheet.lines().count() as u64)
+}
+
 // A sheet with a line too many, or a bad line; and how that is refused.
 fn spoiled_sheet(random: &mut Random, sheet: &str) -> (String, Answer) {
     if random.once_in(2) {
         let bad = random.pick(&["x\n", "v\t0\n", "m"]);
-        return (format!("{sheet}{bad}"), Answer::at(BAD_SHEET, sheet.lines().count() as u64));
+        return (format!("{sheet}{bad}"), refused_behind(sheet, bad));
     }
     let zero = Complex64::new(0.0, 0.0);
     let text = row(Asked::new(random.pick(&OPERATIONS), zero, zero), zero);
