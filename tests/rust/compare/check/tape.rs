@@ -11,7 +11,7 @@ use crate::question::{Answer, BAD_SHEET, Kind, LONG_TAPE, OUT_ROOM, Question};
 use crate::random::Random;
 use crate::rust::Rust;
 use crate::store::ROOM;
-use crate::tape::{STACK, STEPS, Sheet, check_answer, checked, compiled, picked, play_answer, size_and_depth};
+use crate::tape::{STACK, STEP, STEPS, Sheet, check_answer, checked, compiled, picked, play_answer, size_and_depth};
 use crate::texts::row;
 use num_complex::Complex64;
 use oracle::trace::{Asked, OPERATIONS};
@@ -69,12 +69,12 @@ impl Tally {
         }
     }
 
-    // The tape of a case, if there is one and the port gives it: where the memory or the output was too short, by a second call.
+    // The tape of a case, if there is one. Where the memory or the output was too short, the port is asked again.
     fn compile(&mut self, random: &mut Random, case: &Case, rust: &Rust) -> Option<(Question, Vec<u8>)> {
         let tape = compiled(&case.nodes);
         let mut q = question(random, Kind::Compile, case, rust, usize::MAX);
         q.sheet.clear();
-        let exact = tape.as_ref().map_or(24 * STEPS, Vec::len);
+        let exact = tape.as_ref().map_or(STEP * STEPS, Vec::len);
         q.out = if random.once_in(4) { out_length(random, exact) } else { exact + random.below(100) };
         let mut expected = compile_answer(rust, &q, tape.as_deref());
         self.compare(&q, &expected);
