@@ -2,6 +2,7 @@
 use mathlib.Core.Path.{_≡_, refl, sym, ap, subst, _∙_}
 use mathlib.Core.List.{List, [], _∷_}
 use mathlib.Core.Bool.{Bool, true, false, not, cond}
+use mathlib.Core.Logic.{_⊎_, inl, inr}
 use Prim.Native.Nat.{ℕ, zero, suc, _+_, _*_, _%_, _<_, _≤_, _-_}
 use native.Mathlib.Nat.{sub-zero}
 use native.Mathlib.Numerals.{add-one}
@@ -16,7 +17,7 @@ use Rattle.steps.specs.Steps.{fieldsIn, known, stepOf}
 use Rattle.steps.proofs.Knowing.{first-true, second-true}
 use Rattle.tape.specs.declared.Checked.{Checked}
 use Rattle.tape.specs.declared.Picked.{Picked}
-use Rattle.tape.specs.Tapes.{fieldsOfAll, count, takes, after, allowed, checkFrom, check, better}
+use Rattle.tape.specs.Tapes.{fieldsOfAll, count, takes, after, allowed, checkFrom, check, better, picked, partOf, pick}
 use Rattle.tape.specs.Run.{valuesAfter, isSound}
 
 pub never : {A : Type 0} → false ≡ true → A
@@ -277,3 +278,20 @@ not-first e f = absurd (subst IsFirst (sym f ∙ e) tt)
 pub not-second : {A : Type 0} {p : Picked} → p ≡ Picked.Nothing → p ≡ Picked.Second → A
 unfolding IsSecond
 not-second e f = absurd (subst IsSecond (sym f ∙ e) tt)
+
+-- what is picked is one of the two, or empty
+pub pick-one : (a b : List ℕ) → (pick a b ≡ a) ⊎ ((pick a b ≡ b) ⊎ (pick a b ≡ []))
+unfolding partOf
+pick-one a b = go (picked a b)
+  where
+    go : (p : Picked) → (partOf p a b ≡ a) ⊎ ((partOf p a b ≡ b) ⊎ (partOf p a b ≡ []))
+    go Picked.First = inl refl
+    go Picked.Second = inr (inl refl)
+    go Picked.Nothing = inr (inr refl)
+
+-- any two answers that the contracts of the check and of the pick allow are equal
+pub one-checked : (tape : List ℕ) {r r′ : Checked} → r ≡ check tape → r′ ≡ check tape → r ≡ r′
+one-checked tape p q = p ∙ sym q
+
+pub one-picked : (a b : List ℕ) {r r′ : List ℕ} → r ≡ pick a b → r′ ≡ pick a b → r ≡ r′
+one-picked a b p q = p ∙ sym q
