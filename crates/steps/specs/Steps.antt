@@ -32,9 +32,11 @@ unfoldable pub little : (k : ℕ) → ℕ → List ℕ
 little zero n = []
 little (suc k) n = n % 256 ∷ little k (n / 256)
 
+-- "opcode, sub, u16, u32", eight bytes
 unfoldable pub headOf : Fields → List ℕ
 headOf f = little 1 (f .opcode) ++ (little 1 (f .sub) ++ (little 2 (f .half) ++ little 4 (f .word)))
 
+-- and "real bits, imaginary bits"
 unfoldable pub bytesOf : Fields → List ℕ
 bytesOf f = headOf f ++ (little 8 (f .re) ++ little 8 (f .im))
 
