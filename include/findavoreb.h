@@ -43,7 +43,13 @@ enum findavoreb_refusal {
     FINDAVOREB_NOT_A_NUMBER = 12, /* the expression is neither a number nor pi */
     FINDAVOREB_OUT_ROOM = 13,    /* out is shorter than the result */
     FINDAVOREB_LONG_TAPE = 14,   /* an expression of a size above 512, to be compiled */
-    FINDAVOREB_BAD_TAPE = 15     /* an unsound tape */
+    FINDAVOREB_BAD_TAPE = 15,    /* an unsound tape */
+    /* No function of this library answers one of those below yet. */
+    FINDAVOREB_BAD_NAMES = 16,   /* a line of the name sheet is malformed, repeats a name or a number, or is without its line feed */
+    FINDAVOREB_UNKNOWN_NAME = 17, /* a name without a number in the name sheet, or a number without a name */
+    FINDAVOREB_BAD_BOOK = 18,    /* a rule book that there is not */
+    FINDAVOREB_MANY = 19,        /* the 4097th listing */
+    FINDAVOREB_NO_TEXT = 20      /* a number that is not written as Quil text */
 };
 
 /* answer[1] after FINDAVOREB_NEED: which function value is lacking. */

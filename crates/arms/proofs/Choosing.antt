@@ -9,8 +9,8 @@ use Rattle.expression.specs.declared.InfixOperator.{InfixOperator}
 use Rattle.expression.specs.declared.PrefixOperator.{PrefixOperator}
 use Rattle.expression.specs.declared.ExpressionFunction.{ExpressionFunction}
 use Rattle.expression.specs.Trees.{Tree, number, leaf, functionCall, prefixed, infixed}
-use Rattle.store.specs.declared.node.Expression.{Expression}
-use Rattle.store.specs.Nodes.{Within, grown}
+use Rattle.expression.specs.declared.node.Expression.{Expression}
+use Rattle.expression.specs.Nodes.{Within, grown}
 use Rattle.store.specs.Memory.{Memory, sizeAt, treeAt, treeOf}
 use Rattle.store.specs.Held.{Holds}
 use Rattle.store.proofs.Stored.{read-size}

@@ -8,8 +8,9 @@ use mathlib.Core.List.{List}
 use Rattle.complex.specs.declared.Complex.{Complex}
 use Rattle.expression.specs.Trees.{Tree, number, pi, variable, cell, leaf, functionCall, prefixed, infixed}
 use Rattle.expression.specs.Alike.{equal}
-use Rattle.store.specs.declared.node.Expression.{Expression}
-use Rattle.store.specs.Nodes.{expressionOf, Within}
+use Rattle.expression.specs.declared.node.Expression.{Expression}
+use Rattle.store.specs.Nodes.{expressionOf}
+use Rattle.expression.specs.Nodes.{Within}
 use Rattle.store.specs.Memory.{Memory, memory, fieldsAt, treeAt, treeOf}
 use Rattle.store.specs.Held.{Holds, Compares}
 use Rattle.store.proofs.Stored.{read-node}

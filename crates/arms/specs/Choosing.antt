@@ -7,8 +7,8 @@ use Rattle.complex.specs.Constants.{oneNumber, twoNumber}
 use Rattle.expression.specs.declared.InfixOperator.{InfixOperator}
 use Rattle.expression.specs.Trees.{Tree}
 use Rattle.expression.specs.declared.PrefixOperator.{PrefixOperator}
-use Rattle.store.specs.declared.node.Expression.{Expression}
-use Rattle.store.specs.Nodes.{Within}
+use Rattle.expression.specs.declared.node.Expression.{Expression}
+use Rattle.expression.specs.Nodes.{Within}
 use Rattle.store.specs.Memory.{Memory, memory, treeAt, treeOf}
 use Rattle.store.specs.Held.{Holds}
 use Rattle.arms.specs.declared.Arm.{Arm}

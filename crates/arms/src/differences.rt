@@ -13,8 +13,8 @@ use super::looks::operand_in;
 use complex::constants::zero;
 use expression::InfixOperator;
 use expression::PrefixOperator;
+use expression::node::Expression;
 use store::equal_at;
-use store::node::Expression;
 
 // Arms 20, 21, 31, 32 and 41.
 fn choose_signed_difference(l: usize, r: usize, left: Expression, right: Expression) -> Arm

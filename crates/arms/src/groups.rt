@@ -12,7 +12,7 @@ use super::looks::operand_in;
 use super::looks::right_in;
 use expression::InfixOperator;
 use expression::PrefixOperator;
-use store::node::Expression;
+use expression::node::Expression;
 
 // inv of arm 31 and op' of arm 32.
 fn undone(operator: InfixOperator) -> InfixOperator

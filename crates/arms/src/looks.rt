@@ -11,8 +11,8 @@ use complex::zero::is_one;
 use complex::zero::is_zero;
 use expression::InfixOperator;
 use expression::PrefixOperator;
+use expression::node::Expression;
 use store::equal_at;
-use store::node::Expression;
 
 pub fn is_number(e: Expression) -> bool
     ensures { λ r. ⌜ Tells isNumber e r ⌝ }

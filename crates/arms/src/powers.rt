@@ -9,7 +9,7 @@ use super::looks::number_in;
 use complex::constants::one;
 use complex::constants::zero;
 use expression::InfixOperator;
-use store::node::Expression;
+use expression::node::Expression;
 
 pub fn choose_power(l: usize, r: usize, left: Expression, right: Expression) -> Arm
     ensures { λ arm. ⌜ ChoosesWhere always powerPlan l r left right arm ⌝ }

@@ -19,7 +19,7 @@ use super::looks::operand_in;
 use super::looks::right_in;
 use complex::constants::zero;
 use expression::InfixOperator;
-use store::node::Expression;
+use expression::node::Expression;
 
 // Arms 22, 25 and 26: l or r is -e.
 fn choose_signed_product(l: usize, r: usize, left: Expression, right: Expression) -> Arm

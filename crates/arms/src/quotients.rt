@@ -24,8 +24,8 @@ use complex::constants::not_a_number;
 use complex::constants::one;
 use complex::constants::zero;
 use expression::InfixOperator;
+use expression::node::Expression;
 use store::equal_at;
-use store::node::Expression;
 
 // e is -k, for a node equal to k.
 fn negates(link: &[u64], e: Expression, k: usize) -> bool

@@ -16,8 +16,8 @@ use super::looks::number_in;
 use super::looks::operand_in;
 use super::looks::right_in;
 use expression::InfixOperator;
+use expression::node::Expression;
 use store::equal_at;
-use store::node::Expression;
 use store::reading::expression_at;
 
 // Whether two nodes are products that share a factor.

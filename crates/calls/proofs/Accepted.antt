@@ -19,7 +19,9 @@ use Rattle.text.proofs.Only.{decimal-only, ended-only}
 use Rattle.text.specs.Lines as Lines
 use Rattle.text.specs.Lines.{Line, Whole, lines}
 use Rattle.listing.specs.Listings as Listings
-use Rattle.listing.specs.Listings.{Listing, Swap, accepted, Known, known, none, stored, formed, mostNodes, mostSwaps, functionNames, prefixNames, infixNames, childField, numberFields, variableFields, cellFields, functionFields, prefixFields, infixFields, fieldsOf, nodeFields, nodeLine, above, swapFields, swapped, swapLine, listingLine, last, rooted, whole, listing}
+use Rattle.listing.specs.Listings.{Listing, Swap, accepted, Known, known, none, stored, formed, mostNodes, mostSwaps, nodeLine, above, swapFields, swapped, swapLine, listingLine, last, rooted, whole, listing}
+use Rattle.spelling.specs.Names.{functionNames, prefixNames, infixNames}
+use Rattle.node_lines.specs.NodeLines.{childField, numberFields, variableFields, cellFields, functionFields, prefixFields, infixFields, fieldsOf, nodeFields}
 use Rattle.calls.proofs.Lining.{InLine, InWhole, to-the-end}
 
 pub record Good (t : Tree) : Type 0 where

@@ -13,7 +13,7 @@ use Rattle.expression.specs.Trees.{Tree, size}
 use Rattle.store.specs.Storing.{State, fresh}
 use Rattle.text.specs.Lines as Lines
 use Rattle.text.specs.Lines.{Whole}
-use Rattle.listing.specs.declared.writing.Written.{Written}
+use Rattle.writing.specs.declared.Written.{Written}
 use Rattle.listing.specs.Listings.{Swap, accepted, listing}
 use Rattle.sheet.specs.Rows.{Rows, sheet}
 use Rattle.tape.specs.declared.Checked.{Checked}

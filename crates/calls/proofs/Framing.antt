@@ -12,11 +12,11 @@ use Rattle.store.specs.Storing.{State, Answer, fresh}
 use Rattle.store.specs.Memory.{Memory, memory, room, cleared, treeAt, stateOf}
 use Rattle.store.specs.Held.{Holds, Built, seen}
 use Rattle.listing.specs.declared.Listing.{Listing}
-use Rattle.listing.specs.declared.writing.Written.{Written}
+use Rattle.writing.specs.declared.Written.{Written}
 use Rattle.listing.specs.Listings.{Swap, listing}
 use Rattle.listing.specs.Tables.{Reads, Lists, swapTrees}
-use Rattle.listing.specs.Ordering.{Writes}
-use Rattle.sheet.specs.declared.Rows.{Rows as Counts}
+use Rattle.writing.specs.Ordering.{Writes}
+use Rattle.sheet.specs.declared.Counts.{Counts}
 use Rattle.sheet.specs.declared.Sheet.{Sheet}
 use Rattle.sheet.specs.Rows.{sheet}
 use Rattle.sheet.specs.Table as Table
@@ -24,7 +24,7 @@ use Rattle.sheet.specs.Table.{rowsOf, Held, heldBy}
 use Rattle.evaluation.specs.declared.Evaluation.{Evaluation}
 use Rattle.evaluation.specs.declared.real.Real.{Real}
 use Rattle.evaluation.specs.Evaluating.{evaluate}
-use Rattle.evaluation.specs.Substituting.{substitute}
+use Rattle.substitution.specs.Substituting.{substitute}
 use Rattle.evaluation.specs.Reals.{toReal}
 use Rattle.simplification.specs.Simplifying.{simplify}
 use Rattle.calls.specs.declared.Evaluated.{Evaluated}

@@ -3,7 +3,7 @@
 use mathlib.Core.Path.{_≡_, sym, _∙_}
 use Prim.Native.Nat.{ℕ}
 use mathlib.Core.List.{List}
-use Rattle.listing.specs.declared.writing.Written.{Written}
+use Rattle.writing.specs.declared.Written.{Written}
 use Rattle.evaluation.specs.declared.real.Real.{Real}
 use Rattle.calls.specs.declared.Evaluated.{Evaluated}
 use Rattle.calls.specs.declared.Simplified.{Simplified}

@@ -19,11 +19,12 @@ use Rattle.store.specs.Storing.{nothing, State, state, Answer, gives, among, in
 use Rattle.store.specs.Memory.{Memory, room, trees, treeAt, stateOf}
 use Rattle.store.specs.Held.{Built}
 use Rattle.store.proofs.Stored.{stored as stored-in, limited, proper}
-use Rattle.listing.specs.declared.writing.Written.{Written}
+use Rattle.writing.specs.declared.Written.{Written}
 use Rattle.listing.specs.Listings as Listings
-use Rattle.listing.specs.Listings.{Listing, Swap, accepted, Known, known, none, stored, formed, mostNodes, mostSwaps, nodeFields, nodeLine, above, swapFields, swapped, swapLine, listingLine, rooted, whole, listing}
-use Rattle.listing.specs.Order.{order, textOf}
-use Rattle.listing.proofs.Fits.{written-reads-back}
+use Rattle.listing.specs.Listings.{Listing, Swap, accepted, Known, known, none, stored, formed, mostNodes, mostSwaps, nodeLine, above, swapFields, swapped, swapLine, listingLine, rooted, whole, listing}
+use Rattle.node_lines.specs.NodeLines.{nodeFields}
+use Rattle.writing.specs.Order.{order, textOf}
+use Rattle.writing.proofs.Fits.{written-reads-back}
 use Rattle.sheet.specs.Rows.{Rows, sheet}
 use Rattle.simplification.specs.Bounds.{bound}
 use Rattle.simplification.specs.Simplifying.{simplify}

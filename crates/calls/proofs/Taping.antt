@@ -7,9 +7,9 @@ use lib.ListN.{replicate}
 use Rattle.expression.specs.declared.refusal.Refusal.{Refusal}
 use Rattle.store.specs.Memory.{Memory, room, treeAt}
 use Rattle.listing.specs.declared.Listing.{Listing}
-use Rattle.listing.specs.declared.writing.Written.{Written}
+use Rattle.writing.specs.declared.Written.{Written}
 use Rattle.listing.specs.Tables.{Reads}
-use Rattle.sheet.specs.declared.Rows.{Rows as Counts}
+use Rattle.sheet.specs.declared.Counts.{Counts}
 use Rattle.sheet.specs.declared.Sheet.{Sheet}
 use Rattle.sheet.specs.Rows.{sheet}
 use Rattle.sheet.specs.Table.{rowsOf, Held}

@@ -9,15 +9,15 @@ use Rattle.store.specs.Storing as Storing
 use Rattle.store.specs.Storing.{State, state, Answer, fresh}
 use Rattle.text.specs.Lines as Lines
 use Rattle.text.specs.Lines.{Whole}
-use Rattle.listing.specs.declared.writing.Written.{Written}
+use Rattle.writing.specs.declared.Written.{Written}
 use Rattle.listing.specs.Listings as Listings
 use Rattle.listing.specs.Listings.{Listing, Swap, accepted, listing}
-use Rattle.listing.specs.Order.{written}
+use Rattle.writing.specs.Order.{written}
 use Rattle.sheet.specs.Rows.{Rows, sheet}
 use Rattle.evaluation.specs.declared.Evaluation.{Evaluation}
 use Rattle.evaluation.specs.declared.real.Real.{Real}
 use Rattle.evaluation.specs.Evaluating.{evaluate}
-use Rattle.evaluation.specs.Substituting.{substitute}
+use Rattle.substitution.specs.Substituting.{substitute}
 use Rattle.evaluation.specs.Reals.{toReal}
 use Rattle.simplification.specs.Simplifying.{simplify}
 use Rattle.tape.specs.declared.Checked.{Checked}

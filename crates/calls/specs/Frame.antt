@@ -6,7 +6,7 @@ use lib.ListN.{length, replicate}
 use Rattle.store.specs.declared.Added.{Added}
 use Rattle.store.specs.Memory.{Memory, memory, room, treeAt, stateOf}
 use Rattle.store.specs.Held.{Holds, seen}
-use Rattle.listing.specs.declared.writing.Written.{Written}
+use Rattle.writing.specs.declared.Written.{Written}
 use Rattle.sheet.specs.declared.Sheet.{Sheet}
 use Rattle.sheet.specs.Rows.{sheet}
 use Rattle.sheet.specs.Table.{rowsOf, Held, heldBy, seen as seenSheet}

@@ -8,13 +8,13 @@ ghost use Rattle.calls.specs.Frame.{ReadsJob, sheetAdded, WritesAnswer};
 use super::Job;
 use listing::Listing;
 use listing::read_listing;
-use listing::writing::Written;
-use listing::writing::write_listing;
+use memory::zero;
 use sheet::Sheet;
 use sheet::read_sheet;
 use store::Added;
 use store::clear;
-use store::memory::zero;
+use writing::Written;
+use writing::write_listing;
 
 // A listing into the store, then a sheet into the table.
 pub fn read_job(
@@ -44,7 +44,11 @@ fn add_sheet(root: usize, nodes: usize, values: Sheet) -> Job
     ensures { λ r. ⌜ r ≡ sheetAdded root nodes values ⌝ }
 {
     match values {
-        Sheet::Read(rows) => Job::Ready { root, nodes, rows },
+        Sheet::Read(counts) => Job::Ready {
+            root,
+            nodes,
+            counts,
+        },
         Sheet::Refused(why) => Job::Refused(why),
     }
 }

@@ -11,17 +11,17 @@ ghost use Rattle.calls.specs.Frame.{Evaluates, Substitutes, SubstitutesT
 use complex::Complex;
 use evaluation::Evaluation;
 use evaluation::real::Real;
-use evaluation::substitution::substitute_variables;
 use expression::refusal::Refusal;
 use frame::clear_work;
 use frame::read_job;
 use frame::write_answer;
 use listing::Listing;
 use listing::read_listing;
-use listing::writing::Written;
-use sheet::Rows;
+use sheet::Counts;
 use simplification::limit::Limit;
 use store::Added;
+use substitution::substitute_variables;
+use writing::Written;
 
 pub mod frame;
 pub mod tapes;
@@ -31,7 +31,7 @@ pub enum Job {
     Ready {
         root: usize,
         nodes: usize,
-        rows: Rows,
+        counts: Counts,
     },
     Refused(Refusal),
 }
@@ -72,15 +72,11 @@ fn evaluate_texts(
 {
     let job = read_job(list, values, tag, first, second, link, table);
     match job {
-        Job::Ready { root, nodes, rows } => answer_of(evaluation::evaluate(
-            tag,
-            first,
-            second,
-            table,
-            rows,
+        Job::Ready {
             root,
             nodes,
-        )),
+            counts,
+        } => answer_of(evaluation::evaluate(tag, first, second, table, counts, root, nodes)),
         Job::Refused(why) => Evaluated::Refused(why),
     }
 }
@@ -231,7 +227,11 @@ fn simplify_texts(
     }
     let job = read_job(list, values, tag, first, second, link, table);
     match job {
-        Job::Ready { root, nodes, rows } => {
+        Job::Ready {
+            root,
+            nodes,
+            counts,
+        } => {
             let built = simplification::simplify(
                 Limit(limit),
                 tag,
@@ -239,7 +239,7 @@ fn simplify_texts(
                 second,
                 link,
                 table,
-                rows,
+                counts,
                 root,
                 nodes,
                 0,

@@ -13,12 +13,12 @@ use super::frame::clear_work;
 use expression::refusal::Refusal;
 use listing::Listing;
 use listing::read_listing;
-use listing::writing::Written;
+use memory::zero;
 use sheet::Sheet;
 use sheet::read_sheet;
-use store::memory::zero;
 use tape::Checked;
 use tape::check;
+use writing::Written;
 
 fn compile_text(
     list: &[u8],
@@ -66,7 +66,7 @@ fn play_sheet(tape: &[u8], table: &[u64], found: Sheet) -> Evaluated
     ensures { λ r. ⌜ PlaysSheet (now (tape .entry)) (now (table .entry)) found r ⌝ }
 {
     match found {
-        Sheet::Read(rows) => answer_of(tape::play::play(tape, table, rows)),
+        Sheet::Read(counts) => answer_of(tape::play::play(tape, table, counts)),
         Sheet::Refused(why) => Evaluated::Refused(why),
     }
 }

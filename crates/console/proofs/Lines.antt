@@ -7,17 +7,20 @@ use lib.Ieee.{Float}
 use lib.ListN.{length, take, drop, length-append}
 use lib.Seq.{length-take-le, sets-eq, take-append-seam}
 use denote.Enum.Declared.{tagOf}
-use types.Run.{OneOf, miss}
+use types.Run.{OneOf}
 use Rattle.io.specs.Counts.{Counts}
 use Rattle.complex.specs.declared.Complex.{Complex}
 use Rattle.complex.specs.Bits.{bitsOf}
+use Rattle.expression.specs.declared.ExpressionFunction.{ExpressionFunction}
 use Rattle.expression.specs.declared.refusal.Operation.{Operation}
 use Rattle.expression.specs.declared.refusal.Refusal.{Refusal}
 use Rattle.expression.proofs.refusal.Refusal.{the-type}
 use Rattle.expression.specs.Refusals.{numberOf, placeOf}
+use Rattle.expression.proofs.Carrying.{others, is-placed}
 use Rattle.text.specs.Writing.{inDecimal, inHex, line, Put}
 use Rattle.text.proofs.Putting.{hex-length, few-digits, put-length}
-use Rattle.console.specs.Answers.{operationName, valueLine, realLine, refusedLine, needLine, carriedLine, refusalLine}
+use Rattle.spelling.specs.Names.{functionName, operationName}
+use Rattle.console.specs.Answers.{valueLine, realLine, refusedLine, needLine, carriedLine, refusalLine}
 
 -- ---- the start of an output
 
@@ -65,6 +68,13 @@ name-short Operation.Exponent = omega arith
 name-short Operation.SquareRoot = omega arith
 name-short Operation.Power = omega arith
 
+pub function-short : (f : ExpressionFunction) → length (functionName f) ≤ 4
+function-short ExpressionFunction.Sine = omega arith
+function-short ExpressionFunction.Cosine = omega arith
+function-short ExpressionFunction.Exponent = omega arith
+function-short ExpressionFunction.SquareRoot = omega arith
+function-short ExpressionFunction.Cis = omega arith
+
 pub decimal-short : (n : ℕ) → n < 18446744073709551616 → length (inDecimal n) ≤ 20
 decimal-short n h = few-digits 19 n (omega (arith, h))
 
@@ -108,29 +118,11 @@ need-short o x y =
 
 -- ---- refusals
 
-is-placed : (why : Refusal) → OneOf (0 ∷ 1 ∷ 2 ∷ 3 ∷ 4 ∷ 5 ∷ 6 ∷ 7 ∷ 9 ∷ 10 ∷ 11 ∷ 12 ∷ 13 ∷ 14 ∷ []) (tagOf the-type why)
-    → refusedLine (numberOf why) (placeOf why) ≡ refusalLine why
-unfolding carriedLine
-is-placed (Refusal.BadList line) k = refl
-is-placed (Refusal.LongList line) k = refl
-is-placed (Refusal.BadSheet line) k = refl
-is-placed (Refusal.LongSheet line) k = refl
-is-placed Refusal.BadLimit k = refl
-is-placed Refusal.Big k = refl
-is-placed Refusal.Deep k = refl
-is-placed Refusal.Room k = refl
-is-placed (Refusal.Need operation x y) k = absurd (miss (0 ∷ 1 ∷ 2 ∷ 3 ∷ 4 ∷ 5 ∷ 6 ∷ 7 ∷ 9 ∷ 10 ∷ 11 ∷ 12 ∷ 13 ∷ 14 ∷ []) 8 tt k)
-is-placed Refusal.Incomplete k = refl
-is-placed Refusal.NotReal k = refl
-is-placed Refusal.NotANumber k = refl
-is-placed Refusal.OutRoom k = refl
-is-placed Refusal.LongTape k = refl
-is-placed (Refusal.BadTape step) k = refl
-
 pub placed : (why : Refusal) {number place r : ℕ} {e x : List ℕ}
-    → OneOf (0 ∷ 1 ∷ 2 ∷ 3 ∷ 4 ∷ 5 ∷ 6 ∷ 7 ∷ 9 ∷ 10 ∷ 11 ∷ 12 ∷ 13 ∷ 14 ∷ []) (tagOf the-type why) → number ≡ numberOf why → place ≡ placeOf why
+    → OneOf others (tagOf the-type why) → number ≡ numberOf why → place ≡ placeOf why
     → Line e (refusedLine number place) r x → Line e (refusalLine why) r x
-placed why {r = r} {e} {x} k p q a = subst (λ l. Line e l r x) ((λ i. refusedLine (p i) (q i)) ∙ is-placed why k) a
+unfolding carriedLine
+placed why {r = r} {e} {x} k p q a = subst (λ l. Line e l r x) ((λ i. refusedLine (p i) (q i)) ∙ ap (carriedLine (numberOf why)) (sym (is-placed why k))) a
 
 pub lacks : {why : Refusal} {operation : Operation} {z y : Complex} {r : ℕ} {e x : List ℕ} → why ≡ Refusal.Need operation z y
     → Line e (needLine operation z y) r x → Line e (refusalLine why) r x

@@ -1,7 +1,6 @@
 -- The lines that the programs print: a value, a real, a function value that is lacking, a refusal. Definitions only.
-use Prim.Native.Nat.{ℕ, _-_}
+use Prim.Native.Nat.{ℕ}
 use mathlib.Core.List.{List, [], _∷_, _++_}
-use lib.ListN.{getD}
 use lib.Ieee.{Float}
 use Rattle.complex.specs.declared.Complex.{Complex}
 use Rattle.complex.specs.Bits.{bitsOf}
@@ -9,11 +8,7 @@ use Rattle.expression.specs.declared.refusal.Operation.{Operation}
 use Rattle.expression.specs.declared.refusal.Refusal.{Refusal}
 use Rattle.expression.specs.Refusals.{numberOf, Carried, place, lacking, carries}
 use Rattle.text.specs.Writing.{inDecimal, inHex, line}
-use Rattle.sheet.specs.Rows.{operationNames, operationNumber}
-
--- sin, cos, exp, sqrt or pow, as in the sheet
-abbrev pub operationName : Operation → List ℕ
-operationName operation = getD operationNames (operationNumber operation - 1) []
+use Rattle.spelling.specs.Names.{operationName}
 
 -- `value`, and the two parts
 unfoldable pub valueLine : Complex → List ℕ

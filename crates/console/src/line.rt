@@ -6,11 +6,14 @@ ghost use lib.ListN.{length};
 ghost use Rattle.io.specs.Counts.{Counts};
 ghost use Rattle.complex.specs.Bits.{bitsOf};
 ghost use Rattle.text.specs.Writing.{inHex, Put};
-ghost use Rattle.console.specs.Answers.{operationName, valueLine, realLine, refusedLine, needLine, refusalLine};
+ghost use Rattle.console.specs.Answers.{valueLine, realLine, refusedLine, needLine, refusalLine};
 use complex::Complex;
 use complex::bits::to_bits;
+use expression::ExpressionFunction;
 use expression::refusal::Operation;
 use expression::refusal::Refusal;
+use spelling::write_function;
+use spelling::write_operation;
 use text::writing::write_byte;
 use text::writing::write_bytes;
 use text::writing::write_decimal_field;
@@ -23,24 +26,17 @@ const LF: u8 = b'\n';
 // The room for a line. The longest has 78 bytes.
 pub const ROOM: usize = 96;
 
-// The name of a function value.
-fn write_name(out: &mut [u8], at: usize, operation: Operation) -> usize
-    requires { ⌜ at + length (operationName operation) ≤ length (now out) ⌝ }
-    ensures { λ r. ⌜ Put (now (out .entry)) at (operationName operation) r (now (out .exit)) ⌝ }
-{
-    match operation {
-        Operation::Sine => write_bytes(out, at, b"sin"),
-        Operation::Cosine => write_bytes(out, at, b"cos"),
-        Operation::Exponent => write_bytes(out, at, b"exp"),
-        Operation::SquareRoot => write_bytes(out, at, b"sqrt"),
-        Operation::Power => write_bytes(out, at, b"pow"),
-    }
-}
-
 // The name alone, on either output. Answers as io::write_all does.
 pub fn print_name(file: i32, operation: Operation) -> bool {
     let mut name = [0u8; 4];
-    let n = write_name(&mut name, 0, operation);
+    let n = write_operation(&mut name, 0, operation);
+    io::write_all(file, &name[..n])
+}
+
+// The name of a function alone.
+pub fn print_function(file: i32, f: ExpressionFunction) -> bool {
+    let mut name = [0u8; 4];
+    let n = write_function(&mut name, 0, f);
     io::write_all(file, &name[..n])
 }
 
@@ -94,7 +90,7 @@ fn write_need(out: &mut [u8], operation: Operation, x: Complex, y: Complex) -> u
     ensures within { λ r. ⌜ Counts r (now (out .exit)) ⌝ }
 {
     let p = write_bytes(out, 0, b"need\t");
-    let q = write_name(out, p, operation);
+    let q = write_operation(out, p, operation);
     let r = write_byte(out, q, TAB);
     let s = write_parts(out, r, x, TAB);
     write_parts(out, s, y, LF)

@@ -1,8 +1,8 @@
--- Examples of the definitions, computed: the order of evaluating, what a lack is, dividing by zero, substituting at once, and reading as a real.
+-- Examples of the definitions, computed: the order of evaluating, what a lack is, dividing by zero, and reading as a real.
 -- Assumes nothing.
 use mathlib.Core.Path.{_≡_, refl}
 use mathlib.Core.Bool.{false}
-use mathlib.Core.List.{[], _∷_}
+use mathlib.Core.List.{[]}
 use Prim.Native.Nat.{_^_}
 use lib.Ieee.{binary64, add, mul, sub, div, lt, neg, round, ofBits}
 use Rattle.complex.specs.Arithmetic.{over}
@@ -12,13 +12,10 @@ use Rattle.expression.specs.declared.ExpressionFunction.{ExpressionFunction}
 use Rattle.expression.specs.declared.refusal.Operation.{Operation}
 use Rattle.expression.specs.declared.refusal.Refusal.{Refusal}
 use Rattle.expression.specs.Trees.{Tree, leaf, number, pi, variable, functionCall, infixed}
-use Rattle.store.specs.Storing.{gives, fresh}
-use Rattle.listing.specs.Listings.{swap, swapFor}
 use Rattle.sheet.specs.Rows.{Rows, rows, valueOf, functionValue}
 use Rattle.evaluation.specs.declared.Evaluation.{Evaluation}
 use Rattle.evaluation.specs.declared.real.Real.{Real}
 use Rattle.evaluation.specs.Evaluating.{evaluate, andThen, bound, given, cis, calculateFunction, calculateInfix, leafValue}
-use Rattle.evaluation.specs.Substituting.{putIn, putInLeaf, substitute}
 use Rattle.evaluation.specs.Reals.{tiny, realPart, toReal}
 
 a : Tree
@@ -51,11 +48,6 @@ cis-cosine = refl
 power-asked : evaluate nothing-bound (infixed InfixOperator.Caret one (leaf pi)) ≡ Evaluation.Need Operation.Power oneNumber piNumber
 unfolding evaluate andThen leafValue calculateInfix given functionValue one nothing-bound
 power-asked = refl
-
--- all variables at once: a for b and b for a, and what is put in is not searched again
-swapped-at-once : substitute (swap 0 b ∷ swap 1 a ∷ []) a (fresh 8 0) ≡ gives b (fresh 8 0)
-unfolding substitute putInLeaf putIn swapFor a b
-swapped-at-once = refl
 
 -- 1e-16 is the double nearest it
 tiny-nearest : round binary64 false 1 (10 ^ 16) ≡ tiny

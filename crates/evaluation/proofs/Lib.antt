@@ -1,5 +1,4 @@
 -- The laws that the proofs of this crate, and where `pub` of its callers, cite.
 pub mod Valued
-pub mod Replacing
 mod Parts
 mod Examples

@@ -9,13 +9,14 @@ use Rattle.expression.specs.declared.refusal.Refusal.{Refusal}
 use Rattle.expression.specs.declared.InfixOperator.{InfixOperator}
 use Rattle.expression.specs.declared.PrefixOperator.{PrefixOperator}
 use Rattle.expression.specs.declared.ExpressionFunction.{ExpressionFunction}
-use Rattle.store.specs.declared.node.Expression.{Expression}
-use Rattle.store.specs.Nodes.{expressionOf, grown}
+use Rattle.expression.specs.declared.node.Expression.{Expression}
+use Rattle.store.specs.Nodes.{expressionOf}
+use Rattle.expression.specs.Nodes.{grown}
 use Rattle.store.specs.Memory.{Memory, fieldsAt, treeAt, treeOf}
 use Rattle.store.specs.Held.{Holds}
 use Rattle.evaluation.specs.declared.real.Real.{Real}
 use Rattle.evaluation.specs.Reals.{tiny, realPart, toReal}
-use Rattle.evaluation.proofs.Valued.{tree-of-node}
+use Rattle.store.proofs.Stored.{tree-of-node}
 
 module _ (z : Complex) where
   pub both-sides : lt (neg tiny) (z .im) ≡ true → lt (z .im) tiny ≡ true → Real.Number (z .re) ≡ realPart z

@@ -13,11 +13,12 @@ use Rattle.expression.specs.declared.InfixOperator.{InfixOperator}
 use Rattle.expression.specs.declared.PrefixOperator.{PrefixOperator}
 use Rattle.expression.specs.declared.ExpressionFunction.{ExpressionFunction}
 use Rattle.expression.specs.declared.refusal.Operation.{Operation}
-use Rattle.store.specs.declared.node.Expression.{Expression}
-use Rattle.store.specs.Nodes.{expressionOf, grown, Within}
+use Rattle.expression.specs.declared.node.Expression.{Expression}
+use Rattle.store.specs.Nodes.{expressionOf}
+use Rattle.expression.specs.Nodes.{grown, Within}
 use Rattle.store.specs.Memory.{Memory, fieldsAt, treeAt, treeOf}
 use Rattle.store.specs.Held.{Holds}
-use Rattle.store.proofs.Stored.{read-node}
+use Rattle.store.proofs.Stored.{tree-of-node}
 use Rattle.sheet.specs.declared.Found.{Found}
 use Rattle.sheet.specs.Rows.{Rows, valueOf, cellValue}
 use Rattle.sheet.specs.Table.{seenFound}
@@ -67,16 +68,7 @@ module _ (rows : Rows) (x : Complex) where
       unfolding cis from-cosine from-both
       cis-is u i t s = rw (s, t, i) (goes-on (from-both cosine) (rw z₂ at q) u ∙ goes-on from-cosine (rw z₁ at p) v)
 
--- ---- a node whose expression is known
-
-module _ {m : Memory} {n node : ℕ} (h : Holds m n) (l : node < n) {e e′ : Expression} (e-is : e ≡ expressionOf (fieldsAt m node)) (told : e ≡ e′) where
-  pub within-node : Within node e′
-  within-node = rw told at (read-node h node l e-is .0)
-
-  pub tree-of-node : treeOf m e′ ≡ treeAt m node
-  tree-of-node = rw told at (read-node h node l e-is .1)
-
--- its value, by its kind
+-- ---- the value of a node, by its kind
 
 module _ {m : Memory} {n node : ℕ} (h : Holds m n) (l : node < n) {e : Expression} (e-is : e ≡ expressionOf (fieldsAt m node)) (rows : Rows) where
   module _ {e′ : Expression} (told : e ≡ e′) where

@@ -15,15 +15,15 @@ use expression::ExpressionFunction;
 use expression::InfixOperator;
 use expression::PrefixOperator;
 use expression::refusal::Operation;
+use sheet::Counts;
 use sheet::Found;
-use sheet::Rows;
 use sheet::function_value;
 
 // A row's value, or the lack of one.
-fn ask(table: &[u64], rows: Rows, operation: Operation, x: Complex, y: Complex) -> Evaluation
-    ensures { λ r. ⌜ (Held (now (table .entry)) rows → r ≡ asked (rowsOf (now (table .entry)) rows) operation x y) ⌝ }
+fn ask(table: &[u64], counts: Counts, operation: Operation, x: Complex, y: Complex) -> Evaluation
+    ensures { λ r. ⌜ (Held (now (table .entry)) counts → r ≡ asked (rowsOf (now (table .entry)) counts) operation x y) ⌝ }
 {
-    let found = function_value(table, rows, operation, x, y);
+    let found = function_value(table, counts, operation, x, y);
     match found {
         Found::Value(z) => Evaluation::Value(z),
         Found::Nothing => Evaluation::Need(operation, x, y),
@@ -37,14 +37,14 @@ fn imaginary_unit() -> Complex
 }
 
 // "cis x asks cos, then sin, and is cos + (0+1i)*sin."
-fn calculate_cis(table: &[u64], rows: Rows, x: Complex) -> Evaluation
-    ensures { λ r. ⌜ (Held (now (table .entry)) rows → r ≡ cis (rowsOf (now (table .entry)) rows) x) ⌝ }
+fn calculate_cis(table: &[u64], counts: Counts, x: Complex) -> Evaluation
+    ensures { λ r. ⌜ (Held (now (table .entry)) counts → r ≡ cis (rowsOf (now (table .entry)) counts) x) ⌝ }
 {
-    let first = ask(table, rows, Operation::Cosine, x, zero());
+    let first = ask(table, counts, Operation::Cosine, x, zero());
     let Evaluation::Value(cosine) = first else {
         return first;
     };
-    let second = ask(table, rows, Operation::Sine, x, zero());
+    let second = ask(table, counts, Operation::Sine, x, zero());
     let Evaluation::Value(sine) = second else {
         return second;
     };
@@ -53,32 +53,38 @@ fn calculate_cis(table: &[u64], rows: Rows, x: Complex) -> Evaluation
 
 pub fn calculate_function(
     table: &[u64],
-    rows: Rows,
+    counts: Counts,
     function: ExpressionFunction,
     argument: Complex,
 ) -> Evaluation
-    ensures { λ r. ⌜ (Held (now (table .entry)) rows → r ≡ calculateFunction (rowsOf (now (table .entry)) rows) function argument) ⌝ }
+    ensures { λ r. ⌜ (Held (now (table .entry)) counts → r ≡ calculateFunction (rowsOf (now (table .entry)) counts) function argument) ⌝ }
 {
     match function {
-        ExpressionFunction::Sine => ask(table, rows, Operation::Sine, argument, zero()),
-        ExpressionFunction::Cis => calculate_cis(table, rows, argument),
-        ExpressionFunction::Cosine => ask(table, rows, Operation::Cosine, argument, zero()),
-        ExpressionFunction::Exponent => ask(table, rows, Operation::Exponent, argument, zero()),
-        ExpressionFunction::SquareRoot => ask(table, rows, Operation::SquareRoot, argument, zero()),
+        ExpressionFunction::Sine => ask(table, counts, Operation::Sine, argument, zero()),
+        ExpressionFunction::Cis => calculate_cis(table, counts, argument),
+        ExpressionFunction::Cosine => ask(table, counts, Operation::Cosine, argument, zero()),
+        ExpressionFunction::Exponent => ask(table, counts, Operation::Exponent, argument, zero()),
+        ExpressionFunction::SquareRoot => ask(
+            table,
+            counts,
+            Operation::SquareRoot,
+            argument,
+            zero(),
+        ),
     }
 }
 
 pub fn calculate_infix(
     table: &[u64],
-    rows: Rows,
+    counts: Counts,
     left: Complex,
     operator: InfixOperator,
     right: Complex,
 ) -> Evaluation
-    ensures { λ r. ⌜ (Held (now (table .entry)) rows → r ≡ calculateInfix (rowsOf (now (table .entry)) rows) operator left right) ⌝ }
+    ensures { λ r. ⌜ (Held (now (table .entry)) counts → r ≡ calculateInfix (rowsOf (now (table .entry)) counts) operator left right) ⌝ }
 {
     match operator {
-        InfixOperator::Caret => ask(table, rows, Operation::Power, left, right),
+        InfixOperator::Caret => ask(table, counts, Operation::Power, left, right),
         InfixOperator::Plus => Evaluation::Value(add(left, right)),
         InfixOperator::Minus => Evaluation::Value(sub(left, right)),
         InfixOperator::Slash => Evaluation::Value(div(left, right)),

@@ -1,5 +1,5 @@
-// Evaluating an expression under a sheet's values, substituting for its variables, and reading it as a real number:
-// `evaluate`, `substitute_variables` and `to_real` of the Rust, over the nodes of a store.
+// Evaluating an expression under a sheet's values, and reading it as a real number: `evaluate` and `to_real` of the Rust, over
+// the nodes of a store.
 ghost use mathlib.Core.Path.{_≡_};
 ghost use Rattle.sheet.specs.Table.{seenFound};
 ghost use Rattle.evaluation.specs.Evaluating.{bound};
@@ -9,17 +9,16 @@ use calculate::calculate_infix;
 use calculate::calculate_prefix;
 use complex::Complex;
 use complex::constants::pi;
+use expression::node::Expression;
 use expression::refusal::Operation;
+use sheet::Counts;
 use sheet::Found;
-use sheet::Rows;
 use sheet::cell;
 use sheet::variable;
-use store::node::Expression;
 use store::reading::expression_at;
 
 pub mod calculate;
 pub mod real;
-pub mod substitution;
 
 // "Evaluation answers a value, Incomplete, or the function value it lacks."
 pub enum Evaluation {
@@ -45,11 +44,11 @@ pub fn evaluate(
     first: &[u64],
     second: &[u64],
     table: &[u64],
-    rows: Rows,
+    counts: Counts,
     node: usize,
     below: usize,
 ) -> Evaluation
-    ensures { λ r. ⌜ Evaluates (now (tag .entry)) (now (first .entry)) (now (second .entry)) (now (table .entry)) rows node below r ⌝ }
+    ensures { λ r. ⌜ Evaluates (now (tag .entry)) (now (first .entry)) (now (second .entry)) (now (table .entry)) counts node below r ⌝ }
 {
     if below <= node {
         return Evaluation::Incomplete;
@@ -57,32 +56,32 @@ pub fn evaluate(
     let e = expression_at(tag, first, second, node);
     match e {
         Expression::FunctionCall(function, child) => {
-            let x = evaluate(tag, first, second, table, rows, child, node);
+            let x = evaluate(tag, first, second, table, counts, child, node);
             let Evaluation::Value(argument) = x else {
                 return x;
             };
-            calculate_function(table, rows, function, argument)
+            calculate_function(table, counts, function, argument)
         }
         Expression::Infix(operator, left, right) => {
-            let x = evaluate(tag, first, second, table, rows, left, node);
+            let x = evaluate(tag, first, second, table, counts, left, node);
             let Evaluation::Value(l) = x else {
                 return x;
             };
-            let y = evaluate(tag, first, second, table, rows, right, node);
+            let y = evaluate(tag, first, second, table, counts, right, node);
             let Evaluation::Value(r) = y else {
                 return y;
             };
-            calculate_infix(table, rows, l, operator, r)
+            calculate_infix(table, counts, l, operator, r)
         }
         Expression::Prefix(operator, child) => {
-            let x = evaluate(tag, first, second, table, rows, child, node);
+            let x = evaluate(tag, first, second, table, counts, child, node);
             let Evaluation::Value(value) = x else {
                 return x;
             };
             Evaluation::Value(calculate_prefix(operator, value))
         }
-        Expression::Variable(number) => bound_value(variable(table, rows, number)),
-        Expression::Address(region, index) => bound_value(cell(table, rows, region, index)),
+        Expression::Variable(number) => bound_value(variable(table, counts, number)),
+        Expression::Address(region, index) => bound_value(cell(table, counts, region, index)),
         Expression::PiConstant => Evaluation::Value(pi()),
         Expression::Number(z) => Evaluation::Value(z),
     }

@@ -4,8 +4,8 @@ ghost use Rattle.evaluation.specs.Reals.{realPart};
 ghost use Rattle.evaluation.specs.Run.{ReadsReal};
 use complex::Complex;
 use complex::constants::pi;
+use expression::node::Expression;
 use expression::refusal::Refusal;
-use store::node::Expression;
 use store::reading::expression_at;
 
 pub enum Real {

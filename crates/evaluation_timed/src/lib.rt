@@ -13,8 +13,8 @@ use calls::frame::read_job;
 use complex::Complex;
 use complex::bits::to_bits;
 use evaluation::Evaluation;
+use memory::put;
 use sheet::Rows;
-use store::memory::put;
 
 // The root, the count of nodes and the counts of variables, cells and function values, 12 bits each and 13 for the
 // nodes; a refusal's number above them.

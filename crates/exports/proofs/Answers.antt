@@ -6,15 +6,16 @@ use native.Mathlib.Omega.{arith}
 use lib.ListN.{length, set}
 use lib.Ieee.{Float}
 use denote.Enum.Declared.{tagOf}
-use types.Run.{OneOf, miss}
+use types.Run.{OneOf}
 use Rattle.complex.specs.declared.Complex.{Complex}
 use Rattle.complex.specs.Bits.{bitsOf}
 use Rattle.expression.specs.declared.refusal.Operation.{Operation}
 use Rattle.expression.specs.declared.refusal.Refusal.{Refusal}
 use Rattle.expression.proofs.refusal.Refusal.{the-type}
 use Rattle.expression.specs.Refusals.{numberOf, placeOf}
-use Rattle.listing.specs.declared.writing.Written.{Written}
-use Rattle.sheet.specs.Rows.{operationNumber}
+use Rattle.expression.proofs.Carrying.{others, is-placed}
+use Rattle.writing.specs.declared.Written.{Written}
+use Rattle.expression.specs.Codes.{operationCode}
 use Rattle.evaluation.specs.declared.real.Real.{Real}
 use Rattle.tape.specs.declared.Picked.{Picked}
 use Rattle.tape.specs.Tapes.{picked, partOf}
@@ -45,32 +46,14 @@ known-as e a = rw e at a
 
 -- ---- refusals
 
-is-placed : (why : Refusal) → OneOf (0 ∷ 1 ∷ 2 ∷ 3 ∷ 4 ∷ 5 ∷ 6 ∷ 7 ∷ 9 ∷ 10 ∷ 11 ∷ 12 ∷ 13 ∷ 14 ∷ []) (tagOf the-type why)
-    → words (numberOf why) (placeOf why) 0 0 0 0 ≡ refusalWords why
-unfolding carriedWords
-is-placed (Refusal.BadList line) k = refl
-is-placed (Refusal.LongList line) k = refl
-is-placed (Refusal.BadSheet line) k = refl
-is-placed (Refusal.LongSheet line) k = refl
-is-placed Refusal.BadLimit k = refl
-is-placed Refusal.Big k = refl
-is-placed Refusal.Deep k = refl
-is-placed Refusal.Room k = refl
-is-placed (Refusal.Need operation x y) k = absurd (miss (0 ∷ 1 ∷ 2 ∷ 3 ∷ 4 ∷ 5 ∷ 6 ∷ 7 ∷ 9 ∷ 10 ∷ 11 ∷ 12 ∷ 13 ∷ 14 ∷ []) 8 tt k)
-is-placed Refusal.Incomplete k = refl
-is-placed Refusal.NotReal k = refl
-is-placed Refusal.NotANumber k = refl
-is-placed Refusal.OutRoom k = refl
-is-placed Refusal.LongTape k = refl
-is-placed (Refusal.BadTape step) k = refl
-
 pub placed : (why : Refusal) {number detail r : ℕ} {answer : List ℕ}
-    → OneOf (0 ∷ 1 ∷ 2 ∷ 3 ∷ 4 ∷ 5 ∷ 6 ∷ 7 ∷ 9 ∷ 10 ∷ 11 ∷ 12 ∷ 13 ∷ 14 ∷ []) (tagOf the-type why) → number ≡ numberOf why → detail ≡ placeOf why
+    → OneOf others (tagOf the-type why) → number ≡ numberOf why → detail ≡ placeOf why
     → Answered (words number detail 0 0 0 0) r answer → Answered (refusalWords why) r answer
-placed why k p q a = known-as ((λ i. words (p i) (q i) 0 0 0 0) ∙ is-placed why k) a
+unfolding carriedWords
+placed why k p q a = known-as ((λ i. words (p i) (q i) 0 0 0 0) ∙ ap (carriedWords (numberOf why)) (sym (is-placed why k))) a
 
 pub lacks : {why : Refusal} {operation : Operation} {x y : Complex} {number detail re im re2 im2 r : ℕ} {answer : List ℕ} → why ≡ Refusal.Need operation x y
-    → number ≡ 9 → detail ≡ operationNumber operation → re ≡ bitsOf (x .re) → im ≡ bitsOf (x .im) → re2 ≡ bitsOf (y .re) → im2 ≡ bitsOf (y .im)
+    → number ≡ 9 → detail ≡ operationCode operation → re ≡ bitsOf (x .re) → im ≡ bitsOf (x .im) → re2 ≡ bitsOf (y .re) → im2 ≡ bitsOf (y .im)
     → Answered (words number detail re im re2 im2) r answer → Answered (refusalWords why) r answer
 unfolding carriedWords
 lacks told n d p q p2 q2 a = known-as ((λ i. words (n i) (d i) (p i) (q i) (p2 i) (q2 i)) ∙ ap refusalWords (sym told)) a

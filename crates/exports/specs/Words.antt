@@ -6,8 +6,8 @@ use lib.ListN.{length, replicate}
 use Rattle.complex.specs.Bits.{bitsOf}
 use Rattle.expression.specs.declared.refusal.Refusal.{Refusal}
 use Rattle.expression.specs.Refusals.{numberOf, Carried, place, lacking, carries}
-use Rattle.listing.specs.declared.writing.Written.{Written}
-use Rattle.sheet.specs.Rows.{operationNumber}
+use Rattle.writing.specs.declared.Written.{Written}
+use Rattle.expression.specs.Codes.{operationCode}
 use Rattle.evaluation.specs.declared.real.Real.{Real}
 use Rattle.tape.specs.declared.Checked.{Checked}
 use Rattle.tape.specs.declared.Picked.{Picked}
@@ -23,7 +23,7 @@ words number detail re im re2 im2 = number ∷ detail ∷ re ∷ im ∷ re2 ∷ 
 
 unfoldable pub carriedWords : (number : ℕ) → Carried → List ℕ
 carriedWords number (place k) = words number k 0 0 0 0
-carriedWords number (lacking operation x y) = words number (operationNumber operation) (bitsOf (x .re)) (bitsOf (x .im)) (bitsOf (y .re)) (bitsOf (y .im))
+carriedWords number (lacking operation x y) = words number (operationCode operation) (bitsOf (x .re)) (bitsOf (x .im)) (bitsOf (y .re)) (bitsOf (y .im))
 
 abbrev pub refusalWords : Refusal → List ℕ
 refusalWords why = carriedWords (numberOf why) (carries why)

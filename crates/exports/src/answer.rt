@@ -2,16 +2,14 @@
 ghost use mathlib.Core.Path.{_≡_};
 ghost use mathlib.Core.List.{[], _∷_};
 ghost use lib.ListN.{length};
-ghost use Rattle.sheet.specs.Rows.{operationNumber};
 ghost use Rattle.exports.specs.Words.{Answered, words, refusalWords, evaluatedWords, realWords, writtenWords, simplifiedWords, checkedWords};
 use calls::Evaluated;
 use calls::Simplified;
 use complex::bits::to_bits;
 use evaluation::real::Real;
-use expression::refusal::Operation;
 use expression::refusal::Refusal;
-use listing::writing::Written;
 use tape::Checked;
+use writing::Written;
 
 fn put_words(
     answer: &mut [u64],
@@ -34,20 +32,7 @@ fn put_words(
     number
 }
 
-// 1 sin, 2 cos, 3 exp, 4 sqrt, 5 pow.
-fn operation_number(operation: Operation) -> u64
-    ensures { λ r. ⌜ r ≡ operationNumber operation ⌝ }
-{
-    match operation {
-        Operation::Sine => 1,
-        Operation::Cosine => 2,
-        Operation::Exponent => 3,
-        Operation::SquareRoot => 4,
-        Operation::Power => 5,
-    }
-}
-
-// The refusal's number, and what it carries.
+// The refusal's number, and what it carries; the operations are 1 sin, 2 cos, 3 exp, 4 sqrt, 5 pow.
 fn put_refusal(answer: &mut [u64], why: Refusal) -> u64
     requires { ⌜ length (now answer) ≡ 6 ⌝ }
     ensures { λ r. ⌜ Answered (refusalWords why) r (now (answer .exit)) ⌝ }
@@ -58,7 +43,7 @@ fn put_refusal(answer: &mut [u64], why: Refusal) -> u64
     put_words(
         answer,
         why.number(),
-        operation_number(operation),
+        operation.code(),
         to_bits(x.re),
         to_bits(x.im),
         to_bits(y.re),

@@ -65,7 +65,7 @@ likenesses : T (all
 unfolding all a b neighbour turned zero minusZero alike alikeLeaves Numbers.identical Numbers.equal Numbers.identicalDoubles Numbers.equalDoubles eq isNan toBits ofBits
 likenesses = tt
 
--- 01's table: the number of each, and the place that it carries
+-- 01's table and 02's five: the number of each, and the place that it carries
 refusals : T (all
     (eqb (numberOf (Refusal.BadList 7)) 1
     ∷ eqb (placeOf (Refusal.BadList 7)) 7
@@ -86,6 +86,13 @@ refusals : T (all
     ∷ eqb (numberOf Refusal.LongTape) 14
     ∷ eqb (numberOf (Refusal.BadTape 3)) 15
     ∷ eqb (placeOf (Refusal.BadTape 3)) 3
+    ∷ eqb (numberOf (Refusal.BadNames 2)) 16
+    ∷ eqb (placeOf (Refusal.BadNames 2)) 2
+    ∷ eqb (numberOf (Refusal.UnknownName 2)) 17
+    ∷ eqb (numberOf Refusal.BadBook) 18
+    ∷ eqb (numberOf (Refusal.Many 4096)) 19
+    ∷ eqb (placeOf (Refusal.Many 4096)) 4096
+    ∷ eqb (numberOf Refusal.NoText) 20
     ∷ []))
 unfolding all
 refusals = tt

@@ -2,4 +2,5 @@
 pub mod Numbering
 pub mod Likeness
 pub mod Sizes
+pub mod Carrying
 mod Examples

@@ -5,7 +5,8 @@ use native.Mathlib.Omega.{arith}
 use Rattle.expression.specs.declared.InfixOperator.{InfixOperator}
 use Rattle.expression.specs.declared.PrefixOperator.{PrefixOperator}
 use Rattle.expression.specs.declared.ExpressionFunction.{ExpressionFunction}
-use Rattle.expression.specs.Codes.{infixCode, prefixCode, functionCode, ofFive, infixOf, prefixOf, functionOf}
+use Rattle.expression.specs.declared.refusal.Operation.{Operation}
+use Rattle.expression.specs.Codes.{infixCode, prefixCode, functionCode, operationCode, ofFive, infixOf, prefixOf, functionOf, operationOf}
 
 pub other : {A : Type 0} (a b c d e : A) (k : ℕ) → (k ≡ 1 → ⊥) → (k ≡ 2 → ⊥) → (k ≡ 3 → ⊥) → (k ≡ 4 → ⊥) → e ≡ ofFive a b c d e k
 unfolding ofFive
@@ -57,7 +58,7 @@ same-prefix o p e = sym (prefix-back o) ∙ ap prefixOf e ∙ prefix-back p
 pub same-function : (f g : ExpressionFunction) → functionCode f ≡ functionCode g → f ≡ g
 same-function f g e = sym (function-back f) ∙ ap functionOf e ∙ function-back g
 
--- ---- the numbers are 1 to 5, 1 to 2 and 1 to 5, and each of these is one's
+-- ---- the numbers are 1 to 5, of prefixes 1 to 2, and each of these is one's
 
 pub record Known (last c : ℕ) : Type 0 where
   pub least : 1 ≤ c
@@ -81,6 +82,13 @@ function-known ExpressionFunction.Exponent = record { least = omega arith; most 
 function-known ExpressionFunction.SquareRoot = record { least = omega arith; most = omega arith }
 function-known ExpressionFunction.Cis = record { least = omega arith; most = omega arith }
 
+pub operation-known : (o : Operation) → Known 5 (operationCode o)
+operation-known Operation.Sine = record { least = omega arith; most = omega arith }
+operation-known Operation.Cosine = record { least = omega arith; most = omega arith }
+operation-known Operation.Exponent = record { least = omega arith; most = omega arith }
+operation-known Operation.SquareRoot = record { least = omega arith; most = omega arith }
+operation-known Operation.Power = record { least = omega arith; most = omega arith }
+
 -- what a function gives at each of five, it gives at each known number
 of-five : {A : Type 0} (f : A → ℕ) (a b c d e : A) → f a ≡ 1 → f b ≡ 2 → f c ≡ 3 → f d ≡ 4 → f e ≡ 5
     → (k : ℕ) → Known 5 k → f (ofFive a b c d e k) ≡ k
@@ -95,6 +103,9 @@ of-five f a b c d e p q r s t (suc (suc (suc (suc (suc (suc k)))))) h = absurd (
 
 pub infix-code-back : (k : ℕ) → Known 5 k → infixCode (infixOf k) ≡ k
 infix-code-back = of-five infixCode _ _ _ _ _ refl refl refl refl refl
+
+pub operation-code-back : (k : ℕ) → Known 5 k → operationCode (operationOf k) ≡ k
+operation-code-back = of-five operationCode _ _ _ _ _ refl refl refl refl refl
 
 pub function-code-back : (k : ℕ) → Known 5 k → functionCode (functionOf k) ≡ k
 function-code-back = of-five functionCode _ _ _ _ _ refl refl refl refl refl

@@ -3,6 +3,7 @@ use Prim.Native.Nat.{ℕ, zero, suc}
 use Rattle.expression.specs.declared.InfixOperator.{InfixOperator}
 use Rattle.expression.specs.declared.PrefixOperator.{PrefixOperator}
 use Rattle.expression.specs.declared.ExpressionFunction.{ExpressionFunction}
+use Rattle.expression.specs.declared.refusal.Operation.{Operation}
 
 -- "infix, 1 to 5 as + - * / ^"
 abbrev pub infixCode : InfixOperator → ℕ
@@ -25,6 +26,14 @@ functionCode ExpressionFunction.Exponent = 3
 functionCode ExpressionFunction.SquareRoot = 4
 functionCode ExpressionFunction.Cis = 5
 
+-- the operations of the sheet's t rows: sin, cos, exp, sqrt, pow
+abbrev pub operationCode : Operation → ℕ
+operationCode Operation.Sine = 1
+operationCode Operation.Cosine = 2
+operationCode Operation.Exponent = 3
+operationCode Operation.SquareRoot = 4
+operationCode Operation.Power = 5
+
 -- and back; a number that is none of these stands for the last
 unfoldable pub ofFive : {A : Type 0} → A → A → A → A → A → ℕ → A
 ofFive a b c d e zero = e
@@ -42,3 +51,6 @@ prefixOf = ofFive PrefixOperator.Plus PrefixOperator.Minus PrefixOperator.Minus 
 
 abbrev pub functionOf : ℕ → ExpressionFunction
 functionOf = ofFive ExpressionFunction.Sine ExpressionFunction.Cosine ExpressionFunction.Exponent ExpressionFunction.SquareRoot ExpressionFunction.Cis
+
+abbrev pub operationOf : ℕ → Operation
+operationOf = ofFive Operation.Sine Operation.Cosine Operation.Exponent Operation.SquareRoot Operation.Power

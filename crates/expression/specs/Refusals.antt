@@ -1,4 +1,4 @@
--- 01's table of refusals: the number of each, and what it carries. Definitions only.
+-- 01's table of refusals, 1 to 15, and the five of the change requests, 16 to 20: the number of each, and what it carries. Definitions only.
 use Prim.Native.Nat.{ℕ}
 use Rattle.complex.specs.declared.Complex.{Complex}
 use Rattle.expression.specs.declared.refusal.Operation.{Operation}
@@ -20,8 +20,13 @@ numberOf Refusal.NotANumber = 12
 numberOf Refusal.OutRoom = 13
 numberOf Refusal.LongTape = 14
 numberOf (Refusal.BadTape step) = 15
+numberOf (Refusal.BadNames line) = 16
+numberOf (Refusal.UnknownName line) = 17
+numberOf Refusal.BadBook = 18
+numberOf (Refusal.Many listing) = 19
+numberOf Refusal.NoText = 20
 
--- a line or a step, or 0; or the name and the operands of a function value that is lacking
+-- a line, a step or a listing, or 0; or the name and the operands of a function value that is lacking
 pub data Carried : Type 0 where
   place : ℕ → Carried
   lacking : Operation → Complex → Complex → Carried
@@ -42,6 +47,11 @@ carries Refusal.NotANumber = place 0
 carries Refusal.OutRoom = place 0
 carries Refusal.LongTape = place 0
 carries (Refusal.BadTape step) = place step
+carries (Refusal.BadNames line) = place line
+carries (Refusal.UnknownName line) = place line
+carries Refusal.BadBook = place 0
+carries (Refusal.Many listing) = place listing
+carries Refusal.NoText = place 0
 
 abbrev pub placeIn : Carried → ℕ
 placeIn (place k) = k

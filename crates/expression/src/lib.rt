@@ -1,8 +1,9 @@
 // The vocabulary of the Rust: the operators and functions of an expression by their names, and the small
-// numbers by which the store, the tape and the texts know them.
+// numbers by which the store, the tape and the texts know them; nodes, and the refusals.
 ghost use mathlib.Core.Path.{_≡_};
 ghost use Rattle.expression.specs.Codes.{infixCode, infixOf, prefixCode, prefixOf, functionCode, functionOf};
 
+pub mod node;
 pub mod refusal;
 
 pub enum InfixOperator {

@@ -1,5 +1,7 @@
-// The refusals of 01's table by name, each with its number and what it carries.
+// The refusals by name, those of 01's table and the five that the change requests add to it, each with its number and what
+// it carries.
 ghost use mathlib.Core.Path.{_≡_};
+ghost use Rattle.expression.specs.Codes.{operationCode};
 ghost use Rattle.expression.specs.Refusals.{numberOf, placeOf};
 use complex::Complex;
 
@@ -28,10 +30,29 @@ pub enum Refusal {
     OutRoom,
     LongTape,
     BadTape(u64),
+    BadNames(u64),
+    UnknownName(u64),
+    BadBook,
+    Many(u64),
+    NoText,
+}
+
+impl Operation {
+    pub fn code(self) -> u64
+        ensures { λ r. ⌜ r ≡ operationCode self ⌝ }
+    {
+        match self {
+            Operation::Sine => 1,
+            Operation::Cosine => 2,
+            Operation::Exponent => 3,
+            Operation::SquareRoot => 4,
+            Operation::Power => 5,
+        }
+    }
 }
 
 impl Refusal {
-    // 01's number.
+    // Its number in 01 or, from 16 on, in 02.
     pub fn number(self) -> u64
         ensures { λ r. ⌜ r ≡ numberOf self ⌝ }
     {
@@ -51,10 +72,15 @@ impl Refusal {
             Refusal::OutRoom => 13,
             Refusal::LongTape => 14,
             Refusal::BadTape(_) => 15,
+            Refusal::BadNames(_) => 16,
+            Refusal::UnknownName(_) => 17,
+            Refusal::BadBook => 18,
+            Refusal::Many(_) => 19,
+            Refusal::NoText => 20,
         }
     }
 
-    // The line or step that it carries, else 0.
+    // The line, step or listing that it carries, else 0.
     pub fn place(self) -> u64
         ensures { λ r. ⌜ r ≡ placeOf self ⌝ }
     {
@@ -74,6 +100,11 @@ impl Refusal {
             Refusal::OutRoom => 0,
             Refusal::LongTape => 0,
             Refusal::BadTape(step) => step,
+            Refusal::BadNames(line) => line,
+            Refusal::UnknownName(line) => line,
+            Refusal::BadBook => 0,
+            Refusal::Many(listing) => listing,
+            Refusal::NoText => 0,
         }
     }
 }

@@ -3,11 +3,5 @@ pub mod Numbers
 pub mod Taking
 pub mod Whole
 mod Naming
-pub mod Orders
-pub mod Visiting
-pub mod LineTexts
-pub mod Texts
-pub mod ReadBack
-pub mod Fits
 mod Examples
 pub mod OneAnswer

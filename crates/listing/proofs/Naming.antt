@@ -7,8 +7,9 @@ use native.Mathlib.Omega.{arith}
 use lib.ListN.{getD}
 use lib.Dec.{eqb}
 use Rattle.store.specs.Memory.{Memory, treeAt}
-use Rattle.table.specs.Keys.{keyAt, First, holds}
-use Rattle.table.proofs.Values.{first, first-found, first-missing}
+use Rattle.memory.specs.Layout.{swapsFrom}
+use Rattle.memory.specs.Keys.{keyAt, First, holds}
+use Rattle.memory.proofs.Values.{first, first-found, first-missing}
 use Rattle.listing.specs.Listings.{Swap, swap, Named, names, nothing, swapFor}
 use Rattle.listing.specs.Tables.{swapTrees, Lists}
 
@@ -23,11 +24,11 @@ unfolding first swapFor for named
 swaps-first v [] = refl
 swaps-first v (swap v′ t ∷ ss) = rw (swaps-first v ss)
 
-row-key : (table : List ℕ) (j : ℕ) → getD table (1024 + 2 * j) 0 ≡ keyAt table 1024 2 j
-row-key table j = let z : 1024 + 2 * j ≡ 2 * j + 1024 = omega arith in rw z
+row-key : (table : List ℕ) (j : ℕ) → getD table (swapsFrom + 2 * j) 0 ≡ keyAt table swapsFrom 2 j
+row-key table j = let z : swapsFrom + 2 * j ≡ 2 * j + swapsFrom = omega arith in rw z
 
-module _ {m : Memory} {table : List ℕ} {n swaps : ℕ} (l : Lists m table n 0 swaps) (v : ℕ) {r : ℕ} (s : First (holds (keyAt table 1024 2) v) swaps r) where
-  pub swap-found : {node : ℕ} → r < swaps → node ≡ getD table (1025 + 2 * r) 0 → (names (treeAt m node) ≡ swapFor v (swapTrees m table swaps)) × (node < n)
+module _ {m : Memory} {table : List ℕ} {n swaps : ℕ} (l : Lists m table n 0 swaps) (v : ℕ) {r : ℕ} (s : First (holds (keyAt table swapsFrom 2) v) swaps r) where
+  pub swap-found : {node : ℕ} → r < swaps → node ≡ getD table (swapsFrom + 2 * r + 1) 0 → (names (treeAt m node) ≡ swapFor v (swapTrees m table swaps)) × (node < n)
   unfolding for named
   swap-found h e =
       rw e (

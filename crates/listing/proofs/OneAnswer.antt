@@ -1,25 +1,21 @@
--- Two answers that the contract of `read_listing` allows are equal, and so are two answers with their output bytes that that of `write_listing` allows.
--- Assumes nothing.
+-- Two answers that the contract of `read_listing` allows are equal. Assumes nothing.
 use mathlib.Core.Path.{_≡_, sym, ap, _∙_, subst}
 use mathlib.Core.Bool.{Bool}
 use mathlib.Core.List.{List, []}
-use Prim.Native.Nat.{ℕ, _<_}
+use Prim.Native.Nat.{ℕ}
 use lib.ListN.{length}
 use Rattle.expression.specs.declared.refusal.Refusal.{Refusal}
 use Rattle.expression.specs.Trees.{Tree, leaf, pi}
 use Rattle.expression.specs.Alike.{identical}
 use Rattle.store.specs.Storing.{State, state, place}
 use Rattle.store.specs.Memory.{Memory, stateOf}
-use Rattle.store.specs.Held.{Holds}
 use Rattle.store.proofs.Trees.{length-trees}
 use Rattle.store.proofs.Seeking.{own-place}
 use Rattle.listing.specs.declared.Listing.{Listing}
-use Rattle.listing.specs.declared.writing.Written.{Written}
 use Rattle.listing.specs.Listings as Spec
 use Rattle.listing.specs.Listings.{Swap, accepted}
 use Rattle.listing.specs.Tables.{Reads}
-use Rattle.listing.specs.Ordering.{WritesFrom}
-use Rattle.table.proofs.Values.{length-upTo}
+use Rattle.memory.proofs.Values.{length-upTo}
 
 root-in : Spec.Listing → Tree
 root-in (accepted root swaps σ) = root
@@ -57,7 +53,3 @@ one-listing {m₁ = m₁} {m₂ = m₂} {table₁ = table₁} {table₂ = table�
 one-listing (Listing.Read i a s) (Listing.Refused why) p q = absurd (subst IsAccepted (p .answer ∙ sym (q .answer)) tt)
 one-listing (Listing.Refused why) (Listing.Read j b u) p q = absurd (subst IsAccepted (q .answer ∙ sym (p .answer)) tt)
 one-listing (Listing.Refused why) (Listing.Refused why′) p q = ap (λ x. Listing.Refused (why-in x why)) (p .answer ∙ sym (q .answer))
-
-pub one-written : {m : Memory} {n root : ℕ} {r r′ : Written} (out : List ℕ) {out₁ out₂ : List ℕ} → Holds m n → root < n
-    → WritesFrom m root r out out₁ → WritesFrom m root r′ out out₂ → _≡_ {A = Written × List ℕ} (r, out₁) (r′, out₂)
-one-written {n = n} out h o p q = p n h o ∙ sym (q n h o)

@@ -2,7 +2,7 @@
 use mathlib.Core.Path.{_≡_, refl, sym, ap, _∙_}
 use mathlib.Core.List.{List, [], _∷_, _++_}
 use mathlib.Core.Bool.{Bool, true, false, cond}
-use Prim.Native.Nat.{ℕ, zero, suc, _+_, _*_, _≤_, _<_}
+use Prim.Native.Nat.{ℕ, zero, suc, _+_, _-_, _*_, _≤_, _<_}
 use native.Mathlib.Omega.{arith}
 use native.Mathlib.Decide.{decLt}
 use lib.Dec.{ltb}
@@ -13,26 +13,30 @@ use Rattle.expression.specs.declared.refusal.Refusal.{Refusal}
 use Rattle.expression.specs.Trees.{Tree, leaf, pi, size, depth}
 use Rattle.expression.specs.Limits.{largest, deepest}
 use Rattle.store.specs.declared.Added.{Added}
-use Rattle.store.specs.declared.node.Expression.{Expression}
-use Rattle.store.specs.Nodes.{grown, Within}
+use Rattle.expression.specs.declared.node.Expression.{Expression}
+use Rattle.expression.specs.declared.node.Operands.{Operands}
+use Rattle.expression.specs.Nodes.{operandsOf, withOperands, grown, Within}
 use Rattle.store.specs.Storing as Storing
 use Rattle.store.specs.Storing.{State, state, intern, among}
 use Rattle.store.specs.Memory.{Memory, room, treeAt, treeOf, stateOf}
 use Rattle.store.specs.Held.{Step, Adds}
 use Rattle.store.proofs.Trees.{grown-alike}
 use Rattle.store.proofs.Building.{turned}
-use Rattle.table.specs.Keys.{upTo, keyAt, Ascends}
-use Rattle.table.proofs.Values.{length-upTo, at-upTo, upTo-snoc, upTo-alike, upTo-grown}
-use Rattle.table.proofs.Ascending.{ascends-more}
+use Rattle.memory.specs.Layout.{swapsFrom, placesFrom}
+use Rattle.memory.specs.Keys.{upTo, keyAt, Ascends}
+use Rattle.memory.proofs.Values.{length-upTo, at-upTo, upTo-snoc, upTo-alike, upTo-grown}
+use Rattle.memory.proofs.Ascending.{ascends-more}
 use Rattle.text.specs.Reading.{is}
 use Rattle.text.specs.Lines as Lines
 use Rattle.text.specs.Lines.{goes}
-use Rattle.listing.specs.declared.line.Line.{Line}
+use Rattle.node_lines.specs.declared.Line.{Line}
 use Rattle.listing.specs.declared.Progress.{Progress}
 use Rattle.listing.specs.declared.Step as StepEnum
 use Rattle.listing.specs.declared.SwapLine.{SwapLine}
-use Rattle.listing.specs.Listings.{Known, known, Swap, swap, none, above, stored, formed, nodeFields, nodeLine, swapFields, swapped, swapLine, listingLine}
-use Rattle.listing.specs.Tables.{entryAt, moved, Finds, lineTrees, swapTrees, knownAt, Lists, Ready, Takes, FindsSwap, Above}
+use Rattle.listing.specs.Listings.{Known, known, Swap, swap, none, above, stored, formed, nodeLine, swapFields, swapped, swapLine, listingLine}
+use Rattle.node_lines.specs.NodeLines.{nodeFields}
+use Rattle.listing.specs.Tables.{entryAt, movedTo, moved, lineTrees, swapTrees, knownAt, Lists, Ready, Takes, FindsSwap, Above}
+use Rattle.node_lines.specs.Seen.{Finds}
 
 -- ---- whether there are values
 
@@ -49,15 +53,32 @@ none-upTo n f h = go (upTo n f) (length-upTo n f)
 
 -- ---- operands by the table
 
-pub entry-is : (table : List ℕ) (from k : ℕ) → k < 4096 → entryAt table from k ≡ getD table (from + k) 0
+pub entry-is : (table : List ℕ) (from k : ℕ) → k < placesFrom → entryAt table from k ≡ getD table (from + k) 0
 unfolding entryAt
-entry-is table from k h = rw (lt-ltb k 4096 h)
+entry-is table from k h = rw (lt-ltb k placesFrom h)
 
-entry-first : (table : List ℕ) (k : ℕ) → k < 4096 → entryAt table 0 k ≡ getD table k 0
+entry-first : (table : List ℕ) (k : ℕ) → k < placesFrom → entryAt table 0 k ≡ getD table k 0
 entry-first table k h = let z : 0 + k ≡ k = omega arith in entry-is table 0 k h ∙ rw z
 
+-- each return of `moved_by`, where `o` are the node's operands
+module _ (table : List ℕ) (from : ℕ) (e : Expression) {o : Operands} (o-is : o ≡ operandsOf e) where
+  told-as : {o′ : Operands} → o ≡ o′ → movedTo table from e o′ ≡ moved table from e
+  told-as told = ap (movedTo table from e) (sym told ∙ o-is)
+
+  pub moved-none : o ≡ Operands.Nothing → e ≡ moved table from e
+  unfolding movedTo
+  moved-none told = told-as told
+
+  pub moved-one : {a x : ℕ} {r : Expression} → o ≡ Operands.One a → x ≡ entryAt table from a → r ≡ withOperands e 0 x → r ≡ moved table from e
+  unfolding movedTo
+  moved-one told p q = q ∙ ap (withOperands e 0) p ∙ told-as told
+
+  pub moved-two : {a b x y : ℕ} {r : Expression} → o ≡ Operands.Two a b → x ≡ entryAt table from a → y ≡ entryAt table from b → r ≡ withOperands e x y → r ≡ moved table from e
+  unfolding movedTo
+  moved-two told p p′ q = q ∙ (λ i. withOperands e (p i) (p′ i)) ∙ told-as told
+
 pub moved-tree : (look : ℕ → Tree) (table : List ℕ) (from : ℕ) (e : Expression) → grown look (moved table from e) ≡ grown (λ k. look (entryAt table from k)) e
-unfolding grown moved
+unfolding grown operandsOf withOperands movedTo
 moved-tree look table from (Expression.Number z) = refl
 moved-tree look table from Expression.PiConstant = refl
 moved-tree look table from (Expression.Variable v) = refl
@@ -66,8 +87,8 @@ moved-tree look table from (Expression.FunctionCall f a) = refl
 moved-tree look table from (Expression.Prefix o a) = refl
 moved-tree look table from (Expression.Infix o a b) = refl
 
-pub moved-within : (table : List ℕ) (from lines n : ℕ) (e : Expression) → lines ≤ 4096 → ((k : ℕ) → k < lines → getD table (from + k) 0 < n) → Within lines e → Within n (moved table from e)
-unfolding moved
+pub moved-within : (table : List ℕ) (from lines n : ℕ) (e : Expression) → lines ≤ placesFrom → ((k : ℕ) → k < lines → getD table (from + k) 0 < n) → Within lines e → Within n (moved table from e)
+unfolding operandsOf withOperands movedTo
 moved-within table from lines n (Expression.Number z) l h w = tt
 moved-within table from lines n Expression.PiConstant l h w = tt
 moved-within table from lines n (Expression.Variable v) l h w = tt
@@ -214,11 +235,11 @@ pub above-first : (m : Memory) (table : List ℕ) (swaps v : ℕ) (t : Tree) →
 unfolding upTo above
 above-first m table swaps v t e = rw e
 
-pub above-later : (m : Memory) (table : List ℕ) (swaps v : ℕ) (t : Tree) → (swaps ≡ 0 → ⊥) → ltb (getD table (1022 + 2 * swaps) 0) v ≡ above (swapTrees m table swaps) (swap v t)
+pub above-later : (m : Memory) (table : List ℕ) (swaps v : ℕ) (t : Tree) → (swaps ≡ 0 → ⊥) → ltb (getD table (swapsFrom + 2 * (swaps - 1)) 0) v ≡ above (swapTrees m table swaps) (swap v t)
 above-later m table zero v t h = absurd (h refl)
 above-later m table (suc k) v t h =
-    let z : 1022 + 2 * suc k ≡ 1024 + 2 * k = omega arith in
-    rw z (sym (ap (λ ss. above ss (swap v t)) (upTo-snoc k _) ∙ above-snoc (swapTrees m table k) (getD table (1024 + 2 * k) 0) v _ t))
+    let z : swapsFrom + 2 * (suc k - 1) ≡ swapsFrom + 2 * k = omega arith in
+    rw z (sym (ap (λ ss. above ss (swap v t)) (upTo-snoc k _) ∙ above-snoc (swapTrees m table k) (getD table (swapsFrom + 2 * k) 0) v _ t))
 
 module _ (substituting : Bool) {text table : List ℕ} {p : Progress} (ready : Ready text table p) {m : Memory} (l : Lists m table (p .nodes) (p .lines) (p .swaps)) where
   pub swap-long : {m′ : Memory} {table′ : List ℕ} → 256 ≤ p .swaps
@@ -260,7 +281,7 @@ module _ (substituting : Bool) {text table : List ℕ} {p : Progress} (ready : R
             let t : above (swapTrees m table (p .swaps)) (swap v named-tree) ≡ false = sym (tests m named-tree) ∙ e in
             record { answer = sym (rw (swaps-long ready l, lt-ltb (p .swaps) 256 few, found-swap, asked, t, lines-long ready l, swaps-long ready l)); after = tt }
 
-        pub swap-next : {table₁ table′ : List ℕ} {node : ℕ} → a ≡ true → node ≡ getD table line 0 → table₁ ≡ set table (1024 + 2 * p .swaps) v → table′ ≡ set table₁ (1025 + 2 * p .swaps) node
+        pub swap-next : {table₁ table′ : List ℕ} {node : ℕ} → a ≡ true → node ≡ getD table line 0 → table₁ ≡ set table (swapsFrom + 2 * p .swaps) v → table′ ≡ set table₁ (swapsFrom + 2 * p .swaps + 1) node
             → Takes (swapLine substituting (knownAt m table p) (getD text (p .at) 0) (drop (p .at + 1) text)) text p
             (StepEnum.Step.Next (record { at = next; lines = p .lines; swaps = p .swaps + 1; nodes = p .nodes })) m table′
         unfolding swapLine swapped named-tree
@@ -278,43 +299,43 @@ module _ (substituting : Bool) {text table : List ℕ} {p : Progress} (ready : R
               };
             }
           where
-            kept : (k : ℕ) → k < 1024 + 2 * p .swaps → getD table′ k 0 ≡ getD table k 0
-            kept k h = rw w₂ (getD-set-other table₁ (1025 + 2 * p .swaps) k node 0 (λ z. omega (arith, z, h)) ∙ rw w₁ (getD-set-other table (1024 + 2 * p .swaps) k v 0 (λ z. omega (arith, z, h))))
+            kept : (k : ℕ) → k < swapsFrom + 2 * p .swaps → getD table′ k 0 ≡ getD table k 0
+            kept k h = rw w₂ (getD-set-other table₁ (swapsFrom + 2 * p .swaps + 1) k node 0 (λ z. omega (arith, z, h)) ∙ rw w₁ (getD-set-other table (swapsFrom + 2 * p .swaps) k v 0 (λ z. omega (arith, z, h))))
 
             long₁ : length table₁ ≡ length table
-            long₁ = rw w₁ (length-set table (1024 + 2 * p .swaps) v)
+            long₁ = rw w₁ (length-set table (swapsFrom + 2 * p .swaps) v)
 
-            variable-there : getD table′ (1024 + 2 * p .swaps) 0 ≡ v
+            variable-there : getD table′ (swapsFrom + 2 * p .swaps) 0 ≡ v
             variable-there =
-                rw w₂ (getD-set-other table₁ (1025 + 2 * p .swaps) (1024 + 2 * p .swaps) node 0 (λ z. omega (arith, z))
-                ∙ rw w₁ (getD-set-same table (1024 + 2 * p .swaps) v 0 (omega (arith, few, ready .long))))
+                rw w₂ (getD-set-other table₁ (swapsFrom + 2 * p .swaps + 1) (swapsFrom + 2 * p .swaps) node 0 (λ z. omega (arith, z))
+                ∙ rw w₁ (getD-set-same table (swapsFrom + 2 * p .swaps) v 0 (omega (arith, few, ready .long))))
 
-            node-there : getD table′ (1025 + 2 * p .swaps) 0 ≡ getD table line 0
-            node-there = rw (w₂, n) (getD-set-same table₁ (1025 + 2 * p .swaps) (getD table line 0) 0 (omega (arith, few, ready .long, long₁)))
+            node-there : getD table′ (swapsFrom + 2 * p .swaps + 1) 0 ≡ getD table line 0
+            node-there = rw (w₂, n) (getD-set-same table₁ (swapsFrom + 2 * p .swaps + 1) (getD table line 0) 0 (omega (arith, few, ready .long, long₁)))
 
             same-lines : lineTrees m table (p .lines) ≡ lineTrees m table′ (p .lines)
             same-lines = upTo-alike (p .lines) _ _ (λ k h. ap (treeAt m) (sym (kept k (omega (arith, h, ready .lines)))))
 
             grows : swapTrees m table′ (p .swaps + 1) ≡ swapTrees m table (p .swaps) ++ (swap v (treeAt m (getD table line 0)) ∷ [])
             grows =
-                upTo-grown (p .swaps) (λ k. swap (getD table′ (1024 + 2 * k) 0) (treeAt m (getD table′ (1025 + 2 * k) 0))) (λ k. swap (getD table (1024 + 2 * k) 0) (treeAt m (getD table (1025 + 2 * k) 0))) (swap v (treeAt m (getD table line 0)))
-                (λ k h. rw (kept (1024 + 2 * k) (omega (arith, h)), kept (1025 + 2 * k) (omega (arith, h)))) (rw (variable-there, node-there))
+                upTo-grown (p .swaps) (λ k. swap (getD table′ (swapsFrom + 2 * k) 0) (treeAt m (getD table′ (swapsFrom + 2 * k + 1) 0))) (λ k. swap (getD table (swapsFrom + 2 * k) 0) (treeAt m (getD table (swapsFrom + 2 * k + 1) 0))) (swap v (treeAt m (getD table line 0)))
+                (λ k h. rw (kept (swapsFrom + 2 * k) (omega (arith, h)), kept (swapsFrom + 2 * k + 1) (omega (arith, h)))) (rw (variable-there, node-there))
 
-            last-below : (j : ℕ) → j + 1 ≡ p .swaps → getD table (2 * j + 1024) 0 < v
+            last-below : (j : ℕ) → j + 1 ≡ p .swaps → getD table (2 * j + swapsFrom) 0 < v
             last-below j i =
-                let z : 2 * j + 1024 ≡ 1022 + 2 * p .swaps = omega (arith, i) in
-                rw z (ltb-true (getD table (1022 + 2 * p .swaps) 0) v (above-later m table (p .swaps) v named-tree (λ q. omega (arith, q, i)) ∙ sym (tests m named-tree) ∙ e))
+                let z : 2 * j + swapsFrom ≡ swapsFrom + 2 * (p .swaps - 1) = omega (arith, i) in
+                rw z (ltb-true (getD table (swapsFrom + 2 * (p .swaps - 1)) 0) v (above-later m table (p .swaps) v named-tree (λ q. omega (arith, q, i)) ∙ sym (tests m named-tree) ∙ e))
 
-            rising : Ascends (keyAt table′ 1024 2) (p .swaps + 1)
+            rising : Ascends (keyAt table′ swapsFrom 2) (p .swaps + 1)
             rising =
-                let z : 2 * p .swaps + 1024 ≡ 1024 + 2 * p .swaps = omega arith in
-                ascends-more (keyAt table 1024 2) (keyAt table′ 1024 2) (p .swaps) v (l .ascends) last-below (λ j h. kept (2 * j + 1024) (omega (arith, h))) (rw z variable-there)
+                let z : 2 * p .swaps + swapsFrom ≡ swapsFrom + 2 * p .swaps = omega arith in
+                ascends-more (keyAt table swapsFrom 2) (keyAt table′ swapsFrom 2) (p .swaps) v (l .ascends) last-below (λ j h. kept (2 * j + swapsFrom) (omega (arith, h))) (rw z variable-there)
 
-            inside : (k : ℕ) → k < p .swaps + 1 → getD table′ (1025 + 2 * k) 0 < p .nodes
+            inside : (k : ℕ) → k < p .swaps + 1 → getD table′ (swapsFrom + 2 * k + 1) 0 < p .nodes
             inside k h = go (decLt k (p .swaps))
               where
-                go : Dec (k < p .swaps) → getD table′ (1025 + 2 * k) 0 < p .nodes
-                go (yes y) = rw (kept (1025 + 2 * k) (omega (arith, y))) (l .named k y)
+                go : Dec (k < p .swaps) → getD table′ (swapsFrom + 2 * k + 1) 0 < p .nodes
+                go (yes y) = rw (kept (swapsFrom + 2 * k + 1) (omega (arith, y))) (l .named k y)
                 go (no g) = let z : k ≡ p .swaps = omega arith in rw (z, node-there) (l .nodes line operand)
 
 -- ---- any line

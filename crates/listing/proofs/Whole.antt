@@ -11,10 +11,11 @@ use Rattle.expression.specs.Trees.{Tree}
 use Rattle.store.specs.Memory.{Memory, room, treeAt, stateOf}
 use Rattle.store.specs.Storing.{State, fresh}
 use Rattle.store.specs.Held.{Holds, Begun}
-use Rattle.table.specs.Keys.{upTo}
-use Rattle.table.proofs.Values.{upTo-snoc}
+use Rattle.memory.specs.Keys.{upTo}
+use Rattle.memory.proofs.Values.{upTo-snoc}
 use Rattle.text.specs.Lines as Lines
 use Rattle.text.proofs.Lining.{Left, begins, ends, goes-on, stops-at}
+use Rattle.memory.specs.Layout.{tableWords}
 use Rattle.listing.specs.declared.Listing.{Listing}
 use Rattle.listing.specs.declared.Progress.{Progress}
 use Rattle.listing.specs.declared.Step.{Step}
@@ -27,7 +28,7 @@ pub record Going (substituting : Bool) (text : List ℕ) (m₀ : Memory) (m : Me
   pub here : p .at ≡ at
   pub lines : p .lines ≤ 1024
   pub swaps : p .swaps ≤ 256
-  pub long : 8192 ≤ length table
+  pub long : tableWords ≤ length table
   pub lists : Lists m table (p .nodes) (p .lines) (p .swaps)
   pub left : Left (listingLine substituting) (suc mostLines) (p .lines + p .swaps) (knownAt m table p) text at
       (Lines.lines (listingLine substituting) (suc mostLines) (known [] [] (stateOf m₀ 0 0)) text)
@@ -35,7 +36,7 @@ pub record Going (substituting : Bool) (text : List ℕ) (m₀ : Memory) (m : Me
 abbrev pub atStart : Progress
 atStart = record { at = 0; lines = 0; swaps = 0; nodes = 0 }
 
-pub going-begins : (substituting : Bool) (text : List ℕ) (m : Memory) (table : List ℕ) → 8192 ≤ length table → Holds m 0 → Going substituting text m m table atStart 0
+pub going-begins : (substituting : Bool) (text : List ℕ) (m : Memory) (table : List ℕ) → tableWords ≤ length table → Holds m 0 → Going substituting text m m table atStart 0
 unfolding upTo
 going-begins substituting text m table l h = record {
   here = refl;

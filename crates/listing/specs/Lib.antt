@@ -1,5 +1,3 @@
--- The definitions that the contracts of `listing` cite. To believe: Listings and Order; Tables and Ordering only connect.
+-- The definitions that the contracts of `listing` cite. To believe: Listings (and of `node_lines` NodeLines); Tables only connects.
 pub mod Listings
-pub mod Order
 pub mod Tables
-pub mod Ordering

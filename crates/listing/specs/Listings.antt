@@ -1,85 +1,18 @@
--- A listing, on bytes and trees: which trees its lines give, in order, and when a line is refused. Definitions only.
+-- A listing, on bytes and trees: which trees its lines give, in order, and when a line is refused. What a node line says is defined in
+-- `node_lines`. Definitions only.
 use Prim.Native.Nat.{ℕ, suc, _+_}
 use mathlib.Core.List.{List, [], _∷_, _++_}
 use mathlib.Core.Bool.{Bool, true, false, cond, _&&_}
-use lib.ListN.{length, getD}
+use lib.ListN.{length}
 use lib.Dec.{ltb, eqb}
-use Rattle.complex.specs.Constants.{ofParts}
 use Rattle.expression.specs.declared.refusal.Refusal.{Refusal}
-use Rattle.expression.specs.Codes.{infixOf, prefixOf, functionOf}
-use Rattle.expression.specs.Trees.{Tree, leaf, number, pi, variable, cell, functionCall, prefixed, infixed}
+use Rattle.expression.specs.Trees.{Tree}
 use Rattle.store.specs.Storing as Storing
 use Rattle.store.specs.Storing.{State, Answer, intern}
-use Rattle.text.specs.Reading.{Read, is, bad, then, tab, lf, ended, decimalField, hexField, nameField}
+use Rattle.text.specs.Reading.{Read, is, bad, then, tab, lf, ended, decimalField}
+use Rattle.node_lines.specs.NodeLines.{childField, nodeFields}
 use Rattle.text.specs.Lines as Lines
 use Rattle.text.specs.Lines.{Line, goes, stops, Whole, lines}
-
--- "name sin, cos, exp, sqrt or cis", "op + or -", "op + - * / ^": numbered from 1
-abbrev pub functionNames : List (List ℕ)
-functionNames = (115 ∷ 105 ∷ 110 ∷ []) ∷ (99 ∷ 111 ∷ 115 ∷ []) ∷ (101 ∷ 120 ∷ 112 ∷ []) ∷ (115 ∷ 113 ∷ 114 ∷ 116 ∷ []) ∷ (99 ∷ 105 ∷ 115 ∷ []) ∷ []
-
-abbrev pub prefixNames : List (List ℕ)
-prefixNames = (43 ∷ []) ∷ (45 ∷ []) ∷ []
-
-abbrev pub infixNames : List (List ℕ)
-infixNames = (43 ∷ []) ∷ (45 ∷ []) ∷ (42 ∷ []) ∷ (47 ∷ []) ∷ (94 ∷ []) ∷ []
-
--- ---- the fields of a node line, after its first byte and a tab
-
--- "children are numbers of earlier lines from 0"
-unfoldable pub childField : (stop : ℕ) → (earlier : List Tree) → List ℕ → Read Tree
-childField stop earlier bs = then (decimalField stop (length earlier) bs) λ i bs. is (getD earlier i (leaf pi)) bs
-
--- `n·re·im`
-unfoldable pub numberFields : List ℕ → Read Tree
-numberFields bs = then (hexField tab bs) λ re bs. then (hexField lf bs) λ im bs. is (leaf (number (ofParts re im))) bs
-
--- `v·number`, `m·region·index`
-unfoldable pub variableFields : List ℕ → Read Tree
-variableFields bs = then (decimalField lf 65536 bs) λ v bs. is (leaf (variable v)) bs
-
-unfoldable pub cellFields : List ℕ → Read Tree
-cellFields bs =
-    then (decimalField tab 65536 bs) λ region bs.
-    then (decimalField lf 4294967296 bs) λ index bs.
-    is (leaf (cell region index)) bs
-
--- `f·name·child`, `u·op·child`, `b·op·left·right`
-unfoldable pub functionFields : (earlier : List Tree) → List ℕ → Read Tree
-functionFields earlier bs =
-    then (nameField tab functionNames bs) λ f bs.
-    then (childField lf earlier bs) λ t bs.
-    is (functionCall (functionOf f) t) bs
-
-unfoldable pub prefixFields : (earlier : List Tree) → List ℕ → Read Tree
-prefixFields earlier bs =
-    then (nameField tab prefixNames bs) λ o bs.
-    then (childField lf earlier bs) λ t bs.
-    is (prefixed (prefixOf o) t) bs
-
-unfoldable pub infixFields : (earlier : List Tree) → List ℕ → Read Tree
-infixFields earlier bs =
-    then (nameField tab infixNames bs) λ o bs.
-    then (childField tab earlier bs) λ l bs.
-    then (childField lf earlier bs) λ r bs.
-    is (infixed (infixOf o) l r) bs
-
--- n, v, m, f, u, b
-unfoldable pub fieldsOf : (earlier : List Tree) → (first : ℕ) → List ℕ → Read Tree
-fieldsOf earlier first bs =
-    cond (eqb first 110) (numberFields bs)
-    (cond (eqb first 118) (variableFields bs)
-    (cond (eqb first 109) (cellFields bs)
-    (cond (eqb first 102) (functionFields earlier bs)
-    (cond (eqb first 117) (prefixFields earlier bs)
-    (cond (eqb first 98) (infixFields earlier bs)
-    bad)))))
-
--- a node line by its first byte; p, which is pi, is a line of its own
-unfoldable pub nodeFields : (earlier : List Tree) → (first : ℕ) → List ℕ → Read Tree
-nodeFields earlier first bs =
-    cond (eqb first 112) (ended lf (is (leaf pi) bs))
-    (then (ended tab (is first bs)) λ first bs. fieldsOf earlier first bs)
 
 -- ---- a line after the lines so far
 

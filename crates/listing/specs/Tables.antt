@@ -7,16 +7,17 @@ use lib.ListN.{length, getD, drop}
 use lib.Dec.{ltb, eqb}
 use Rattle.expression.specs.declared.refusal.Refusal.{Refusal}
 use Rattle.expression.specs.Trees.{Tree, leaf, pi}
-use Rattle.store.specs.declared.node.Expression.{Expression}
-use Rattle.store.specs.Nodes.{grown, Within}
+use Rattle.expression.specs.declared.node.Expression.{Expression}
+use Rattle.expression.specs.declared.node.Operands.{Operands}
+use Rattle.expression.specs.Nodes.{operandsOf, withOperands}
 use Rattle.store.specs.Memory.{Memory, treeAt, stateOf, room}
 use Rattle.store.specs.Storing.{fresh}
 use Rattle.store.specs.Held.{Holds}
-use Rattle.table.specs.Keys.{upTo, keyAt, Ascends}
+use Rattle.memory.specs.Layout.{tableWords, swapsFrom, placesFrom}
+use Rattle.memory.specs.Keys.{upTo, keyAt, Ascends}
 use Rattle.text.specs.Reading.{Read, is, bad}
 use Rattle.text.specs.Lines as Lines
 use Rattle.text.specs.Lines.{goes, stops}
-use Rattle.listing.specs.declared.line.Line.{Line}
 use Rattle.listing.specs.declared.Listing.{Listing}
 use Rattle.listing.specs.declared.Swap.{Swap}
 use Rattle.listing.specs.declared.Progress.{Progress}
@@ -25,44 +26,26 @@ use Rattle.listing.specs.declared.SwapLine.{SwapLine}
 use Rattle.listing.specs.Listings as Spec
 use Rattle.listing.specs.Listings.{Known, known, accepted, swap, names, nothing, swapFor, above, swapFields, swapLine, listingLine, mostLines, listing}
 
--- what stands in a table for a number, from a place on; 4096 of them do
+-- what stands in a table for a number, from a place on; half of the table is for them
 unfoldable pub entryAt : List ℕ → (from : ℕ) → ℕ → ℕ
-entryAt table from k = cond (ltb k 4096) (getD table (from + k) 0) 0
+entryAt table from k = cond (ltb k placesFrom) (getD table (from + k) 0) 0
 
 -- a node whose operands are numbers of lines, with the numbers that stand for these in a table from a place on
-unfoldable pub moved : List ℕ → ℕ → Expression → Expression
-moved table from (Expression.Number z) = Expression.Number z
-moved table from Expression.PiConstant = Expression.PiConstant
-moved table from (Expression.Variable v) = Expression.Variable v
-moved table from (Expression.Address region index) = Expression.Address region index
-moved table from (Expression.FunctionCall f a) = Expression.FunctionCall f (entryAt table from a)
-moved table from (Expression.Prefix o a) = Expression.Prefix o (entryAt table from a)
-moved table from (Expression.Infix o a b) = Expression.Infix o (entryAt table from a) (entryAt table from b)
+unfoldable pub movedTo : List ℕ → ℕ → Expression → Operands → Expression
+movedTo table from e Operands.Nothing = e
+movedTo table from e (Operands.One a) = withOperands e 0 (entryAt table from a)
+movedTo table from e (Operands.Two a b) = withOperands e (entryAt table from a) (entryAt table from b)
 
--- a line of the code, where its operands are lines with these trees
-abbrev pub lineSeen : (earlier : List Tree) (text : List ℕ) → Line → Read Tree
-lineSeen earlier text (Line.Node e next) = is (grown (λ k. getD earlier k (leaf pi)) e) (drop next text)
-lineSeen earlier text Line.Bad = bad
+abbrev pub moved : List ℕ → ℕ → Expression → Expression
+moved table from e = movedTo table from e (operandsOf e)
 
-abbrev pub LineWithin : ℕ → Line → Type 0
-LineWithin n (Line.Node e next) = Within n e
-LineWithin n Line.Bad = Unit {0}
-
--- a function that reads a node line after `lines` others: it finds what the definition says, and only earlier lines as operands
-pub record Finds (want : List Tree → Read Tree) (text : List ℕ) (lines : ℕ) (r : Line) : Type 0 where
-  pub seen : (earlier : List Tree) → length earlier ≡ lines → lineSeen earlier text r ≡ want earlier
-  pub within : LineWithin lines r
-
-abbrev pub FindsLeaf : (want : Read Tree) (text : List ℕ) (r : Line) → Type 0
-FindsLeaf want text r = (lines : ℕ) → Finds (λ earlier. want) text lines r
-
--- ---- the table: word i is the node of node line i; the s lines stand from 1024 on, two words each
+-- ---- the table: word i is the node of node line i; the s lines stand from `swapsFrom` on, two words each
 
 abbrev pub lineTrees : (m : Memory) (table : List ℕ) → ℕ → List Tree
 lineTrees m table i = upTo i (λ k. treeAt m (getD table k 0))
 
 abbrev pub swapTrees : (m : Memory) (table : List ℕ) → ℕ → List Spec.Swap
-swapTrees m table j = upTo j (λ k. swap (getD table (1024 + 2 * k) 0) (treeAt m (getD table (1025 + 2 * k) 0)))
+swapTrees m table j = upTo j (λ k. swap (getD table (swapsFrom + 2 * k) 0) (treeAt m (getD table (swapsFrom + 2 * k + 1) 0)))
 
 -- what is known after some lines
 abbrev pub knownAt : (m : Memory) (table : List ℕ) → Progress → Known
@@ -72,8 +55,8 @@ knownAt m table p = known (lineTrees m table (p .lines)) (swapTrees m table (p .
 pub record Lists (m : Memory) (table : List ℕ) (n lines swaps : ℕ) : Type 0 where
   pub holds : Holds m n
   pub nodes : (k : ℕ) → k < lines → getD table k 0 < n
-  pub named : (k : ℕ) → k < swaps → getD table (1025 + 2 * k) 0 < n
-  pub ascends : Ascends (keyAt table 1024 2) swaps
+  pub named : (k : ℕ) → k < swaps → getD table (swapsFrom + 2 * k + 1) 0 < n
+  pub ascends : Ascends (keyAt table swapsFrom 2) swaps
 
 -- ---- one line
 
@@ -82,7 +65,7 @@ pub record Ready (text table : List ℕ) (p : Progress) : Type 0 where
   pub inside : p .at < length text
   pub lines : p .lines ≤ 1024
   pub swaps : p .swaps ≤ 256
-  pub long : 8192 ≤ length table
+  pub long : tableWords ≤ length table
 
 -- what a step of the code says, as one on trees
 abbrev pub stepSeen : (text : List ℕ) (m : Memory) (table : List ℕ) → Step → Lines.Line Known Refusal

@@ -1,30 +1,37 @@
-// Listings: read line by line into a store, and written from it.
+// A listing, read line by line into a store.
 ghost use mathlib.Core.Path.{_≡_};
 ghost use Prim.Native.Nat.{_≤_, _<_};
 ghost use lib.ListN.{length};
+ghost use Rattle.memory.specs.Layout.{tableWords, placesFrom};
 ghost use Rattle.store.specs.Memory.{memory};
 ghost use Rattle.store.specs.Held.{Holds};
 ghost use Rattle.listing.specs.Listings.{nodeLine, listingLine};
 ghost use Rattle.listing.specs.Tables.{entryAt, moved, Reads, FindsSwap, Above, Ready, TakesSwap, TakesLine, ReadsLines, rootOf, LooksUp};
+use expression::node::Expression;
+use expression::node::Operands;
+use expression::node::operands_of;
+use expression::node::with_operands;
 use expression::refusal::Refusal;
-use line::LF;
-use line::Line;
-use line::TAB;
-use line::read_node;
+use memory::halving::search;
+use memory::layout::PLACES_FROM;
+use memory::layout::SWAPS_FROM;
+use memory::put;
+use memory::read;
+use node_lines::LF;
+use node_lines::Line;
+use node_lines::TAB;
+use node_lines::read_node;
 use store::Added;
 use store::add;
-use store::memory::put;
-use store::memory::read;
-use store::node::Expression;
 use store::start;
-use table::search;
 use text::reading::Number;
 use text::reading::byte_at;
 use text::reading::decimal_field;
 
-pub mod line;
-mod order;
-pub mod writing;
+// 01's counts.
+const MOST_NODE_LINES: usize = 1024;
+
+const MOST_SWAPS: usize = 256;
 
 // What reading a listing answers: the node of the root, how many nodes the store has, how many s lines the table.
 pub enum Listing {
@@ -42,12 +49,12 @@ pub enum Swap {
     Nothing,
 }
 
-// What stands in the table for a number, from a place on; 4096 of them do.
-fn entry_at(table: &[u64], from: usize, k: usize) -> usize
-    requires { ⌜ from ≤ 4096 ⌝ }
+// What stands in the table for a number, from a place on; half of the table is for them.
+pub fn entry_at(table: &[u64], from: usize, k: usize) -> usize
+    requires { ⌜ from ≤ placesFrom ⌝ }
     ensures { λ r. ⌜ r ≡ entryAt (now (table .entry)) from k ⌝ }
 {
-    if k < 4096 {
+    if k < PLACES_FROM {
         read(table, from + k) as usize
     } else {
         0
@@ -55,24 +62,17 @@ fn entry_at(table: &[u64], from: usize, k: usize) -> usize
 }
 
 // A node with other numbers for its operands: the node of a line, or the line of a node.
-fn moved_by(table: &[u64], from: usize, e: Expression) -> Expression
-    requires { ⌜ from ≤ 4096 ⌝ }
+pub fn moved_by(table: &[u64], from: usize, e: Expression) -> Expression
+    requires { ⌜ from ≤ placesFrom ⌝ }
     ensures { λ r. ⌜ r ≡ moved (now (table .entry)) from e ⌝ }
 {
-    match e {
-        Expression::FunctionCall(f, child) => {
-            Expression::FunctionCall(f, entry_at(table, from, child))
+    let operands = operands_of(e);
+    match operands {
+        Operands::Nothing => e,
+        Operands::One(a) => with_operands(e, 0, entry_at(table, from, a)),
+        Operands::Two(a, b) => {
+            with_operands(e, entry_at(table, from, a), entry_at(table, from, b))
         }
-        Expression::Prefix(o, child) => Expression::Prefix(o, entry_at(table, from, child)),
-        Expression::Infix(o, left, right) => Expression::Infix(
-            o,
-            entry_at(table, from, left),
-            entry_at(table, from, right),
-        ),
-        Expression::Number(z) => Expression::Number(z),
-        Expression::PiConstant => Expression::PiConstant,
-        Expression::Variable(number) => Expression::Variable(number),
-        Expression::Address(region, index) => Expression::Address(region, index),
     }
 }
 
@@ -123,7 +123,7 @@ fn take_swap(s: &[u8], substituting: bool, table: &mut [u64], p: Progress) -> St
     let lines = p.lines;
     let swaps = p.swaps;
     let here = (lines + swaps) as u64;
-    if 256 <= swaps {
+    if MOST_SWAPS <= swaps {
         return Step::Refused(Refusal::LongList(here));
     }
     let found = read_swap(s, at, lines);
@@ -137,8 +137,8 @@ fn take_swap(s: &[u8], substituting: bool, table: &mut [u64], p: Progress) -> St
         return Step::Refused(Refusal::BadList(here));
     }
     let node = read(table, line);
-    put(table, 1024 + 2 * swaps, variable);
-    put(table, 1025 + 2 * swaps, node);
+    put(table, SWAPS_FROM + 2 * swaps, variable);
+    put(table, SWAPS_FROM + 2 * swaps + 1, node);
     Step::Next(Progress {
         at: next,
         lines,
@@ -155,7 +155,7 @@ fn is_above(table: &[u64], swaps: usize, variable: u64) -> bool
     if swaps == 0 {
         return true;
     }
-    read(table, 1022 + 2 * swaps) < variable
+    read(table, SWAPS_FROM + 2 * (swaps - 1)) < variable
 }
 
 // A node line: 2, then 1, then 6, 7, 8 as the node is stored.
@@ -175,7 +175,7 @@ fn take_node(
     let lines = p.lines;
     let swaps = p.swaps;
     let here = (lines + swaps) as u64;
-    if 1024 <= lines {
+    if MOST_NODE_LINES <= lines {
         return Step::Refused(Refusal::LongList(here));
     }
     if 0 < swaps {
@@ -235,7 +235,7 @@ fn read_lines(
     link: &mut [u64],
     table: &mut [u64],
 ) -> Step
-    requires { ⌜ 8192 ≤ length (now table) ⌝ }
+    requires { ⌜ tableWords ≤ length (now table) ⌝ }
     requires { ⌜ Holds (memory (now tag) (now first) (now second) (now link)) 0 ⌝ }
     ensures { λ r. ⌜ ReadsLines substituting (now (s .entry)) r (memory (now (tag .entry)) (now (first .entry)) (now (second .entry)) (now (link .entry))) (memory (now (tag .exit)) (now (first .exit)) (now (second .exit)) (now (link .exit))) (now (table .exit)) ⌝ }
 {
@@ -267,7 +267,7 @@ pub fn read_listing(
     link: &mut [u64],
     table: &mut [u64],
 ) -> Listing
-    requires { ⌜ 8192 ≤ length (now table) ⌝ }
+    requires { ⌜ tableWords ≤ length (now table) ⌝ }
     ensures { λ r. ⌜ Reads substituting (now (text .entry)) r (memory (now (tag .entry)) (now (first .entry)) (now (second .entry)) (now (link .entry))) (memory (now (tag .exit)) (now (first .exit)) (now (second .exit)) (now (link .exit))) (now (table .exit)) ⌝ }
 {
     start(link);
@@ -297,9 +297,9 @@ fn root_of(table: &[u64], p: Progress) -> Listing
 pub fn swap_of(table: &[u64], swaps: usize, variable: u16) -> Swap
     ensures { λ r. ⌜ LooksUp (now (table .entry)) swaps variable r ⌝ }
 {
-    let j = search(table, 1024, 2, swaps, variable as u64);
+    let j = search(table, SWAPS_FROM, 2, swaps, variable as u64);
     if swaps <= j {
         return Swap::Nothing;
     }
-    Swap::Node(read(table, 1025 + 2 * j) as usize)
+    Swap::Node(read(table, SWAPS_FROM + 2 * j + 1) as usize)
 }

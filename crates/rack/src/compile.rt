@@ -1,7 +1,7 @@
 // The command `compile`: the tape of the listing's expression, a line a step.
 use super::say;
 use console::input::part;
-use listing::writing::Written;
+use writing::Written;
 
 // As many bytes as the longest tape has.
 const ROOM: usize = 12_288;

@@ -72,6 +72,16 @@ fn bad_tape(step: u64) {
     words(b".\n");
 }
 
+fn bad_names(line: u64) {
+    words_at(b"The name sheet's line", line);
+    words(b" is malformed, repeats a name or a number, or is not ended by a line feed.\n");
+}
+
+fn unknown_name(line: u64) {
+    words_at(b"Line", line);
+    words(b" has a name without a number in the name sheet, or a number without a name.\n");
+}
+
 pub fn refusal(why: Refusal) {
     match why {
         Refusal::BadList(line) => bad_list(line),
@@ -99,6 +109,13 @@ pub fn refusal(why: Refusal) {
             b"The expression is too long for a tape: its size is above 512.\n",
         ),
         Refusal::BadTape(step) => bad_tape(step),
+        Refusal::BadNames(line) => bad_names(line),
+        Refusal::UnknownName(line) => unknown_name(line),
+        Refusal::BadBook => words(b"There is no such rule book.\n"),
+        Refusal::Many(_) => words(b"There are more than 4096 listings.\n"),
+        Refusal::NoText => words(
+            b"A number is not written as Quil text: it is NaN, infinite, below 1e-4 or not below 1e15.\n",
+        ),
     }
 }
 

@@ -1,6 +1,7 @@
 // The command `show`: the steps of a sound tape in words, a line a step: its number from 0, what it is, and its operands.
 use super::say;
 use super::say::word;
+use console::line::print_function;
 use console::line::print_parts;
 use console::tape::ROOM;
 use console::tape::read_tape;
@@ -9,6 +10,8 @@ use expression::InfixOperator;
 use expression::PrefixOperator;
 use expression::refusal::Refusal;
 use libc::STDOUT_FILENO;
+use spelling::infix_byte;
+use spelling::prefix_byte;
 use steps::Step;
 use steps::bytes::fields_at;
 use steps::step_of;
@@ -30,30 +33,25 @@ fn memory(region: u64, index: u64) {
 }
 
 fn function(f: ExpressionFunction) {
-    match f {
-        ExpressionFunction::Sine => word(b"function\tsin\n"),
-        ExpressionFunction::Cosine => word(b"function\tcos\n"),
-        ExpressionFunction::Exponent => word(b"function\texp\n"),
-        ExpressionFunction::SquareRoot => word(b"function\tsqrt\n"),
-        ExpressionFunction::Cis => word(b"function\tcis\n"),
-    }
+    word(b"function\t");
+    print_function(STDOUT_FILENO, f);
+    word(b"\n");
+}
+
+// A byte, and the end of the line.
+fn sign(byte: u8) {
+    let line = [byte, b'\n'];
+    word(&line);
 }
 
 fn prefix(o: PrefixOperator) {
-    match o {
-        PrefixOperator::Plus => word(b"prefix\t+\n"),
-        PrefixOperator::Minus => word(b"prefix\t-\n"),
-    }
+    word(b"prefix\t");
+    sign(prefix_byte(o));
 }
 
 fn infix(o: InfixOperator) {
-    match o {
-        InfixOperator::Plus => word(b"infix\t+\n"),
-        InfixOperator::Minus => word(b"infix\t-\n"),
-        InfixOperator::Star => word(b"infix\t*\n"),
-        InfixOperator::Slash => word(b"infix\t/\n"),
-        InfixOperator::Caret => word(b"infix\t^\n"),
-    }
+    word(b"infix\t");
+    sign(infix_byte(o));
 }
 
 fn print_step(step: Step) {

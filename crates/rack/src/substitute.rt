@@ -1,6 +1,6 @@
 // The command `substitute`: the listing of the expression with the nodes of the s lines in the places of their variables.
 use super::say;
-use listing::writing::Written;
+use writing::Written;
 
 pub fn run(
     text: &[u8],

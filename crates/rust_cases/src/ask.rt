@@ -1,6 +1,5 @@
 // The port is asked, and everything that is stored of the Rust's answer is compared with what it gives.
 use calls::Simplified;
-use listing::writing::Written;
 use replay::answer::Answer;
 use replay::answer::of_real;
 use replay::answer::of_refusal;
@@ -10,6 +9,7 @@ use replay::memory::BLANK;
 use replay::memory::is_written;
 use replay::say::is_right;
 use replay::slices::part_of_bytes;
+use writing::Written;
 
 // Whether an answer is the Rust's, a value's zeros of either sign as one.
 pub fn is_value(line: Line, got: Answer) -> bool {

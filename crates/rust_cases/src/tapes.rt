@@ -3,7 +3,6 @@
 use super::ask::is_value;
 use super::outcome::Outcome;
 use expression::refusal::Refusal;
-use listing::writing::Written;
 use replay::answer::Answer;
 use replay::answer::of_evaluated;
 use replay::answer::of_refusal;
@@ -15,6 +14,7 @@ use replay::say::is_right;
 use replay::slices::fill;
 use replay::slices::is_zero;
 use replay::slices::part_of_bytes;
+use writing::Written;
 
 pub fn run(
     line: Line,

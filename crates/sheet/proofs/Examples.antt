@@ -15,7 +15,8 @@ use Rattle.expression.specs.declared.refusal.Operation.{Operation}
 use Rattle.expression.specs.declared.refusal.Refusal.{Refusal}
 use Rattle.text.specs.Reading.{is, bad, then, ended, digitOf, run, value, spelt, decimal, hexFrom, hex, starts, nameFrom}
 use Rattle.text.specs.Lines.{goes, stops, read, refused, afterLine, atLine, lines}
-use Rattle.sheet.specs.Rows.{Variable, variable, Cell, cell, Row, row, Rows, rows, complexField, variableFields, cellFields, operationOf, secondOperand, rowFields, aboveVariables, abovePair, aboveCells, none, lineNumber, formed, counted, fieldsAfter, variableLine, cellLine, functionLine, sheetLine, sheet, found, missing, valueOf, cellValue, operationNumber, sameBits, functionValue}
+use Rattle.sheet.specs.Rows.{Variable, variable, Cell, cell, Row, row, Rows, rows, complexField, variableFields, cellFields, secondOperand, rowFields, aboveVariables, abovePair, aboveCells, none, lineNumber, formed, counted, fieldsAfter, variableLine, cellLine, functionLine, sheetLine, sheet, found, missing, valueOf, cellValue, sameBits, functionValue}
+use Rattle.expression.specs.Codes.{ofFive, operationCode}
 use Rattle.sheet.proofs.Taking.{too-many, taken}
 
 -- sixteen digits before other bytes: 0, 1, -0, and the bits of a NaN that is not the canonical one
@@ -90,7 +91,7 @@ unfolding after-v after-m sheetLine cellLine counted formed none aboveCells cell
 m-line rest = refl
 
 t-line : (rest : List ℕ) → sheetLine after-m 116 (sine zeros rest) ≡ goes after-t rest
-unfolding after-m after-t sheetLine functionLine counted formed rowFields complexField secondOperand operationOf then ended hex hexFrom digitOf nameFrom starts
+unfolding after-m after-t sheetLine functionLine counted formed rowFields complexField secondOperand ofFive then ended hex hexFrom digitOf nameFrom starts
 t-line rest = refl
 
 each-kind : sheet (118 ∷ variable7 (109 ∷ cell12 (116 ∷ sine zeros []))) ≡ read after-t
@@ -187,7 +188,7 @@ called = (refl, refl)
 first-counts : (o : Operation) (x y a b : Complex) → functionValue o x y (row o x y a ∷ row o x y b ∷ []) ≡ found a
 unfolding functionValue sameBits
 first-counts o x y a b =
-    rw (eq-eqb (operationNumber o) (operationNumber o) refl, eq-eqb (bitsOf (x .re)) (bitsOf (x .re)) refl, eq-eqb (bitsOf (x .im)) (bitsOf (x .im)) refl, eq-eqb (bitsOf (y .re)) (bitsOf (y .re)) refl, eq-eqb (bitsOf (y .im)) (bitsOf (y .im)) refl)
+    rw (eq-eqb (operationCode o) (operationCode o) refl, eq-eqb (bitsOf (x .re)) (bitsOf (x .re)) refl, eq-eqb (bitsOf (x .im)) (bitsOf (x .im)) refl, eq-eqb (bitsOf (y .re)) (bitsOf (y .re)) refl, eq-eqb (bitsOf (y .im)) (bitsOf (y .im)) refl)
 
 -- by bits: 0 is not -0, and every NaN is one
 by-bits : (sameBits the0 (ofParts 0x8000_0000_0000_0000 0) ≡ false) × (sameBits (ofParts 0xFFF8_0000_0000_0001 0) (ofParts 0x7FF0_0000_0000_0001 0) ≡ true)

@@ -12,10 +12,13 @@ use Rattle.complex.specs.declared.Complex.{Complex}
 use Rattle.complex.specs.Bits.{bitsOf, doubleOf}
 use Rattle.complex.proofs.Doubles.{bits-back}
 use Rattle.expression.specs.declared.refusal.Operation.{Operation}
-use Rattle.table.specs.Keys.{upTo, keyAt, First, holds}
-use Rattle.table.proofs.Values.{first, first-found, first-missing}
-use Rattle.sheet.specs.declared.Rows.{Rows as Counts}
-use Rattle.sheet.specs.Rows.{Variable, variable, Cell, cell, Row, row, Lookup, found, missing, valueOf, cellValue, functionValue, sameBits, operationNumber, operationOf}
+use Rattle.memory.specs.Keys.{upTo, keyAt, First, holds}
+use Rattle.memory.proofs.Values.{first, first-found, first-missing}
+use Rattle.memory.specs.Layout.{cellsFrom, functionsFrom}
+use Rattle.sheet.specs.declared.Counts.{Counts}
+use Rattle.sheet.specs.Rows.{Variable, variable, Cell, cell, Row, row, Lookup, found, missing, valueOf, cellValue, functionValue, sameBits}
+use Rattle.expression.specs.Codes.{operationCode, operationOf}
+use Rattle.expression.proofs.Numbering.{operation-code-back}
 use Rattle.sheet.specs.Table.{numberAt, variableAt, cellAt, rowAt, Comparable, Held, wordsOf, rowMatches}
 use Rattle.sheet.proofs.Ordering.{plain-key}
 
@@ -44,7 +47,7 @@ cells-first region index [] = refl
 cells-first region index (cell region′ index′ real ∷ cs) = rw (cells-first region index cs)
 
 called : Operation → (x y : Complex) → Row → Bool
-called o x y (row o′ x′ y′ value) = eqb (operationNumber o) (operationNumber o′) && (sameBits x x′ && sameBits y y′)
+called o x y (row o′ x′ y′ value) = eqb (operationCode o) (operationCode o′) && (sameBits x x′ && sameBits y y′)
 
 result-of : Row → Lookup
 result-of (row o x y value) = found value
@@ -66,24 +69,17 @@ pair-key region index w h = elim (ℕ-discrete region (w / 4294967296)) [
   | no e ↦ rw (ne-eqb region (w / 4294967296) e) (ne-eqb (region * 4294967296 + index) w λ q. e (omega arith))
 ]
 
-number-back : (w : ℕ) → 0 < w → w < 6 → operationNumber (operationOf w) ≡ w
-unfolding operationOf
-number-back zero p l = absurd (omega arith)
-number-back (suc zero) p l = refl
-number-back (suc (suc zero)) p l = refl
-number-back (suc (suc (suc zero))) p l = refl
-number-back (suc (suc (suc (suc zero)))) p l = refl
-number-back (suc (suc (suc (suc (suc zero))))) p l = refl
-number-back (suc (suc (suc (suc (suc (suc k)))))) p l = absurd (omega arith)
+number-back : (w : ℕ) → 0 < w → w < 6 → operationCode (operationOf w) ≡ w
+number-back w p q = operation-code-back w (record { least = omega (arith, p); most = omega (arith, q) })
 
-row-test : (t : List ℕ) (o : Operation) (x y : Complex) (j : ℕ) → Comparable t j → rowMatches t (operationNumber o) (wordsOf x) (wordsOf y) j ≡ called o x y (rowAt t j)
+row-test : (t : List ℕ) (o : Operation) (x y : Complex) (j : ℕ) → Comparable t j → rowMatches t (operationCode o) (wordsOf x) (wordsOf y) j ≡ called o x y (rowAt t j)
 unfolding called sameBits
 row-test t o x y j c =
-    let xr : bitsOf (doubleOf (getD t (7 * j + 2816 + 1) 0)) ≡ getD t (7 * j + 2816 + 1) 0 = bits-back _ (c .operands (7 * j + 2816 + 1) (omega arith) (omega arith)) in
-    let xi : bitsOf (doubleOf (getD t (7 * j + 2816 + 1 + 1) 0)) ≡ getD t (7 * j + 2816 + 1 + 1) 0 = bits-back _ (c .operands (7 * j + 2816 + 1 + 1) (omega arith) (omega arith)) in
-    let yr : bitsOf (doubleOf (getD t (7 * j + 2816 + 3) 0)) ≡ getD t (7 * j + 2816 + 3) 0 = bits-back _ (c .operands (7 * j + 2816 + 3) (omega arith) (omega arith)) in
-    let yi : bitsOf (doubleOf (getD t (7 * j + 2816 + 3 + 1) 0)) ≡ getD t (7 * j + 2816 + 3 + 1) 0 = bits-back _ (c .operands (7 * j + 2816 + 3 + 1) (omega arith) (omega arith)) in
-    rw (number-back (getD t (7 * j + 2816) 0) (c .named .0) (c .named .1), xr, xi, yr, yi)
+    let xr : bitsOf (doubleOf (getD t (7 * j + functionsFrom + 1) 0)) ≡ getD t (7 * j + functionsFrom + 1) 0 = bits-back _ (c .operands (7 * j + functionsFrom + 1) (omega arith) (omega arith)) in
+    let xi : bitsOf (doubleOf (getD t (7 * j + functionsFrom + 1 + 1) 0)) ≡ getD t (7 * j + functionsFrom + 1 + 1) 0 = bits-back _ (c .operands (7 * j + functionsFrom + 1 + 1) (omega arith) (omega arith)) in
+    let yr : bitsOf (doubleOf (getD t (7 * j + functionsFrom + 3) 0)) ≡ getD t (7 * j + functionsFrom + 3) 0 = bits-back _ (c .operands (7 * j + functionsFrom + 3) (omega arith) (omega arith)) in
+    let yi : bitsOf (doubleOf (getD t (7 * j + functionsFrom + 3 + 1) 0)) ≡ getD t (7 * j + functionsFrom + 3 + 1) 0 = bits-back _ (c .operands (7 * j + functionsFrom + 3 + 1) (omega arith) (omega arith)) in
+    rw (number-back (getD t (7 * j + functionsFrom) 0) (c .named .0) (c .named .1), xr, xi, yr, yi)
 
 -- ---- what a search found
 
@@ -97,21 +93,21 @@ module _ (t : List ℕ) (n : Counts) (h : Held t n) (r : ℕ) where
     unfolding named
     variable-missing l = first-missing (named k) valued missing (n .variables) (variableAt t) (λ j m. ap (eqb k) (sym (plain-key t j)) ∙ s .before j (omega arith)) ∙ values-first k _
 
-  module _ (region index : ℕ) (small : index < 4294967296) (s : First (holds (keyAt t 768 2) (region * 4294967296 + index)) (n .cells) r) where
-    pub cell-found : r < n .cells → found (record { re = doubleOf (getD t (2 * r + 768 + 1) 0); im = doubleOf 0 }) ≡ cellValue region index (upTo (n .cells) (cellAt t))
+  module _ (region index : ℕ) (small : index < 4294967296) (s : First (holds (keyAt t cellsFrom 2) (region * 4294967296 + index)) (n .cells) r) where
+    pub cell-found : r < n .cells → found (record { re = doubleOf (getD t (2 * r + cellsFrom + 1) 0); im = doubleOf 0 }) ≡ cellValue region index (upTo (n .cells) (cellAt t))
     unfolding placed real-of
     cell-found l =
-        first-found (placed region index) real-of missing (n .cells) (cellAt t) r l (sym (pair-key region index (getD t (2 * r + 768) 0) small) ∙ s .hit l)
-        (λ j m. sym (pair-key region index (getD t (2 * j + 768) 0) small) ∙ s .before j m) ∙ cells-first region index _
+        first-found (placed region index) real-of missing (n .cells) (cellAt t) r l (sym (pair-key region index (getD t (2 * r + cellsFrom) 0) small) ∙ s .hit l)
+        (λ j m. sym (pair-key region index (getD t (2 * j + cellsFrom) 0) small) ∙ s .before j m) ∙ cells-first region index _
 
     pub cell-missing : n .cells ≤ r → missing ≡ cellValue region index (upTo (n .cells) (cellAt t))
     unfolding placed
     cell-missing l =
-        first-missing (placed region index) real-of missing (n .cells) (cellAt t) (λ j m. sym (pair-key region index (getD t (2 * j + 768) 0) small) ∙ s .before j (omega arith))
+        first-missing (placed region index) real-of missing (n .cells) (cellAt t) (λ j m. sym (pair-key region index (getD t (2 * j + cellsFrom) 0) small) ∙ s .before j (omega arith))
         ∙ cells-first region index _
 
-  module _ (o : Operation) (x y : Complex) (s : First (rowMatches t (operationNumber o) (wordsOf x) (wordsOf y)) (n .functions) r) where
-    pub row-found : r < n .functions → found (numberAt t (7 * r + 2816 + 5)) ≡ functionValue o x y (upTo (n .functions) (rowAt t))
+  module _ (o : Operation) (x y : Complex) (s : First (rowMatches t (operationCode o) (wordsOf x) (wordsOf y)) (n .functions) r) where
+    pub row-found : r < n .functions → found (numberAt t (7 * r + functionsFrom + 5)) ≡ functionValue o x y (upTo (n .functions) (rowAt t))
     unfolding result-of
     row-found l =
         first-found (called o x y) result-of missing (n .functions) (rowAt t) r l (sym (row-test t o x y r (h .operands r l)) ∙ s .hit l)

@@ -7,7 +7,7 @@ use Rattle.complex.specs.declared.Complex.{Complex}
 use Rattle.expression.specs.declared.refusal.Refusal.{Refusal}
 use Rattle.text.specs.Lines as Lines
 use Rattle.text.specs.Lines.{Whole}
-use Rattle.table.proofs.Values.{length-upTo}
+use Rattle.memory.proofs.Values.{length-upTo}
 use Rattle.sheet.specs.declared.Sheet.{Sheet}
 use Rattle.sheet.specs.declared.Found.{Found}
 use Rattle.sheet.specs.Rows.{Rows, Lookup, found, missing, sheet}

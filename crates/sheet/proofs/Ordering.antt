@@ -11,9 +11,10 @@ use lib.Dec.{ltb, eqb}
 use lib.Ieee.{Float}
 use borrow.Author.Tests.{lt-ltb, le-ltb, eq-eqb, ne-eqb, ltb-true}
 use Rattle.complex.specs.declared.Complex.{Complex}
-use Rattle.table.specs.Keys.{upTo, keyAt, Ascends}
-use Rattle.table.proofs.Ascending.{ascends-same}
-use Rattle.sheet.specs.declared.Rows.{Rows as Counts}
+use Rattle.memory.specs.Keys.{upTo, keyAt, Ascends}
+use Rattle.memory.proofs.Ascending.{ascends-same}
+use Rattle.memory.specs.Layout.{cellsFrom}
+use Rattle.sheet.specs.declared.Counts.{Counts}
 use Rattle.sheet.specs.Rows.{variable, cell, aboveVariables, abovePair, aboveCells, none}
 use Rattle.sheet.specs.Table.{numberKey, pairKey, above, variableMay, cellMay}
 
@@ -91,5 +92,5 @@ module _ (t : List ℕ) (n : Counts) (k : ℕ) where
   unfolding above
   first-cell f e = sym (rw (eq-eqb (n .functions) 0 (omega arith), e))
 
-  pub next-cell : n .functions ≤ 0 → (n .cells ≡ 0 → ⊥) → ltb (getD t (2 * (n .cells - 1) + 768) 0) k ≡ cellMay t n k
+  pub next-cell : n .functions ≤ 0 → (n .cells ≡ 0 → ⊥) → ltb (getD t (2 * (n .cells - 1) + cellsFrom) 0) k ≡ cellMay t n k
   next-cell f e = rw (eq-eqb (n .functions) 0 (omega arith)) (above-next (pairKey t) (n .cells) k e)

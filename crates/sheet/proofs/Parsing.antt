@@ -9,7 +9,7 @@ use lib.ListN.{length, drop, length-drop}
 use borrow.Author.Tests.{eq-eqb, ne-eqb}
 use Rattle.text.specs.Reading.{is, decimal, decimalField, nameField, nameFrom, starts}
 use Rattle.text.proofs.Only.{decimal-only, ended-only, name-only}
-use Rattle.sheet.specs.Rows.{operationNames}
+use Rattle.spelling.specs.Names.{operationNames}
 
 differ : {A : Type 0} → false ≡ true → A
 differ e = let z : _≡_ {A = ℕ} 0 1 = cc in absurd (omega arith)

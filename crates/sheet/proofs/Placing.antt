@@ -10,9 +10,11 @@ use lib.Ieee.{binary64}
 use lib.Ieee.Bits.{ofBits-fits}
 use Rattle.complex.specs.Bits.{bitsOf, doubleOf, Canonical}
 use Rattle.complex.proofs.Doubles.{double-back, read-canonical}
+use Rattle.memory.specs.Layout.{cellsFrom, functionsFrom}
 use Rattle.sheet.specs.declared.fields.Words.{Words}
 use Rattle.sheet.specs.Seen.{numberOf}
-use Rattle.sheet.specs.Rows.{variable, cell, row, operationOf}
+use Rattle.sheet.specs.Rows.{variable, cell, row}
+use Rattle.expression.specs.Codes.{operationOf}
 use Rattle.sheet.specs.Table.{numberAt, variableAt, cellAt, rowAt, Comparable, withNumber, withVariable, withCell, withRow}
 
 -- from t to t′ only the words from `low` to below `high` may differ
@@ -67,29 +69,29 @@ module _ {t t′ : List ℕ} {low high : ℕ} (o : Outside t t′ low high) wher
   pub same-variable : (j : ℕ) → 3 * j + 2 < low → variableAt t′ j ≡ variableAt t j
   same-variable j l = rw (o .below (3 * j) (omega arith), same-number (3 * j + 1) (omega arith))
 
-  pub same-cell : (j : ℕ) → 2 * j + 768 + 1 < low → cellAt t′ j ≡ cellAt t j
-  same-cell j l = rw (o .below (2 * j + 768) (omega arith), o .below (2 * j + 768 + 1) (omega arith))
+  pub same-cell : (j : ℕ) → 2 * j + cellsFrom + 1 < low → cellAt t′ j ≡ cellAt t j
+  same-cell j l = rw (o .below (2 * j + cellsFrom) (omega arith), o .below (2 * j + cellsFrom + 1) (omega arith))
 
-  pub same-cell-beyond : (j : ℕ) → high ≤ 2 * j + 768 → cellAt t′ j ≡ cellAt t j
-  same-cell-beyond j l = rw (o .beyond (2 * j + 768) (omega arith), o .beyond (2 * j + 768 + 1) (omega arith))
+  pub same-cell-beyond : (j : ℕ) → high ≤ 2 * j + cellsFrom → cellAt t′ j ≡ cellAt t j
+  same-cell-beyond j l = rw (o .beyond (2 * j + cellsFrom) (omega arith), o .beyond (2 * j + cellsFrom + 1) (omega arith))
 
-  pub same-row : (j : ℕ) → 7 * j + 2816 + 6 < low → rowAt t′ j ≡ rowAt t j
+  pub same-row : (j : ℕ) → 7 * j + functionsFrom + 6 < low → rowAt t′ j ≡ rowAt t j
   same-row j l =
-      rw (o .below (7 * j + 2816) (omega arith), same-number (7 * j + 2816 + 1) (omega arith), same-number (7 * j + 2816 + 3) (omega arith), same-number (7 * j + 2816 + 5) (omega arith))
+      rw (o .below (7 * j + functionsFrom) (omega arith), same-number (7 * j + functionsFrom + 1) (omega arith), same-number (7 * j + functionsFrom + 3) (omega arith), same-number (7 * j + functionsFrom + 5) (omega arith))
 
-  pub same-row-beyond : (j : ℕ) → high ≤ 7 * j + 2816 → rowAt t′ j ≡ rowAt t j
+  pub same-row-beyond : (j : ℕ) → high ≤ 7 * j + functionsFrom → rowAt t′ j ≡ rowAt t j
   same-row-beyond j l =
-      rw (o .beyond (7 * j + 2816) (omega arith), same-number-beyond (7 * j + 2816 + 1) (omega arith), same-number-beyond (7 * j + 2816 + 3) (omega arith), same-number-beyond (7 * j + 2816 + 5) (omega arith))
+      rw (o .beyond (7 * j + functionsFrom) (omega arith), same-number-beyond (7 * j + functionsFrom + 1) (omega arith), same-number-beyond (7 * j + functionsFrom + 3) (omega arith), same-number-beyond (7 * j + functionsFrom + 5) (omega arith))
 
-  pub same-comparable : (j : ℕ) → 7 * j + 2816 + 6 < low → Comparable t j → Comparable t′ j
+  pub same-comparable : (j : ℕ) → 7 * j + functionsFrom + 6 < low → Comparable t j → Comparable t′ j
   same-comparable j l c = record {
-    named = rw (o .below (7 * j + 2816) (omega arith)) (c .named);
+    named = rw (o .below (7 * j + functionsFrom) (omega arith)) (c .named);
     operands = λ i m k. rw (o .below i (omega arith)) (c .operands i m k);
   }
 
-  pub same-comparable-beyond : (j : ℕ) → high ≤ 7 * j + 2816 → Comparable t j → Comparable t′ j
+  pub same-comparable-beyond : (j : ℕ) → high ≤ 7 * j + functionsFrom → Comparable t j → Comparable t′ j
   same-comparable-beyond j l c = record {
-    named = rw (o .beyond (7 * j + 2816) (omega arith)) (c .named);
+    named = rw (o .beyond (7 * j + functionsFrom) (omega arith)) (c .named);
     operands = λ i m k. rw (o .beyond i (omega arith)) (c .operands i m k);
   }
 
@@ -115,18 +117,18 @@ module _ (t : List ℕ) (n k : ℕ) (w : Words) where
 -- ---- a cell more
 
 module _ (t : List ℕ) (n k real : ℕ) where
-  pub cell-outside : Outside t (withCell t n k real) (2 * n + 768) (2 * n + 768 + 2)
+  pub cell-outside : Outside t (withCell t n k real) (2 * n + cellsFrom) (2 * n + cellsFrom + 2)
   unfolding withCell
-  cell-outside = then-outside (set-outside t (2 * n + 768) k _ _ (omega arith) (omega arith)) (set-outside _ (2 * n + 768 + 1) _ (2 * n + 768) (2 * n + 768 + 2) (omega arith) (omega arith))
+  cell-outside = then-outside (set-outside t (2 * n + cellsFrom) k _ _ (omega arith) (omega arith)) (set-outside _ (2 * n + cellsFrom + 1) _ (2 * n + cellsFrom) (2 * n + cellsFrom + 2) (omega arith) (omega arith))
 
-  module _ (h : 2 * n + 768 + 1 < length t) where
-    pub cell-key : getD (withCell t n k real) (2 * n + 768) 0 ≡ k
+  module _ (h : 2 * n + cellsFrom + 1 < length t) where
+    pub cell-key : getD (withCell t n k real) (2 * n + cellsFrom) 0 ≡ k
     unfolding withCell
-    cell-key = getD-set-other (set t (2 * n + 768) k) (2 * n + 768 + 1) (2 * n + 768) (bitsOf (doubleOf real)) 0 (λ q. omega arith) ∙ getD-set-same t (2 * n + 768) k 0 (omega arith)
+    cell-key = getD-set-other (set t (2 * n + cellsFrom) k) (2 * n + cellsFrom + 1) (2 * n + cellsFrom) (bitsOf (doubleOf real)) 0 (λ q. omega arith) ∙ getD-set-same t (2 * n + cellsFrom) k 0 (omega arith)
 
-    cell-real : getD (withCell t n k real) (2 * n + 768 + 1) 0 ≡ bitsOf (doubleOf real)
+    cell-real : getD (withCell t n k real) (2 * n + cellsFrom + 1) 0 ≡ bitsOf (doubleOf real)
     unfolding withCell
-    cell-real = getD-set-same (set t (2 * n + 768) k) (2 * n + 768 + 1) (bitsOf (doubleOf real)) 0 (rw length-set h)
+    cell-real = getD-set-same (set t (2 * n + cellsFrom) k) (2 * n + cellsFrom + 1) (bitsOf (doubleOf real)) 0 (rw length-set h)
 
     pub cell-there : (region index : ℕ) → k ≡ region * 4294967296 + index → index < 4294967296 → cellAt (withCell t n k real) n ≡ cell region index (doubleOf real)
     cell-there region index e l =
@@ -138,68 +140,68 @@ module _ (t : List ℕ) (n k real : ℕ) where
 
 module _ (t : List ℕ) (n k : ℕ) (x y z : Words) where
   named : List ℕ
-  named = set t (7 * n + 2816) k
+  named = set t (7 * n + functionsFrom) k
 
   firstly : List ℕ
-  firstly = withNumber named (7 * n + 2816 + 1) x
+  firstly = withNumber named (7 * n + functionsFrom + 1) x
 
   secondly : List ℕ
-  secondly = withNumber firstly (7 * n + 2816 + 3) y
+  secondly = withNumber firstly (7 * n + functionsFrom + 3) y
 
-  pub row-outside : Outside t (withRow t n k x y z) (7 * n + 2816) (7 * n + 2816 + 7)
+  pub row-outside : Outside t (withRow t n k x y z) (7 * n + functionsFrom) (7 * n + functionsFrom + 7)
   unfolding withRow named firstly secondly
   row-outside =
-      then-outside (set-outside t (7 * n + 2816) k (7 * n + 2816) (7 * n + 2816 + 7) (omega arith) (omega arith))
-      (then-outside (number-outside named (7 * n + 2816 + 1) x (7 * n + 2816) (7 * n + 2816 + 7) (omega arith) (omega arith))
-      (then-outside (number-outside firstly (7 * n + 2816 + 3) y (7 * n + 2816) (7 * n + 2816 + 7) (omega arith) (omega arith))
-      (number-outside secondly (7 * n + 2816 + 5) z (7 * n + 2816) (7 * n + 2816 + 7) (omega arith) (omega arith))))
+      then-outside (set-outside t (7 * n + functionsFrom) k (7 * n + functionsFrom) (7 * n + functionsFrom + 7) (omega arith) (omega arith))
+      (then-outside (number-outside named (7 * n + functionsFrom + 1) x (7 * n + functionsFrom) (7 * n + functionsFrom + 7) (omega arith) (omega arith))
+      (then-outside (number-outside firstly (7 * n + functionsFrom + 3) y (7 * n + functionsFrom) (7 * n + functionsFrom + 7) (omega arith) (omega arith))
+      (number-outside secondly (7 * n + functionsFrom + 5) z (7 * n + functionsFrom) (7 * n + functionsFrom + 7) (omega arith) (omega arith))))
 
   -- after each step what came before stays
-  after-name : Outside named (withRow t n k x y z) (7 * n + 2816 + 1) (7 * n + 2816 + 7)
+  after-name : Outside named (withRow t n k x y z) (7 * n + functionsFrom + 1) (7 * n + functionsFrom + 7)
   unfolding withRow named firstly secondly
   after-name =
-      then-outside (number-outside named (7 * n + 2816 + 1) x (7 * n + 2816 + 1) (7 * n + 2816 + 7) (omega arith) (omega arith))
-      (then-outside (number-outside firstly (7 * n + 2816 + 3) y (7 * n + 2816 + 1) (7 * n + 2816 + 7) (omega arith) (omega arith))
-      (number-outside secondly (7 * n + 2816 + 5) z (7 * n + 2816 + 1) (7 * n + 2816 + 7) (omega arith) (omega arith)))
+      then-outside (number-outside named (7 * n + functionsFrom + 1) x (7 * n + functionsFrom + 1) (7 * n + functionsFrom + 7) (omega arith) (omega arith))
+      (then-outside (number-outside firstly (7 * n + functionsFrom + 3) y (7 * n + functionsFrom + 1) (7 * n + functionsFrom + 7) (omega arith) (omega arith))
+      (number-outside secondly (7 * n + functionsFrom + 5) z (7 * n + functionsFrom + 1) (7 * n + functionsFrom + 7) (omega arith) (omega arith)))
 
-  after-first : Outside firstly (withRow t n k x y z) (7 * n + 2816 + 3) (7 * n + 2816 + 7)
+  after-first : Outside firstly (withRow t n k x y z) (7 * n + functionsFrom + 3) (7 * n + functionsFrom + 7)
   unfolding withRow named firstly secondly
   after-first =
-      then-outside (number-outside firstly (7 * n + 2816 + 3) y (7 * n + 2816 + 3) (7 * n + 2816 + 7) (omega arith) (omega arith))
-      (number-outside secondly (7 * n + 2816 + 5) z (7 * n + 2816 + 3) (7 * n + 2816 + 7) (omega arith) (omega arith))
+      then-outside (number-outside firstly (7 * n + functionsFrom + 3) y (7 * n + functionsFrom + 3) (7 * n + functionsFrom + 7) (omega arith) (omega arith))
+      (number-outside secondly (7 * n + functionsFrom + 5) z (7 * n + functionsFrom + 3) (7 * n + functionsFrom + 7) (omega arith) (omega arith))
 
-  after-second : Outside secondly (withRow t n k x y z) (7 * n + 2816 + 5) (7 * n + 2816 + 7)
+  after-second : Outside secondly (withRow t n k x y z) (7 * n + functionsFrom + 5) (7 * n + functionsFrom + 7)
   unfolding withRow named firstly secondly
-  after-second = number-outside secondly (7 * n + 2816 + 5) z (7 * n + 2816 + 5) (7 * n + 2816 + 7) (omega arith) (omega arith)
+  after-second = number-outside secondly (7 * n + functionsFrom + 5) z (7 * n + functionsFrom + 5) (7 * n + functionsFrom + 7) (omega arith) (omega arith)
 
   named-length : length named ≡ length t
   unfolding named
-  named-length = length-set t (7 * n + 2816) k
+  named-length = length-set t (7 * n + functionsFrom) k
 
   firstly-length : length firstly ≡ length t
   unfolding firstly
-  firstly-length = number-length named (7 * n + 2816 + 1) x ∙ named-length
+  firstly-length = number-length named (7 * n + functionsFrom + 1) x ∙ named-length
 
   secondly-length : length secondly ≡ length t
   unfolding secondly
-  secondly-length = number-length firstly (7 * n + 2816 + 3) y ∙ firstly-length
+  secondly-length = number-length firstly (7 * n + functionsFrom + 3) y ∙ firstly-length
 
-  module _ (h : 7 * n + 2816 + 6 < length t) where
-    pub row-name : getD (withRow t n k x y z) (7 * n + 2816) 0 ≡ k
+  module _ (h : 7 * n + functionsFrom + 6 < length t) where
+    pub row-name : getD (withRow t n k x y z) (7 * n + functionsFrom) 0 ≡ k
     unfolding named
-    row-name = after-name .below (7 * n + 2816) (omega arith) ∙ getD-set-same t (7 * n + 2816) k 0 (omega arith)
+    row-name = after-name .below (7 * n + functionsFrom) (omega arith) ∙ getD-set-same t (7 * n + functionsFrom) k 0 (omega arith)
 
-    row-x : numberAt (withRow t n k x y z) (7 * n + 2816 + 1) ≡ numberOf x
+    row-x : numberAt (withRow t n k x y z) (7 * n + functionsFrom + 1) ≡ numberOf x
     unfolding firstly
-    row-x = same-number after-first (7 * n + 2816 + 1) (omega arith) ∙ number-there named (7 * n + 2816 + 1) x (omega (arith, named-length))
+    row-x = same-number after-first (7 * n + functionsFrom + 1) (omega arith) ∙ number-there named (7 * n + functionsFrom + 1) x (omega (arith, named-length))
 
-    row-y : numberAt (withRow t n k x y z) (7 * n + 2816 + 3) ≡ numberOf y
+    row-y : numberAt (withRow t n k x y z) (7 * n + functionsFrom + 3) ≡ numberOf y
     unfolding secondly
-    row-y = same-number after-second (7 * n + 2816 + 3) (omega arith) ∙ number-there firstly (7 * n + 2816 + 3) y (omega (arith, firstly-length))
+    row-y = same-number after-second (7 * n + functionsFrom + 3) (omega arith) ∙ number-there firstly (7 * n + functionsFrom + 3) y (omega (arith, firstly-length))
 
-    row-value : numberAt (withRow t n k x y z) (7 * n + 2816 + 5) ≡ numberOf z
+    row-value : numberAt (withRow t n k x y z) (7 * n + functionsFrom + 5) ≡ numberOf z
     unfolding withRow named firstly secondly
-    row-value = number-there secondly (7 * n + 2816 + 5) z (omega (arith, secondly-length))
+    row-value = number-there secondly (7 * n + functionsFrom + 5) z (omega (arith, secondly-length))
 
     pub row-there : rowAt (withRow t n k x y z) n ≡ row (operationOf k) (numberOf x) (numberOf y) (numberOf z)
     row-there = rw (row-name, row-x, row-y, row-value)
@@ -211,15 +213,15 @@ module _ (t : List ℕ) (n k : ℕ) (x y z : Words) where
     unfolding firstly secondly
     row-comparable p l = record {
       named = rw row-name (p, l);
-      operands = λ i m u. elim (ℕ-discrete i (7 * n + 2816 + 1)) [
-        | yes e ↦ rw e (operand (7 * n + 2816 + 1) (x .re) (after-first .below (7 * n + 2816 + 1) (omega arith) ∙ number-first named (7 * n + 2816 + 1) x (omega (arith, named-length))))
-        | no a ↦ elim (ℕ-discrete i (7 * n + 2816 + 1 + 1)) [
-          | yes e ↦ rw e (operand (7 * n + 2816 + 1 + 1) (x .im) (after-first .below (7 * n + 2816 + 1 + 1) (omega arith) ∙ number-second named (7 * n + 2816 + 1) x (omega (arith, named-length))))
-          | no b ↦ elim (ℕ-discrete i (7 * n + 2816 + 3)) [
-            | yes e ↦ rw e (operand (7 * n + 2816 + 3) (y .re) (after-second .below (7 * n + 2816 + 3) (omega arith) ∙ number-first firstly (7 * n + 2816 + 3) y (omega (arith, firstly-length))))
+      operands = λ i m u. elim (ℕ-discrete i (7 * n + functionsFrom + 1)) [
+        | yes e ↦ rw e (operand (7 * n + functionsFrom + 1) (x .re) (after-first .below (7 * n + functionsFrom + 1) (omega arith) ∙ number-first named (7 * n + functionsFrom + 1) x (omega (arith, named-length))))
+        | no a ↦ elim (ℕ-discrete i (7 * n + functionsFrom + 1 + 1)) [
+          | yes e ↦ rw e (operand (7 * n + functionsFrom + 1 + 1) (x .im) (after-first .below (7 * n + functionsFrom + 1 + 1) (omega arith) ∙ number-second named (7 * n + functionsFrom + 1) x (omega (arith, named-length))))
+          | no b ↦ elim (ℕ-discrete i (7 * n + functionsFrom + 3)) [
+            | yes e ↦ rw e (operand (7 * n + functionsFrom + 3) (y .re) (after-second .below (7 * n + functionsFrom + 3) (omega arith) ∙ number-first firstly (7 * n + functionsFrom + 3) y (omega (arith, firstly-length))))
             | no d ↦
-                let e : i ≡ 7 * n + 2816 + 3 + 1 = omega arith in
-                rw e (operand (7 * n + 2816 + 3 + 1) (y .im) (after-second .below (7 * n + 2816 + 3 + 1) (omega arith) ∙ number-second firstly (7 * n + 2816 + 3) y (omega (arith, firstly-length))))
+                let e : i ≡ 7 * n + functionsFrom + 3 + 1 = omega arith in
+                rw e (operand (7 * n + functionsFrom + 3 + 1) (y .im) (after-second .below (7 * n + functionsFrom + 3 + 1) (omega arith) ∙ number-second firstly (7 * n + functionsFrom + 3) y (omega (arith, firstly-length))))
           ]
         ]
       ];

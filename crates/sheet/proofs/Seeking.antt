@@ -6,7 +6,7 @@ use native.Mathlib.Omega.{arith}
 use native.Mathlib.Decide.{decLt}
 use lib.Dec.{eqb}
 use borrow.Author.Tests.{ne-eqb}
-use Rattle.table.specs.Keys.{First}
+use Rattle.memory.specs.Keys.{First}
 
 pub other : {a b c : ℕ} → (a ≡ b → ⊥) → a ≡ c → eqb b c ≡ false
 other {a} {b} {c} n e = ne-eqb b c λ q. n (e ∙ sym q)

@@ -5,21 +5,22 @@ use Prim.Native.Nat.{ℕ, _+_, _-_, _≤_, _<_}
 use native.Mathlib.Omega.{arith}
 use lib.ListN.{length, getD, drop}
 use Rattle.expression.specs.declared.refusal.Refusal.{Refusal}
-use Rattle.table.specs.Keys.{upTo}
+use Rattle.memory.specs.Keys.{upTo}
 use Rattle.text.specs.Lines.{read, refused}
 use Rattle.text.proofs.Lining.{Left, begins, ends, goes-on, stops-at}
-use Rattle.sheet.specs.declared.Rows.{Rows as Counts}
+use Rattle.memory.specs.Layout.{tableWords}
+use Rattle.sheet.specs.declared.Counts.{Counts}
 use Rattle.sheet.specs.declared.lines.Step.{Step}
 use Rattle.sheet.specs.Rows.{sheet, sheetLine}
 use Rattle.sheet.specs.Table.{rowsOf, lineOf, Held, Takes}
 
 pub record Reading (text t₀ t : List ℕ) (at : ℕ) (n : Counts) : Type 0 where
   pub same : length t ≡ length t₀
-  pub room : 8192 ≤ length t
+  pub room : tableWords ≤ length t
   pub held : Held t n
   pub left : Left sheetLine 1537 (lineOf n) (rowsOf t n) text at (sheet text)
 
-pub reading-begins : (text t : List ℕ) → 8192 ≤ length t → Reading text t t 0 (record { variables = 0; cells = 0; functions = 0 })
+pub reading-begins : (text t : List ℕ) → tableWords ≤ length t → Reading text t t 0 (record { variables = 0; cells = 0; functions = 0 })
 unfolding sheet upTo
 reading-begins text t h = record {
   same = refl;

@@ -14,14 +14,16 @@ use Rattle.complex.specs.Bits.{doubleOf}
 use Rattle.expression.specs.declared.refusal.Refusal.{Refusal}
 use Rattle.text.specs.Reading.{Read, is, bad}
 use Rattle.text.specs.Lines.{Line, goes, stops}
-use Rattle.table.specs.Keys.{upTo}
-use Rattle.table.proofs.Values.{length-upTo, upTo-alike, upTo-grown}
-use Rattle.table.proofs.Ascending.{ascends-same, ascends-more}
+use Rattle.memory.specs.Keys.{upTo}
+use Rattle.memory.proofs.Values.{length-upTo, upTo-alike, upTo-grown}
+use Rattle.memory.proofs.Ascending.{ascends-same, ascends-more}
+use Rattle.memory.specs.Layout.{tableWords, cellsFrom, functionsFrom}
 use Rattle.sheet.specs.declared.fields.Words.{Words}
-use Rattle.sheet.specs.declared.Rows.{Rows as Counts}
+use Rattle.sheet.specs.declared.Counts.{Counts}
 use Rattle.sheet.specs.declared.lines.Step.{Step}
 use Rattle.sheet.specs.Seen.{numberOf}
-use Rattle.sheet.specs.Rows.{variable, cell, row, Rows, rows, operationOf, none, aboveVariables, aboveCells, lineNumber, formed, counted, variableFields, cellFields, rowFields, fieldsAfter, variableLine, cellLine, functionLine, sheetLine}
+use Rattle.sheet.specs.Rows.{variable, cell, row, Rows, rows, none, aboveVariables, aboveCells, lineNumber, formed, counted, variableFields, cellFields, rowFields, fieldsAfter, variableLine, cellLine, functionLine, sheetLine}
+use Rattle.expression.specs.Codes.{operationOf}
 use Rattle.sheet.specs.Table.{numberAt, variableAt, cellAt, rowAt, rowsOf, lineOf, numberKey, pairKey, Held, Takes, withVariable, withCell, withRow, above, variableMay, cellMay}
 use Rattle.sheet.proofs.Ordering.{none-upTo, variables-above, cells-above, above-last}
 use Rattle.sheet.proofs.Placing.{Outside, same-variable, same-cell, same-cell-beyond, same-row, same-row-beyond, same-comparable, same-comparable-beyond, variable-outside, variable-key, variable-there, cell-outside, cell-key, cell-there, row-outside, row-there, row-comparable}
@@ -102,7 +104,7 @@ module _ (t : List ℕ) (n : Counts) where
   pub cell-order : (region index : ℕ) (r : Float) → index < 4294967296
       → cellMay t n (region * 4294967296 + index) ≡ none (upTo (n .functions) (rowAt t)) && aboveCells (upTo (n .cells) (cellAt t)) (cell region index r)
   cell-order region index r h =
-      rw (none-upTo (n .functions) (rowAt t), cells-above (λ j. getD t (2 * j + 768) 0) (λ j. doubleOf (getD t (2 * j + 768 + 1) 0)) (n .cells) region index r h)
+      rw (none-upTo (n .functions) (rowAt t), cells-above (λ j. getD t (2 * j + cellsFrom) 0) (λ j. doubleOf (getD t (2 * j + cellsFrom + 1) 0)) (n .cells) region index r h)
 
 module _ (t : List ℕ) (n : Counts) (line : ℕ) (here : line ≡ lineOf n) (first : ℕ) (bs : List ℕ) where
   pub variable-misplaced : {k : ℕ} {z : Complex} {rest : List ℕ} → n .variables < 256 → is (variable k z) rest ≡ fieldsAfter first bs variableFields
@@ -124,7 +126,7 @@ both true b e = e
 both false true e = refl
 both false false e = e
 
-module _ (text t : List ℕ) (n : Counts) (h : Held t n) (room : 8192 ≤ length t) (line : ℕ) (here : line ≡ lineOf n) (first : ℕ) (bs : List ℕ) where
+module _ (text t : List ℕ) (n : Counts) (h : Held t n) (room : tableWords ≤ length t) (line : ℕ) (here : line ≡ lineOf n) (first : ℕ) (bs : List ℕ) where
   module _ (k : ℕ) (w : Words) (next : ℕ) (few : n .variables < 256) (e : is (variable k (numberOf w)) (drop next text) ≡ fieldsAfter first bs variableFields) where
     module _ (f : true ≡ variableMay t n k) where
       changed : Outside t (withVariable t (n .variables) k w) (3 * n .variables) (3 * n .variables + 3)
@@ -145,7 +147,7 @@ module _ (text t : List ℕ) (n : Counts) (h : Held t n) (room : 8192 ≤ length
         cells = h .cells;
         functions = h .functions;
         numbers = ascends-more _ _ (n .variables) k (h .numbers) (above-last (numberKey t) (n .variables) k (sym (both (eqb (n .functions) 0) (above (numberKey t) (n .variables) k) (both (eqb (n .cells) 0) _ f)))) (λ j l. changed .below (3 * j) (omega arith)) (variable-key t (n .variables) k w (omega arith));
-        pairs = ascends-same _ _ (n .cells) (h .pairs) (λ j l. changed .beyond (2 * j + 768) (omega arith));
+        pairs = ascends-same _ _ (n .cells) (h .pairs) (λ j l. changed .beyond (2 * j + cellsFrom) (omega arith));
         operands = λ j l. same-comparable-beyond changed j (omega arith) (h .operands j l);
       }
 
@@ -161,7 +163,7 @@ module _ (text t : List ℕ) (n : Counts) (h : Held t n) (room : 8192 ≤ length
       key : ℕ
       key = region * 4294967296 + index
 
-      p : Outside t (withCell t (n .cells) key real) (2 * n .cells + 768) (2 * n .cells + 768 + 2)
+      p : Outside t (withCell t (n .cells) key real) (2 * n .cells + cellsFrom) (2 * n .cells + cellsFrom + 2)
       p = cell-outside t (n .cells) key real
 
       cell-rows : rowsOf (withCell t (n .cells) key real) (counts (n .variables) (n .cells + 1) (n .functions))
@@ -181,7 +183,7 @@ module _ (text t : List ℕ) (n : Counts) (h : Held t n) (room : 8192 ≤ length
         cells = omega arith;
         functions = h .functions;
         numbers = ascends-same _ _ (n .variables) (h .numbers) (λ j l. p .below (3 * j) (omega (arith, h .variables)));
-        pairs = ascends-more _ _ (n .cells) key (h .pairs) (above-last (pairKey t) (n .cells) key (sym (both (eqb (n .functions) 0) (above (pairKey t) (n .cells) key) f))) (λ j l. p .below (2 * j + 768) (omega arith)) (cell-key t (n .cells) key real (omega arith));
+        pairs = ascends-more _ _ (n .cells) key (h .pairs) (above-last (pairKey t) (n .cells) key (sym (both (eqb (n .functions) 0) (above (pairKey t) (n .cells) key) f))) (λ j l. p .below (2 * j + cellsFrom) (omega arith)) (cell-key t (n .cells) key real (omega arith));
         operands = λ j l. same-comparable-beyond p j (omega arith) (h .operands j l);
       }
 
@@ -194,7 +196,7 @@ module _ (text t : List ℕ) (n : Counts) (h : Held t n) (room : 8192 ≤ length
 
   module _ (k : ℕ) (x y z : Words) (next : ℕ) (few : n .functions < 256) (named : (0 < k) × (k < 6))
       (e : is (row (operationOf k) (numberOf x) (numberOf y) (numberOf z)) (drop next text) ≡ fieldsAfter first bs rowFields) where
-    q : Outside t (withRow t (n .functions) k x y z) (7 * n .functions + 2816) (7 * n .functions + 2816 + 7)
+    q : Outside t (withRow t (n .functions) k x y z) (7 * n .functions + functionsFrom) (7 * n .functions + functionsFrom + 7)
     q = row-outside t (n .functions) k x y z
 
     row-rows : rowsOf (withRow t (n .functions) k x y z) (counts (n .variables) (n .cells) (n .functions + 1))
@@ -212,7 +214,7 @@ module _ (text t : List ℕ) (n : Counts) (h : Held t n) (room : 8192 ≤ length
       cells = h .cells;
       functions = omega arith;
       numbers = ascends-same _ _ (n .variables) (h .numbers) (λ j l. q .below (3 * j) (omega (arith, h .variables)));
-      pairs = ascends-same _ _ (n .cells) (h .pairs) (λ j l. q .below (2 * j + 768) (omega (arith, h .cells)));
+      pairs = ascends-same _ _ (n .cells) (h .pairs) (λ j l. q .below (2 * j + cellsFrom) (omega (arith, h .cells)));
       operands = λ j l. elim (decLt j (n .functions)) [
         | yes b ↦ same-comparable q j (omega arith) (h .operands j b)
         | no b ↦ let i : j ≡ n .functions = omega arith in rw i (row-comparable t (n .functions) k x y z (omega arith) (named .0) (named .1))

@@ -10,6 +10,8 @@ use Rattle.complex.specs.Bits.{bitsOf, doubleOf}
 use Rattle.complex.specs.Constants.{ofParts}
 use Rattle.expression.specs.declared.refusal.Operation.{Operation}
 use Rattle.expression.specs.declared.refusal.Refusal.{Refusal}
+use Rattle.expression.specs.Codes.{operationCode, operationOf}
+use Rattle.spelling.specs.Names.{operationNames}
 use Rattle.text.specs.Reading.{Read, is, bad, then, tab, lf, ended, decimalField, hexField, nameField}
 use Rattle.text.specs.Lines.{Line, goes, stops, Whole, lines}
 
@@ -47,20 +49,9 @@ cellFields bs =
     then (hexField lf bs) λ real bs.
     is (cell region index (doubleOf real)) bs
 
--- "name sin, cos, exp, sqrt or pow", numbered from 1
-abbrev pub operationNames : List (List ℕ)
-operationNames = (115 ∷ 105 ∷ 110 ∷ []) ∷ (99 ∷ 111 ∷ 115 ∷ []) ∷ (101 ∷ 120 ∷ 112 ∷ []) ∷ (115 ∷ 113 ∷ 114 ∷ 116 ∷ []) ∷ (112 ∷ 111 ∷ 119 ∷ []) ∷ []
-
+-- the number of the name pow
 abbrev pub power : ℕ
 power = 5
-
-unfoldable pub operationOf : ℕ → Operation
-operationOf zero = Operation.Power
-operationOf (suc zero) = Operation.Sine
-operationOf (suc (suc zero)) = Operation.Cosine
-operationOf (suc (suc (suc zero))) = Operation.Exponent
-operationOf (suc (suc (suc (suc zero)))) = Operation.SquareRoot
-operationOf (suc (suc (suc (suc (suc k))))) = Operation.Power
 
 -- "For all but pow the second operand is two fields of zeros"
 unfoldable pub secondOperand : (name : ℕ) → List ℕ → Read Complex
@@ -176,14 +167,6 @@ cellValue region index [] = missing
 cellValue region index (cell region′ index′ real ∷ cs) =
     cond (eqb region region′ && eqb index index′) (found (record { re = real; im = doubleOf 0 })) (cellValue region index cs)
 
--- the number of a name
-abbrev pub operationNumber : Operation → ℕ
-operationNumber Operation.Sine = 1
-operationNumber Operation.Cosine = 2
-operationNumber Operation.Exponent = 3
-operationNumber Operation.SquareRoot = 4
-operationNumber Operation.Power = 5
-
 -- "The first row that matches in name and operand bits counts"
 unfoldable pub sameBits : Complex → Complex → Bool
 sameBits x y = eqb (bitsOf (x .re)) (bitsOf (y .re)) && eqb (bitsOf (x .im)) (bitsOf (y .im))
@@ -191,4 +174,4 @@ sameBits x y = eqb (bitsOf (x .re)) (bitsOf (y .re)) && eqb (bitsOf (x .im)) (bi
 unfoldable pub functionValue : Operation → (x y : Complex) → List Row → Lookup
 functionValue o x y [] = missing
 functionValue o x y (row o′ x′ y′ value ∷ rs) =
-    cond (eqb (operationNumber o) (operationNumber o′) && (sameBits x x′ && sameBits y y′)) (found value) (functionValue o x y rs)
+    cond (eqb (operationCode o) (operationCode o′) && (sameBits x x′ && sameBits y y′)) (found value) (functionValue o x y rs)

@@ -11,7 +11,8 @@ use Rattle.sheet.specs.declared.fields.Pair.{Pair}
 use Rattle.sheet.specs.declared.fields.VariableFields.{VariableFields}
 use Rattle.sheet.specs.declared.fields.CellFields.{CellFields}
 use Rattle.sheet.specs.declared.fields.RowFields.{RowFields}
-use Rattle.sheet.specs.Rows.{Variable, variable, Cell, cell, Row, row, operationOf}
+use Rattle.sheet.specs.Rows.{Variable, variable, Cell, cell, Row, row}
+use Rattle.expression.specs.Codes.{operationOf}
 
 abbrev pub numberOf : Words → Complex
 numberOf w = ofParts (w .re) (w .im)

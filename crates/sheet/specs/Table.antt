@@ -9,30 +9,32 @@ use Rattle.complex.specs.declared.Complex.{Complex}
 use Rattle.complex.specs.Bits.{bitsOf, doubleOf, Canonical}
 use Rattle.complex.specs.Constants.{ofParts}
 use Rattle.expression.specs.declared.refusal.Refusal.{Refusal}
-use Rattle.table.specs.Keys.{upTo, keyAt, Ascends}
+use Rattle.memory.specs.Keys.{upTo, keyAt, Ascends}
 use Rattle.text.specs.Lines.{Line, goes, stops, Whole, read, refused}
-use Rattle.sheet.specs.declared.Rows.{Rows as Counts}
+use Rattle.memory.specs.Layout.{cellsFrom, functionsFrom}
+use Rattle.sheet.specs.declared.Counts.{Counts}
 use Rattle.sheet.specs.declared.Sheet.{Sheet}
 use Rattle.sheet.specs.declared.Found.{Found}
 use Rattle.sheet.specs.declared.fields.Words.{Words}
 use Rattle.sheet.specs.declared.lines.Step.{Step}
-use Rattle.sheet.specs.Rows.{Variable, variable, Cell, cell, Row, row, Rows, rows, operationOf, mostVariables, mostCells, mostFunctions, Lookup, found, missing}
+use Rattle.sheet.specs.Rows.{Variable, variable, Cell, cell, Row, row, Rows, rows, mostVariables, mostCells, mostFunctions, Lookup, found, missing}
+use Rattle.expression.specs.Codes.{operationOf}
 
 -- ---- the rows of a table
 
 abbrev pub numberAt : List ℕ → ℕ → Complex
 numberAt t i = ofParts (getD t i 0) (getD t (i + 1) 0)
 
--- row j of each kind: 3 words from 0 on, 2 from 768 on, 7 from 2816 on
+-- row j of each kind, where memory/specs/Layout says
 abbrev pub variableAt : List ℕ → ℕ → Variable
 variableAt t j = variable (getD t (3 * j) 0) (numberAt t (3 * j + 1))
 
 -- region and index in one word
 abbrev pub cellAt : List ℕ → ℕ → Cell
-cellAt t j = cell (getD t (2 * j + 768) 0 / 4294967296) (getD t (2 * j + 768) 0 % 4294967296) (doubleOf (getD t (2 * j + 768 + 1) 0))
+cellAt t j = cell (getD t (2 * j + cellsFrom) 0 / 4294967296) (getD t (2 * j + cellsFrom) 0 % 4294967296) (doubleOf (getD t (2 * j + cellsFrom + 1) 0))
 
 abbrev pub rowAt : List ℕ → ℕ → Row
-rowAt t j = row (operationOf (getD t (7 * j + 2816) 0)) (numberAt t (7 * j + 2816 + 1)) (numberAt t (7 * j + 2816 + 3)) (numberAt t (7 * j + 2816 + 5))
+rowAt t j = row (operationOf (getD t (7 * j + functionsFrom) 0)) (numberAt t (7 * j + functionsFrom + 1)) (numberAt t (7 * j + functionsFrom + 3)) (numberAt t (7 * j + functionsFrom + 5))
 
 abbrev pub rowsOf : List ℕ → Counts → Rows
 rowsOf t n = rows (upTo (n .variables) (variableAt t)) (upTo (n .cells) (cellAt t)) (upTo (n .functions) (rowAt t))
@@ -47,12 +49,12 @@ abbrev pub numberKey : List ℕ → ℕ → ℕ
 numberKey t j = getD t (3 * j) 0
 
 abbrev pub pairKey : List ℕ → ℕ → ℕ
-pairKey t = keyAt t 768 2
+pairKey t = keyAt t cellsFrom 2
 
 -- a row's name is one of the five, and its operands' words are canonical
 pub record Comparable (t : List ℕ) (j : ℕ) : Type 0 where
-  pub named : (0 < getD t (7 * j + 2816) 0) × (getD t (7 * j + 2816) 0 < 6)
-  pub operands : (i : ℕ) → 7 * j + 2816 < i → i < 7 * j + 2816 + 5 → Canonical (getD t i 0)
+  pub named : (0 < getD t (7 * j + functionsFrom) 0) × (getD t (7 * j + functionsFrom) 0 < 6)
+  pub operands : (i : ℕ) → 7 * j + functionsFrom < i → i < 7 * j + functionsFrom + 5 → Canonical (getD t i 0)
 
 pub record Held (t : List ℕ) (n : Counts) : Type 0 where
   pub variables : n .variables ≤ mostVariables
@@ -95,11 +97,11 @@ unfoldable pub withVariable : List ℕ → (count number : ℕ) → Words → Li
 withVariable t count number value = withNumber (set t (3 * count) number) (3 * count + 1) value
 
 unfoldable pub withCell : List ℕ → (count key real : ℕ) → List ℕ
-withCell t count key real = set (set t (2 * count + 768) key) (2 * count + 768 + 1) (bitsOf (doubleOf real))
+withCell t count key real = set (set t (2 * count + cellsFrom) key) (2 * count + cellsFrom + 1) (bitsOf (doubleOf real))
 
 unfoldable pub withRow : List ℕ → (count name : ℕ) → (x y value : Words) → List ℕ
 withRow t count name x y value =
-    withNumber (withNumber (withNumber (set t (7 * count + 2816) name) (7 * count + 2816 + 1) x) (7 * count + 2816 + 3) y) (7 * count + 2816 + 5) value
+    withNumber (withNumber (withNumber (set t (7 * count + functionsFrom) name) (7 * count + functionsFrom + 1) x) (7 * count + functionsFrom + 3) y) (7 * count + functionsFrom + 5) value
 
 -- whether it may follow the last
 unfoldable pub above : (ℕ → ℕ) → (count key : ℕ) → Bool
@@ -126,4 +128,4 @@ pairMatches t i w = eqb (w .re) (getD t i 0) && eqb (w .im) (getD t (i + 1) 0)
 
 abbrev pub rowMatches : List ℕ → (name : ℕ) → (x y : Words) → ℕ → Bool
 rowMatches t name x y j =
-    eqb name (getD t (7 * j + 2816) 0) && (pairMatches t (7 * j + 2816 + 1) x && pairMatches t (7 * j + 2816 + 3) y)
+    eqb name (getD t (7 * j + functionsFrom) 0) && (pairMatches t (7 * j + functionsFrom + 1) x && pairMatches t (7 * j + functionsFrom + 3) y)

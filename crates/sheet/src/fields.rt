@@ -3,15 +3,13 @@
 ghost use mathlib.Core.Path.{_≡_};
 ghost use Prim.Native.Nat.{_<_};
 ghost use lib.ListN.{drop};
-ghost use Rattle.text.specs.Reading.{nameFrom};
-ghost use Rattle.text.specs.Seen as Text;
-ghost use Rattle.sheet.specs.Rows.{complexField, secondOperand, operationNames, fieldsAfter, variableFields, cellFields, rowFields};
+ghost use Rattle.sheet.specs.Rows.{complexField, secondOperand, fieldsAfter, variableFields, cellFields, rowFields};
 ghost use Rattle.sheet.specs.Seen.{seenPair, seenVariable, seenCell, seenRow, smallCell, smallRow};
+use spelling::operation_at;
 use text::reading::Number;
 use text::reading::decimal_field;
 use text::reading::end_field;
 use text::reading::hex_field;
-use text::reading::word_at;
 
 const TAB: u8 = 9;
 
@@ -104,27 +102,6 @@ pub fn read_cell(text: &[u8], at: usize) -> CellFields
     CellFields::Are(region, index, real, next)
 }
 
-fn read_name(text: &[u8], at: usize) -> Number
-    ensures { λ r. ⌜ Text.seen (now (text .entry)) r ≡ nameFrom 1 operationNames (drop at (now (text .entry))) ⌝ }
-{
-    if word_at(text, at, b"sin") {
-        return Number::Is(1, at + 3);
-    }
-    if word_at(text, at, b"cos") {
-        return Number::Is(2, at + 3);
-    }
-    if word_at(text, at, b"exp") {
-        return Number::Is(3, at + 3);
-    }
-    if word_at(text, at, b"sqrt") {
-        return Number::Is(4, at + 4);
-    }
-    if word_at(text, at, b"pow") {
-        return Number::Is(5, at + 3);
-    }
-    Number::Bad
-}
-
 // For all but pow two fields of zeros; the bits of -0 are none.
 fn second_operand(text: &[u8], at: usize, name: u64) -> Pair
     ensures { λ r. ⌜ seenPair (now (text .entry)) r ≡ secondOperand name (drop at (now (text .entry))) ⌝ }
@@ -157,7 +134,7 @@ pub fn read_row(text: &[u8], at: usize) -> RowFields
     let Number::Is(_, start) = kind else {
         return RowFields::Bad;
     };
-    let word = end_field(text, read_name(text, start), TAB);
+    let word = end_field(text, operation_at(text, start), TAB);
     let Number::Is(name, operands) = word else {
         return RowFields::Bad;
     };

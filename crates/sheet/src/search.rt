@@ -1,29 +1,16 @@
 // The first function value for a name and operands.
 ghost use mathlib.Core.Path.{_≡_};
 ghost use Prim.Native.Nat.{_<_, _≤_};
-ghost use Rattle.sheet.specs.Rows.{operationNumber};
-ghost use Rattle.table.specs.Keys.{First};
+ghost use Rattle.memory.specs.Layout.{tableWords};
+ghost use Rattle.memory.specs.Keys.{First};
 ghost use Rattle.sheet.specs.Table.{wordsOf, pairMatches, rowMatches};
 use super::fields::Words;
-use super::layout::ROWS;
 use complex::Complex;
 use complex::bits::to_bits;
-use expression::refusal::Operation;
-use store::memory::read;
+use memory::layout::FUNCTIONS_FROM;
+use memory::read;
 
 const MOST_FUNCTIONS: usize = 256;
-
-pub fn operation_number(operation: Operation) -> u64
-    ensures { λ r. ⌜ r ≡ operationNumber operation ⌝ }
-{
-    match operation {
-        Operation::Sine => 1,
-        Operation::Cosine => 2,
-        Operation::Exponent => 3,
-        Operation::SquareRoot => 4,
-        Operation::Power => 5,
-    }
-}
 
 pub fn words_of(x: Complex) -> Words
     ensures { λ r. ⌜ r ≡ wordsOf x ⌝ }
@@ -35,7 +22,7 @@ pub fn words_of(x: Complex) -> Words
 }
 
 fn pair_at(table: &[u64], at: usize, words: Words) -> bool
-    requires { ⌜ at ≤ 8192 ⌝ }
+    requires { ⌜ at ≤ tableWords ⌝ }
     ensures { λ r. ⌜ r ≡ pairMatches (now (table .entry)) at words ⌝ }
 {
     if read(table, at) != words.re {
@@ -48,7 +35,7 @@ fn row_matches(table: &[u64], j: usize, name: u64, x: Words, y: Words) -> bool
     requires { ⌜ j < 256 ⌝ }
     ensures { λ r. ⌜ r ≡ rowMatches (now (table .entry)) name x y j ⌝ }
 {
-    let at = 7 * j + ROWS;
+    let at = 7 * j + FUNCTIONS_FROM;
     if read(table, at) != name {
         return false;
     }

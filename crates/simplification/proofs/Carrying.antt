@@ -6,8 +6,8 @@ use Rattle.expression.specs.declared.InfixOperator.{InfixOperator}
 use Rattle.expression.specs.declared.refusal.Refusal.{Refusal}
 use Rattle.expression.specs.Trees.{Tree, number, leaf, functionCall, prefixed, infixed}
 use Rattle.store.specs.declared.Added.{Added}
-use Rattle.store.specs.declared.node.Expression.{Expression}
-use Rattle.store.specs.Nodes.{Within, grown}
+use Rattle.expression.specs.declared.node.Expression.{Expression}
+use Rattle.expression.specs.Nodes.{Within, grown}
 use Rattle.store.specs.Storing.{State, Answer, gives, refused, andThen, intern}
 use Rattle.store.specs.Memory.{Memory, treeAt, treeOf, stateOf}
 use Rattle.store.specs.Held.{Holds, Step, Built}

@@ -13,8 +13,8 @@ use Rattle.expression.specs.declared.refusal.Refusal.{Refusal}
 use Rattle.expression.specs.Trees.{Tree, Leaf, number, pi, variable, cell, leaf, functionCall, prefixed, infixed}
 use Rattle.store.specs.declared.Added.{Added}
 use Rattle.store.specs.declared.Kept.{Kept}
-use Rattle.store.specs.declared.node.Expression.{Expression}
-use Rattle.store.specs.Nodes.{grown}
+use Rattle.expression.specs.declared.node.Expression.{Expression}
+use Rattle.expression.specs.Nodes.{grown}
 use Rattle.store.specs.Storing as Storing
 use Rattle.store.specs.Storing.{State, Answer, gives, refused, andThen, recall, keep, result, nothing}
 use Rattle.store.specs.Memory.{Memory, memory, treeAt, treeOf, stateOf}

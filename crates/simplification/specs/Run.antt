@@ -6,8 +6,8 @@ use Rattle.expression.specs.declared.InfixOperator.{InfixOperator}
 use Rattle.expression.specs.declared.PrefixOperator.{PrefixOperator}
 use Rattle.expression.specs.declared.ExpressionFunction.{ExpressionFunction}
 use Rattle.store.specs.declared.Added.{Added}
-use Rattle.store.specs.declared.node.Expression.{Expression}
-use Rattle.store.specs.Nodes.{Within}
+use Rattle.expression.specs.declared.node.Expression.{Expression}
+use Rattle.expression.specs.Nodes.{Within}
 use Rattle.store.specs.Storing.{State, Answer}
 use Rattle.store.specs.Memory.{Memory, memory, treeAt, treeOf, stateOf}
 use Rattle.store.specs.Held.{Holds, Built, KeepsFrom}

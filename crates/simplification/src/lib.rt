@@ -20,6 +20,7 @@ use evaluation::calculate::calculate_infix;
 use expression::ExpressionFunction;
 use expression::InfixOperator;
 use expression::PrefixOperator;
+use expression::node::Expression;
 use expression::refusal::Refusal;
 use limit::Limit;
 use sheet::Rows;
@@ -28,7 +29,6 @@ use store::Kept;
 use store::add;
 use store::keep;
 use store::kept_at;
-use store::node::Expression;
 use store::reading::expression_at;
 
 pub mod limit;

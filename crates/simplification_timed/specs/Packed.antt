@@ -6,7 +6,7 @@ use Rattle.expression.specs.declared.refusal.Refusal.{Refusal}
 use Rattle.expression.specs.Refusals.{numberOf}
 use Rattle.store.specs.Memory.{Memory}
 use Rattle.store.specs.declared.Added.{Added}
-use Rattle.listing.specs.declared.writing.Written.{Written}
+use Rattle.writing.specs.declared.Written.{Written}
 use Rattle.sheet.specs.declared.Rows.{Rows as Counts}
 use Rattle.simplification.specs.Run as Run
 use Rattle.calls.specs.declared.Simplified.{Simplified}

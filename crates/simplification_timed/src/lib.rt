@@ -12,11 +12,11 @@ use calls::frame::read_job;
 use calls::frame::write_answer;
 use evaluation_timed::packed;
 use expression::refusal::Refusal;
-use listing::writing::Written;
 use sheet::Rows;
 use simplification::limit::Limit;
 use simplification::simplify;
 use store::Added;
+use writing::Written;
 
 fn refused(why: Refusal) -> u64
     ensures { λ r. ⌜ r ≡ refusedOf why ⌝ }

@@ -11,10 +11,11 @@ use Rattle.expression.specs.Trees.{size, depth}
 use Rattle.expression.specs.Limits.{largest, deepest}
 use Rattle.store.specs.declared.Added.{Added}
 use Rattle.store.specs.declared.Verdict.{Verdict}
-use Rattle.store.specs.declared.node.Expression.{Expression}
+use Rattle.expression.specs.declared.node.Expression.{Expression}
 use Rattle.store.specs.declared.node.Fields.{Fields}
 use Rattle.store.specs.Words.{tagOf}
-use Rattle.store.specs.Nodes.{fieldsOf, measureFrom, Within, Sound}
+use Rattle.store.specs.Nodes.{fieldsOf}
+use Rattle.expression.specs.Nodes.{measureFrom, Within, Sound}
 use Rattle.store.specs.Storing.{intern}
 use Rattle.store.specs.Memory.{Memory, memory, room, sizeAt, depthAt, classAt, treeAt, treeOf, stateOf}
 use Rattle.store.specs.Index.{keyOf, bucketOf, joined}

@@ -8,12 +8,13 @@ use lib.Dec.{T, eqb, eqb→eq, eqb-refl}
 use Rattle.complex.proofs.Doubles.{double-back}
 use Rattle.expression.specs.Codes.{infixOf, infixCode, prefixCode, functionCode}
 use Rattle.expression.proofs.Numbering.{infix-back, prefix-back, function-back, infix-known, prefix-known, function-known}
-use Rattle.store.specs.declared.node.Expression.{Expression}
+use Rattle.expression.specs.declared.node.Expression.{Expression}
 use Rattle.store.specs.declared.node.Fields.{Fields}
 use Rattle.store.specs.Words.{codeOf}
 use Rattle.store.specs.Index.{keyAs}
 use Rattle.store.specs.Walk.{Tells}
-use Rattle.store.specs.Nodes.{fields, fieldsOf, expressionAs, expressionOf, Sound}
+use Rattle.store.specs.Nodes.{fields, fieldsOf, expressionAs, expressionOf}
+use Rattle.expression.specs.Nodes.{Sound}
 
 -- a kind that is none of the first six
 pub as-infix : (k o a b : ℕ)

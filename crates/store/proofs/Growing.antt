@@ -19,10 +19,11 @@ use Rattle.expression.specs.Limits.{largest, deepest}
 use Rattle.expression.proofs.Likeness.{equal-refl}
 use Rattle.store.specs.declared.Added.{Added}
 use Rattle.store.specs.declared.Verdict.{Verdict}
-use Rattle.store.specs.declared.node.Expression.{Expression}
+use Rattle.expression.specs.declared.node.Expression.{Expression}
 use Rattle.store.specs.declared.node.Fields.{Fields}
 use Rattle.store.specs.Words.{codeIn, sizeIn, depthIn, tagOf}
-use Rattle.store.specs.Nodes.{fields, fieldsOf, expressionOf, Within, Sound}
+use Rattle.store.specs.Nodes.{fields, fieldsOf, expressionOf}
+use Rattle.expression.specs.Nodes.{Within, Sound}
 use Rattle.store.specs.Storing.{Answer, among, intern, result, refused, place}
 use Rattle.store.specs.Memory.{Memory, memory, room, fieldsOn, sizeOn, depthOn, fieldsAt, sizeAt, depthAt, headAt, classAt, keptAt, expressionAt, trees, treeAt, treeOf, linked, keptFor, stateOf}
 use Rattle.store.specs.Index.{keyOf, bucketOf, keyAt, bucketAt, latest, joined}

@@ -20,7 +20,7 @@ use Rattle.store.specs.Storing.{gives, keep, recall, result, place}
 use Rattle.store.specs.Memory.{Memory, memory, room, headOn, classOn, keptOn, classAt, keptAt, expressionAt, trees, treeAt, linked, keptFor, stateOf}
 use Rattle.store.specs.Index.{keyAt, bucketAt, latest}
 use Rattle.store.specs.Held.{Holds, Built, Recalls, Compares, Starts}
-use Rattle.store.proofs.Slices.{getD-zeros}
+use Rattle.memory.proofs.Slices.{getD-zeros}
 use Rattle.store.proofs.Places.{place-hit, latest-alike}
 use Rattle.store.proofs.Trees.{length-trees, trees-at, trees-alike, tree-alike, room-each}
 use Rattle.store.proofs.Seeking.{class-inside, equal-class, class-equal, class-is-equal, class-of-tree}

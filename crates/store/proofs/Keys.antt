@@ -20,10 +20,11 @@ use Rattle.expression.specs.Alike.{alike, alikeLeaves, equal}
 use Rattle.expression.specs.Limits.{Proper}
 use Rattle.expression.proofs.Numbering.{infix-known, prefix-known, function-known}
 use Rattle.expression.proofs.Likeness.{Like, numbers, pis, variables, cells, functions, prefixes, infixes, like-of, test-of, equal-refl, equal-sym, equal-trans}
-use Rattle.store.specs.declared.node.Expression.{Expression}
+use Rattle.expression.specs.declared.node.Expression.{Expression}
 use Rattle.store.specs.declared.node.Fields.{Fields}
 use Rattle.store.specs.Words.{codeOf}
-use Rattle.store.specs.Nodes.{fields, fieldsOf, expressionAs, expressionOf, grown, Within, Sound}
+use Rattle.store.specs.Nodes.{fields, fieldsOf, expressionAs, expressionOf}
+use Rattle.expression.specs.Nodes.{grown, Within, Sound}
 use Rattle.store.specs.Index.{keyAs, keyOf}
 use Rattle.store.proofs.Coding.{coded, back, of-function, of-prefix, of-infix}
 

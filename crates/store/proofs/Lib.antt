@@ -1,5 +1,4 @@
 -- The laws that the proofs of this crate, and where `pub` of its callers, cite.
-mod Slices
 pub mod Places
 mod Coding
 pub mod Trees

@@ -8,8 +8,9 @@ use lib.ListN.{length, getD}
 use Rattle.expression.specs.Trees.{Tree, leaf, pi}
 use Rattle.expression.specs.Alike.{identical, equal}
 use Rattle.expression.proofs.Likeness.{identical-same, same-identical, equal-sym, equal-trans, equal-tests, same-equal}
-use Rattle.store.specs.declared.node.Expression.{Expression}
-use Rattle.store.specs.Nodes.{fieldsOf, expressionOf, Within, Sound}
+use Rattle.expression.specs.declared.node.Expression.{Expression}
+use Rattle.store.specs.Nodes.{fieldsOf, expressionOf}
+use Rattle.expression.specs.Nodes.{Within, Sound}
 use Rattle.store.specs.Storing.{place}
 use Rattle.store.specs.Memory.{Memory, fieldsAt, classAt, expressionAt, trees, treeAt, treeOf}
 use Rattle.store.specs.Index.{keyOf, keyAt}

@@ -14,8 +14,9 @@ use Rattle.expression.specs.Alike.{identical, equal}
 use Rattle.expression.specs.Limits.{Limited, Proper}
 use Rattle.expression.proofs.Likeness.{identical-same}
 use Rattle.store.specs.declared.Added.{Added}
-use Rattle.store.specs.declared.node.Expression.{Expression}
-use Rattle.store.specs.Nodes.{fieldsOf, expressionOf, Within, Sound}
+use Rattle.expression.specs.declared.node.Expression.{Expression}
+use Rattle.store.specs.Nodes.{fieldsOf, expressionOf}
+use Rattle.expression.specs.Nodes.{Within, Sound}
 use Rattle.store.specs.Storing.{State, state, Answer, gives, refused, among, place}
 use Rattle.store.specs.Memory.{Memory, fieldsAt, sizeAt, depthAt, classAt, expressionAt, trees, treeAt, treeOf, stateOf}
 use Rattle.store.specs.Index.{keyOf}
@@ -92,6 +93,14 @@ module _ {m : Memory} {n : ℕ} (h : Holds m n) where
 
   pub read-depth : {r : ℕ} (k : ℕ) → k < n → r ≡ depthAt m k → r ≡ depth (treeAt m k)
   read-depth k l e = e ∙ h .each k l .deep
+
+-- a node whose expression is known
+module _ {m : Memory} {n node : ℕ} (h : Holds m n) (l : node < n) {e e′ : Expression} (e-is : e ≡ expressionOf (fieldsAt m node)) (told : e ≡ e′) where
+  pub within-node : Within node e′
+  within-node = rw told at (read-node h node l e-is .0)
+
+  pub tree-of-node : treeOf m e′ ≡ treeAt m node
+  tree-of-node = rw told at (read-node h node l e-is .1)
 
 -- ---- one answer: what is built determines the answer, whichever way the slices were left
 

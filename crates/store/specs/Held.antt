@@ -7,11 +7,12 @@ use Rattle.expression.specs.declared.refusal.Refusal.{Refusal}
 use Rattle.expression.specs.Trees.{size, depth}
 use Rattle.expression.specs.Alike.{equal}
 use Rattle.expression.specs.Limits.{Limited}
-use Rattle.store.specs.declared.node.Expression.{Expression}
+use Rattle.expression.specs.declared.node.Expression.{Expression}
 use Rattle.store.specs.declared.Added.{Added}
 use Rattle.store.specs.declared.Kept.{Kept}
 use Rattle.store.specs.declared.Verdict.{Verdict}
-use Rattle.store.specs.Nodes.{fieldsOf, Within}
+use Rattle.store.specs.Nodes.{fieldsOf}
+use Rattle.expression.specs.Nodes.{Within}
 use Rattle.store.specs.Storing as Storing
 use Rattle.store.specs.Storing.{Answer, gives, refused, intern, keep, recall, nothing, result, fresh, place}
 use Rattle.store.specs.Memory.{Memory, memory, room, fieldsAt, sizeAt, depthAt, headAt, classAt, keptAt, nextAt, expressionAt, trees, treeAt, treeOf, stateOf}

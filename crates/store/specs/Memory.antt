@@ -6,10 +6,11 @@ use lib.ListN.{length, getD, replicate}
 use lib.Dec.{ltb}
 use Rattle.expression.specs.Trees.{Tree, leaf, pi}
 use Rattle.expression.specs.Alike.{equal}
-use Rattle.store.specs.declared.node.Expression.{Expression}
+use Rattle.expression.specs.declared.node.Expression.{Expression}
 use Rattle.store.specs.declared.node.Fields.{Fields}
 use Rattle.store.specs.Words.{codeIn, sizeIn, depthIn, headIn, classIn, keptIn, nextIn}
-use Rattle.store.specs.Nodes.{fields, expressionOf, grown}
+use Rattle.store.specs.Nodes.{fields, expressionOf}
+use Rattle.expression.specs.Nodes.{grown}
 use Rattle.store.specs.Storing.{Kept, nothing, result, State, state, place}
 
 pub record Memory : Type 0 where

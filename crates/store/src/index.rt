@@ -10,14 +10,14 @@ use super::fields::head_in;
 use super::fields::next_in;
 use super::fields::with_head;
 use super::fields::with_node;
-use super::memory::least;
-use super::memory::put;
-use super::memory::read;
 use super::node::Fields;
 use super::node::same;
 use super::reading::class_at;
 use super::reading::fields_at;
+use super::room::least;
 use complex::bits::class_of_bits;
+use memory::put;
+use memory::read;
 
 // How a node meets what is sought: it is it, it has the same key, or neither.
 pub enum Meeting {

@@ -2,9 +2,10 @@
 // every function here is safe; where they hold a store (`Holds`), it does what its definition on trees says.
 ghost use mathlib.Core.Path.{_≡_};
 ghost use Prim.Native.Nat.{_+_, max};
-ghost use Rattle.store.specs.Nodes.{measureFrom};
+ghost use Rattle.expression.specs.Nodes.{measureFrom};
 ghost use Rattle.store.specs.Memory.{memory, sizeOn, depthOn, cleared};
 ghost use Rattle.store.specs.Held.{Adds, judged, Keeps, Recalls, Compares, Starts};
+use expression::node::Expression;
 use expression::refusal::Refusal;
 use fields::kept_in;
 use fields::tag_of;
@@ -13,21 +14,20 @@ use index::bucket_of;
 use index::enter;
 use index::find;
 use index::key_of;
-use memory::capacity;
 use memory::put;
 use memory::read;
 use memory::zero;
-use node::Expression;
 use node::fields_of;
 use reading::class_at;
 use reading::depth_at;
 use reading::size_at;
+use room::capacity;
 
 mod fields;
 mod index;
-pub mod memory;
 pub mod node;
 pub mod reading;
+mod room;
 
 // 01's limits of a new node.
 const LARGEST: u64 = 1_000_000;

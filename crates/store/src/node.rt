@@ -1,6 +1,7 @@
-// A node as an expression whose operands are numbers of earlier nodes, and how it stands in the slices.
+// How a node stands in the slices: its fields, and the node that fields are.
 ghost use mathlib.Core.Path.{_≡_};
-ghost use Rattle.store.specs.Nodes.{fields, fieldsOf, expressionOf, Sound};
+ghost use Rattle.store.specs.Nodes.{fields, fieldsOf, expressionOf};
+ghost use Rattle.expression.specs.Nodes.{Sound};
 ghost use Rattle.store.specs.Walk.{Tells};
 use super::fields::code_of;
 use complex::Complex;
@@ -9,16 +10,7 @@ use complex::bits::to_bits;
 use expression::ExpressionFunction;
 use expression::InfixOperator;
 use expression::PrefixOperator;
-
-pub enum Expression {
-    Address(u16, u32),
-    FunctionCall(ExpressionFunction, usize),
-    Infix(InfixOperator, usize, usize),
-    Number(Complex),
-    PiConstant,
-    Prefix(PrefixOperator, usize),
-    Variable(u16),
-}
+use expression::node::Expression;
 
 // `code` is the kind by the tape's opcodes, and eight times the operator's or function's number.
 pub struct Fields {

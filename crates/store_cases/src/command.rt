@@ -5,7 +5,7 @@ use complex::bits::from_bits;
 use expression::ExpressionFunction;
 use expression::InfixOperator;
 use expression::PrefixOperator;
-use store::node::Expression;
+use expression::node::Expression;
 
 // With its line feed.
 const LINE: usize = 38;

@@ -4,9 +4,9 @@ ghost use Rattle.io.specs.Counts.{Counts};
 use command::Command;
 use command::Lent;
 use command::command_of;
+use expression::node::Expression;
 use libc::STDOUT_FILENO;
 use store::Added;
-use store::node::Expression;
 
 mod command;
 mod say;

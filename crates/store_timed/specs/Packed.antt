@@ -3,8 +3,8 @@ use Prim.Native.Nat.{ℕ, _+_, _*_, _%_}
 use mathlib.Core.Path.{_≡_}
 use Rattle.expression.specs.Refusals.{numberOf}
 use Rattle.store.specs.declared.Added.{Added}
-use Rattle.store.specs.declared.node.Expression.{Expression}
-use Rattle.store.specs.Nodes.{Within}
+use Rattle.expression.specs.declared.node.Expression.{Expression}
+use Rattle.expression.specs.Nodes.{Within}
 use Rattle.store.specs.Storing.{intern}
 use Rattle.store.specs.Memory.{Memory, treeOf, stateOf}
 use Rattle.store.specs.Held.{Holds, Built}

@@ -9,17 +9,17 @@ use lib.Seq.{sets-eq}
 use borrow.Author.Tests.{lt-ltb, le-ltb}
 use Rattle.expression.specs.declared.refusal.Refusal.{Refusal}
 use Rattle.expression.specs.Trees.{Tree, leaf, functionCall, prefixed, infixed, measure, size}
-use Rattle.store.specs.declared.node.Expression.{Expression}
-use Rattle.store.specs.Nodes.{expressionOf, grown}
+use Rattle.expression.specs.declared.node.Expression.{Expression}
+use Rattle.store.specs.Nodes.{expressionOf}
+use Rattle.expression.specs.Nodes.{grown, operandsOf}
 use Rattle.store.specs.Memory.{Memory, fieldsAt, treeAt, treeOf}
 use Rattle.store.specs.Held.{Holds}
 use Rattle.store.proofs.Stored.{read-node}
 use Rattle.text.specs.Writing.{Put}
 use Rattle.text.proofs.Putting.{put-then, put-length}
-use Rattle.listing.specs.declared.writing.Written.{Written}
-use Rattle.evaluation.specs.declared.substitution.Operands.{Operands}
-use Rattle.evaluation.specs.Run.{operandsOf}
-use Rattle.evaluation.proofs.Replacing.{nothing-under, one-under, two-under, within-one, within-two, IsNothing, IsOne, IsTwo}
+use Rattle.writing.specs.declared.Written.{Written}
+use Rattle.expression.specs.declared.node.Operands.{Operands}
+use Rattle.substitution.proofs.Replacing.{nothing-under, one-under, two-under, within-one, within-two, IsNothing, IsOne, IsTwo}
 use Rattle.steps.specs.declared.Step.{Step}
 use Rattle.steps.specs.Steps.{encoded, tapeOf}
 use Rattle.steps.proofs.Writing.{step-size, tape-size}

@@ -11,7 +11,7 @@ use borrow.Author.Tests.{lt-ltb}
 use denote.Enum.Declared.{tagOf}
 use types.Run.{OneOf}
 use Rattle.complex.specs.declared.Complex.{Complex}
-use Rattle.sheet.specs.declared.Rows.{Rows as Counts}
+use Rattle.sheet.specs.declared.Counts.{Counts}
 use Rattle.sheet.specs.Rows.{Rows}
 use Rattle.sheet.specs.Table.{rowsOf, Held}
 use Rattle.evaluation.proofs.Evaluation.{the-type}

@@ -7,11 +7,11 @@ use lib.ListN.{length, getD}
 use lib.Ieee.{nan}
 use Rattle.complex.specs.declared.Complex.{Complex}
 use Rattle.expression.specs.Trees.{number, pi, variable, cell}
-use Rattle.store.specs.declared.node.Expression.{Expression}
+use Rattle.expression.specs.declared.node.Expression.{Expression}
 use Rattle.store.specs.Memory.{Memory, memory, treeAt}
 use Rattle.store.specs.Held.{Holds}
 use Rattle.text.specs.Writing.{Put}
-use Rattle.listing.specs.declared.writing.Written.{Written}
+use Rattle.writing.specs.declared.Written.{Written}
 use Rattle.sheet.specs.Rows.{Rows}
 use Rattle.evaluation.specs.declared.Evaluation.{Evaluation}
 use Rattle.evaluation.specs.Evaluating.{calculateFunction, calculateInfix, calculatePrefix, leafValue}

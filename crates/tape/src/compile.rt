@@ -1,15 +1,15 @@
 // The tape of a node's tree, written to an output: a step a node visit, in the order of evaluation.
 ghost use mathlib.Core.Path.{_≡_};
 ghost use Rattle.tape.specs.Run.{stepFor, Emits, Compiles, Places};
-use evaluation::substitution::Operands;
-use evaluation::substitution::operands_of;
+use expression::node::Expression;
+use expression::node::Operands;
+use expression::node::operands_of;
 use expression::refusal::Refusal;
-use listing::writing::Written;
 use steps::Step;
 use steps::bytes::write_step;
-use store::node::Expression;
 use store::reading::expression_at;
 use store::reading::size_at;
+use writing::Written;
 
 // The step of a node.
 fn step_for(e: Expression) -> Step

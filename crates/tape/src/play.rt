@@ -15,7 +15,7 @@ use evaluation::bound_value;
 use evaluation::calculate::calculate_function;
 use evaluation::calculate::calculate_infix;
 use evaluation::calculate::calculate_prefix;
-use sheet::Rows;
+use sheet::Counts;
 use sheet::cell;
 use sheet::variable;
 use steps::Step;
@@ -29,17 +29,17 @@ pub struct Player {
 }
 
 // What a step puts on the stack, in place of the values x and, above it, y, as far as it takes them.
-fn step(table: &[u64], rows: Rows, s: Step, x: Complex, y: Complex) -> Evaluation
-    ensures { λ r. ⌜ (Held (now (table .entry)) rows → r ≡ valueOf (rowsOf (now (table .entry)) rows) s x y) ⌝ }
+fn step(table: &[u64], counts: Counts, s: Step, x: Complex, y: Complex) -> Evaluation
+    ensures { λ r. ⌜ (Held (now (table .entry)) counts → r ≡ valueOf (rowsOf (now (table .entry)) counts) s x y) ⌝ }
 {
     match s {
         Step::Number(z) => Evaluation::Value(z),
         Step::Pi => Evaluation::Value(pi()),
-        Step::Variable(number) => bound_value(variable(table, rows, number)),
-        Step::Memory(region, index) => bound_value(cell(table, rows, region, index)),
-        Step::Function(f) => calculate_function(table, rows, f, x),
+        Step::Variable(number) => bound_value(variable(table, counts, number)),
+        Step::Memory(region, index) => bound_value(cell(table, counts, region, index)),
+        Step::Function(f) => calculate_function(table, counts, f, x),
         Step::Prefix(o) => Evaluation::Value(calculate_prefix(o, x)),
-        Step::Infix(o) => calculate_infix(table, rows, x, o, y),
+        Step::Infix(o) => calculate_infix(table, counts, x, o, y),
     }
 }
 
@@ -53,9 +53,9 @@ fn above(slot: usize) -> usize
 
 // Plays a sound tape under the rows of a sheet. The player stays where it is: passed by value to a function for each
 // step, its thousand bytes would be copied each time.
-pub fn play(tape: &[u8], table: &[u64], rows: Rows) -> Evaluation
+pub fn play(tape: &[u8], table: &[u64], counts: Counts) -> Evaluation
     requires { ⌜ check (now tape) ≡ Checked.Sound ⌝ }
-    ensures { λ r. ⌜ (Held (now (table .entry)) rows → r ≡ played (rowsOf (now (table .entry)) rows) (now (tape .entry))) ⌝ }
+    ensures { λ r. ⌜ (Held (now (table .entry)) counts → r ≡ played (rowsOf (now (table .entry)) counts) (now (tape .entry))) ⌝ }
 {
     let count = tape.len() / 24;
     let mut player = Player {
@@ -67,7 +67,7 @@ pub fn play(tape: &[u8], table: &[u64], rows: Rows) -> Evaluation
         let s = step_of(fields_at(tape, 24 * i));
         let slot = player.depth - takes(s);
         let next = above(slot);
-        let value = step(table, rows, s, player.stack[slot], player.stack[next]);
+        let value = step(table, counts, s, player.stack[slot], player.stack[next]);
         let Evaluation::Value(z) = value else {
             return value;
         };

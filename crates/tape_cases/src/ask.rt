@@ -1,6 +1,5 @@
 // The port is asked, and everything that is stored of the right answer is compared with what it gives.
 use super::digits::read_tape;
-use listing::writing::Written;
 use replay::answer::Answer;
 use replay::answer::of_evaluated;
 use replay::answer::of_refusal;
@@ -13,6 +12,7 @@ use replay::slices::is_same;
 use replay::slices::part_of_bytes;
 use tape::Checked;
 use tape::Picked;
+use writing::Written;
 
 fn of_checked(answer: Checked) -> Answer {
     match answer {

@@ -4,7 +4,7 @@ use mathlib.Core.Path.{_≡_}
 use mathlib.Core.List.{List}
 use Rattle.sheet.specs.declared.Rows.{Rows as Counts}
 use Rattle.sheet.specs.Table.{rowsOf, Held}
-use Rattle.listing.specs.declared.writing.Written.{Written}
+use Rattle.writing.specs.declared.Written.{Written}
 use Rattle.evaluation.specs.declared.Evaluation.{Evaluation}
 use Rattle.evaluation_timed.specs.Packed.{valueOf, evaluatedOf}
 use Rattle.simplification_timed.specs.Packed.{writtenOf}

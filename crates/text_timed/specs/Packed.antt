@@ -7,9 +7,9 @@ use Rattle.expression.specs.declared.refusal.Refusal.{Refusal}
 use Rattle.expression.specs.Refusals.{numberOf, placeOf}
 use Rattle.store.specs.Memory.{Memory}
 use Rattle.listing.specs.declared.Listing.{Listing}
-use Rattle.listing.specs.declared.writing.Written.{Written}
+use Rattle.writing.specs.declared.Written.{Written}
 use Rattle.listing.specs.Tables.{Reads}
-use Rattle.listing.specs.Ordering.{Writes}
+use Rattle.writing.specs.Ordering.{Writes}
 use Rattle.sheet.specs.declared.Sheet.{Sheet}
 use Rattle.sheet.specs.Rows.{sheet}
 use Rattle.sheet.specs.Table.{seen, heldBy}

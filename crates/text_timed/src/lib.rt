@@ -7,15 +7,15 @@ ghost use Rattle.store.specs.Memory.{memory};
 ghost use Rattle.text_timed.specs.Packed.{refusedOf, listingOf, sheetOf, writtenOf, ReadsListing, ReadsSheet, WritesListing};
 use expression::refusal::Refusal;
 use listing::Listing;
-use listing::line::Line;
-use listing::line::read_node;
 use listing::read_listing;
-use listing::writing::Written;
-use listing::writing::write_listing;
+use memory::put;
+use node_lines::Line;
+use node_lines::read_node;
 use sheet::Sheet;
 use sheet::read_sheet;
-use store::memory::put;
 use store::node::fields_of;
+use writing::Written;
+use writing::write_listing;
 
 // A refusal's number above all other answers, and the line that it carries.
 fn refused(why: Refusal) -> u64

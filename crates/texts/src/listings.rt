@@ -10,8 +10,8 @@ use listing::Listing;
 use listing::Swap;
 use listing::read_listing;
 use listing::swap_of;
-use listing::writing::Written;
-use listing::writing::write_listing;
+use writing::Written;
+use writing::write_listing;
 
 // What the paper of an output has everywhere before something is written there.
 const BLANK: u8 = 0xa5;

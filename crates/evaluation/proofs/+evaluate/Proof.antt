@@ -1,6 +1,7 @@
 -- `evaluate` meets its contract: each return is a law of proofs/Valued. The measure is `below`. Assumes nothing.
 use native.Mathlib.Omega.{arith}
-use Rattle.evaluation.proofs.Valued.{within-node, function-lacks, function-is, prefix-lacks, prefix-is, left-lacks, right-lacks, infix-is, variable-is, cell-is, pi-is, number-is}
+use Rattle.store.proofs.Stored.{within-node}
+use Rattle.evaluation.proofs.Valued.{function-lacks, function-is, prefix-lacks, prefix-is, left-lacks, right-lacks, infix-is, variable-is, cell-is, pi-is, number-is}
 use borrow.Author.Needs.{needs}
 use Prim.Native.Nat.{ℕ, _<_}
 use borrow.Fn.Kinds.{In}

@@ -12,5 +12,6 @@ is-above-spec =
     (λ c. λ m t. above-first m (c .before .before .args .table .now) _ _ t (c .if1 .taken))
     (λ c. omega arith)
     (λ c. omega arith)
+    (λ c. omega arith)
     (λ c κs. search needs)
     (λ c. λ m t. rw (c .read .ensures) (above-later m (c .before .before .before .args .table .now) _ _ t (c .before .if1 .left))))

@@ -6,8 +6,9 @@ use lib.ListN.{getD}
 use Rattle.text.specs.Reading.{then}
 use Rattle.text.proofs.Running.{inside, ended-is, ended-other}
 use Rattle.text.proofs.Fields.{told, told-bad, told-below}
-use Rattle.listing.specs.Listings.{swapFields, childField}
-use Rattle.listing.proofs.Numbers.{next-two}
+use Rattle.listing.specs.Listings.{swapFields}
+use Rattle.node_lines.specs.NodeLines.{childField}
+use Rattle.node_lines.proofs.Numbers.{next-two}
 use borrow.Author.Needs.{needs}
 use Rattle.listing.proofs.read_swap.Statement.{statement}
 use Rattle.listing.proofs.read_swap.Tie as tie

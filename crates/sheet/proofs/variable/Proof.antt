@@ -11,8 +11,8 @@ variable-spec =
     tie.close
     (tie.spec
     (λ c κs. search needs)
-    (λ c. λ h. variable-missing (c .before .before .before .args .table .now) (c .before .before .before .args .rows) h _ _ (c .before .search .ensures .1 (omega (arith, h .variables)) (plain-keys (c .before .before .before .args .table .now) _ (h .numbers))) (c .if1 .taken))
+    (λ c. λ h. variable-missing (c .before .before .before .args .table .now) (c .before .before .before .args .counts) h _ _ (c .before .search .ensures .1 (omega (arith, h .variables)) (plain-keys (c .before .before .before .args .table .now) _ (h .numbers))) (c .if1 .taken))
     (λ c. omega (arith, c .before .search .ensures .0 (c .if1 .left)))
     (λ c. omega (arith, c .before .search .ensures .0 (c .if1 .left)))
     (λ c κs. omega (arith, c .before .search .ensures .0 (c .if1 .left)))
-    (λ c. λ h. rw (c .number-at .ensures) (variable-found (c .before .before .before .before .args .table .now) (c .before .before .before .before .args .rows) h _ _ (c .before .before .search .ensures .1 (omega (arith, h .variables)) (plain-keys (c .before .before .before .before .args .table .now) _ (h .numbers))) (c .before .if1 .left))))
+    (λ c. λ h. rw (c .number-at .ensures) (variable-found (c .before .before .before .before .args .table .now) (c .before .before .before .before .args .counts) h _ _ (c .before .before .search .ensures .1 (omega (arith, h .variables)) (plain-keys (c .before .before .before .before .args .table .now) _ (h .numbers))) (c .before .if1 .left))))

@@ -1,6 +1,6 @@
 -- `store_value` meets its contract. Assumes nothing.
 use mathlib.Core.Path.{refl}
-use Rattle.store.specs.Nodes.{grown}
+use Rattle.expression.specs.Nodes.{grown}
 use Rattle.store.proofs.Building.{refuses}
 use Rattle.simplification.specs.Simplifying.{foldedTo}
 use borrow.Author.Needs.{needs}

@@ -1,7 +1,7 @@
 -- `depth_of` meets its contract: by the kind of the node; a depth that is read is small. Assumes nothing.
 use mathlib.Core.Path.{refl}
 use borrow.Author.Needs.{needs}
-use Rattle.store.specs.Nodes.{measureFrom}
+use Rattle.expression.specs.Nodes.{measureFrom}
 use Rattle.store.proofs.Packing.{depth-small}
 use Rattle.store.proofs.depth_of.Statement.{statement}
 use Rattle.store.proofs.depth_of.Tie as tie

@@ -1,7 +1,7 @@
 -- `size_of` meets its contract: by the kind of the node; a size that is read is small. Assumes nothing.
 use mathlib.Core.Path.{refl}
 use borrow.Author.Needs.{needs}
-use Rattle.store.specs.Nodes.{measureFrom}
+use Rattle.expression.specs.Nodes.{measureFrom}
 use Rattle.store.proofs.Packing.{size-small}
 use Rattle.store.proofs.size_of.Statement.{statement}
 use Rattle.store.proofs.size_of.Tie as tie

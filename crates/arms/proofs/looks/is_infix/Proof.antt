@@ -1,7 +1,7 @@
 -- `is_infix` meets its contract. Assumes nothing.
 use mathlib.Core.Path.{refl}
 use lib.Dec.{eqb}
-use Rattle.store.specs.Nodes.{grown}
+use Rattle.expression.specs.Nodes.{grown}
 use Rattle.arms.specs.Looks.{isInfix}
 use borrow.Author.Needs.{needs}
 use Rattle.arms.proofs.looks.is_infix.Statement.{statement}

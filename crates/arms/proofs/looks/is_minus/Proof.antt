@@ -1,6 +1,6 @@
 -- `is_minus` meets its contract. Assumes nothing.
 use mathlib.Core.Path.{refl}
-use Rattle.store.specs.Nodes.{grown}
+use Rattle.expression.specs.Nodes.{grown}
 use Rattle.arms.specs.Looks.{isNegation}
 use borrow.Author.Needs.{needs}
 use Rattle.arms.proofs.looks.is_minus.Statement.{statement}

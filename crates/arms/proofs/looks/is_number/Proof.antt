@@ -1,6 +1,6 @@
 -- `is_number` meets its contract. Assumes nothing.
 use mathlib.Core.Path.{refl}
-use Rattle.store.specs.Nodes.{grown}
+use Rattle.expression.specs.Nodes.{grown}
 use Rattle.arms.specs.Looks.{isNumberOf}
 use borrow.Author.Needs.{needs}
 use Rattle.arms.proofs.looks.is_number.Statement.{statement}

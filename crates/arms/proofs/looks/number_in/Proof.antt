@@ -1,6 +1,6 @@
 -- `number_in` meets its contract. Assumes nothing.
 use mathlib.Core.Path.{refl}
-use Rattle.store.specs.Nodes.{grown}
+use Rattle.expression.specs.Nodes.{grown}
 use Rattle.arms.specs.Looks.{numberIn}
 use borrow.Author.Needs.{needs}
 use Rattle.arms.proofs.looks.number_in.Statement.{statement}

@@ -1,6 +1,6 @@
 -- `operand_in` meets its contract. Assumes nothing.
 use mathlib.Core.Path.{refl}
-use Rattle.store.specs.Nodes.{grown}
+use Rattle.expression.specs.Nodes.{grown}
 use Rattle.arms.specs.Looks.{isNegation, under}
 use Rattle.arms.proofs.Looking.{never}
 use borrow.Author.Needs.{needs}

@@ -1,6 +1,6 @@
 -- `right_in` meets its contract. Assumes nothing.
 use mathlib.Core.Path.{refl}
-use Rattle.store.specs.Nodes.{grown}
+use Rattle.expression.specs.Nodes.{grown}
 use Rattle.arms.specs.Looks.{isInfix, right}
 use Rattle.arms.proofs.Looking.{never}
 use borrow.Author.Needs.{needs}

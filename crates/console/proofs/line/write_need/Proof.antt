@@ -6,21 +6,21 @@ use borrow.Author.Needs.{needs}
 use Rattle.console.proofs.line.write_need.Statement.{statement}
 use Rattle.console.proofs.line.write_need.Tie as tie
 
-write-name-requires : tie.Need-write-name-requires
-write-name-requires c κs = omega (arith, c .before .before .before .before .before .before .before .pre, c .before .before .before .write-bytes .ensures .place, put-length (c .before .before .before .write-bytes .ensures), name-short (c .before .before .before .before .before .before .before .args .operation))
+write-operation-requires : tie.Need-write-operation-requires
+write-operation-requires c κs = omega (arith, c .before .before .before .before .before .before .before .pre, c .before .before .before .write-bytes .ensures .place, put-length (c .before .before .before .write-bytes .ensures), name-short (c .before .before .before .before .before .before .before .args .operation))
 
 write-byte-requires : tie.Need-write-byte-requires
-write-byte-requires c κs = omega (arith, c .before .before .before .before .before .before .before .before .before .before .before .pre, c .before .before .before .before .before .before .before .write-bytes .ensures .place, put-length (c .before .before .before .before .before .before .before .write-bytes .ensures), name-short (c .before .before .before .before .before .before .before .before .before .before .before .args .operation), c .before .before .before .write-name .ensures .place, put-length (c .before .before .before .write-name .ensures))
+write-byte-requires c κs = omega (arith, c .before .before .before .before .before .before .before .before .before .before .before .pre, c .before .before .before .before .before .before .before .write-bytes .ensures .place, put-length (c .before .before .before .before .before .before .before .write-bytes .ensures), name-short (c .before .before .before .before .before .before .before .before .before .before .before .args .operation), c .before .before .before .write-operation .ensures .place, put-length (c .before .before .before .write-operation .ensures))
 
 write-parts-requires : tie.Need-write-parts-requires
-write-parts-requires c κs = omega (arith, c .before .before .before .before .before .before .before .before .before .before .before .before .before .before .before .pre, c .before .before .before .before .before .before .before .before .before .before .before .write-bytes .ensures .place, put-length (c .before .before .before .before .before .before .before .before .before .before .before .write-bytes .ensures), name-short (c .before .before .before .before .before .before .before .before .before .before .before .before .before .before .before .args .operation), c .before .before .before .before .before .before .before .write-name .ensures .place, put-length (c .before .before .before .before .before .before .before .write-name .ensures), c .before .before .before .write-byte .ensures .place, put-length (c .before .before .before .write-byte .ensures))
+write-parts-requires c κs = omega (arith, c .before .before .before .before .before .before .before .before .before .before .before .before .before .before .before .pre, c .before .before .before .before .before .before .before .before .before .before .before .write-bytes .ensures .place, put-length (c .before .before .before .before .before .before .before .before .before .before .before .write-bytes .ensures), name-short (c .before .before .before .before .before .before .before .before .before .before .before .before .before .before .before .args .operation), c .before .before .before .before .before .before .before .write-operation .ensures .place, put-length (c .before .before .before .before .before .before .before .write-operation .ensures), c .before .before .before .write-byte .ensures .place, put-length (c .before .before .before .write-byte .ensures))
 
 write-parts-requires-2 : tie.Need-write-parts-requires-2
-write-parts-requires-2 c κs = omega (arith, c .before .before .before .before .before .before .before .before .before .before .before .before .before .before .before .before .before .before .before .pre, c .before .before .before .before .before .before .before .before .before .before .before .before .before .before .before .write-bytes .ensures .place, put-length (c .before .before .before .before .before .before .before .before .before .before .before .before .before .before .before .write-bytes .ensures), name-short (c .before .before .before .before .before .before .before .before .before .before .before .before .before .before .before .before .before .before .before .args .operation), c .before .before .before .before .before .before .before .before .before .before .before .write-name .ensures .place, put-length (c .before .before .before .before .before .before .before .before .before .before .before .write-name .ensures), c .before .before .before .before .before .before .before .write-byte .ensures .place, put-length (c .before .before .before .before .before .before .before .write-byte .ensures), c .before .before .before .write-parts .ensures .place, put-length (c .before .before .before .write-parts .ensures), parts-length (c .before .before .before .before .before .before .before .before .before .before .before .before .before .before .before .before .before .before .before .args .x) 9)
+write-parts-requires-2 c κs = omega (arith, c .before .before .before .before .before .before .before .before .before .before .before .before .before .before .before .before .before .before .before .pre, c .before .before .before .before .before .before .before .before .before .before .before .before .before .before .before .write-bytes .ensures .place, put-length (c .before .before .before .before .before .before .before .before .before .before .before .before .before .before .before .write-bytes .ensures), name-short (c .before .before .before .before .before .before .before .before .before .before .before .before .before .before .before .before .before .before .before .args .operation), c .before .before .before .before .before .before .before .before .before .before .before .write-operation .ensures .place, put-length (c .before .before .before .before .before .before .before .before .before .before .before .write-operation .ensures), c .before .before .before .before .before .before .before .write-byte .ensures .place, put-length (c .before .before .before .before .before .before .before .write-byte .ensures), c .before .before .before .write-parts .ensures .place, put-length (c .before .before .before .write-parts .ensures), parts-length (c .before .before .before .before .before .before .before .before .before .before .before .before .before .before .before .before .before .before .before .args .x) 9)
 
 returns : tie.Need-returns
 returns c =
-    put-line (rw (need-text (c .before .before .before .before .before .before .before .before .before .before .before .before .before .before .before .before .before .before .before .before .before .before .args .operation) (c .before .before .before .before .before .before .before .before .before .before .before .before .before .before .before .before .before .before .before .before .before .before .args .x) (c .before .before .before .before .before .before .before .before .before .before .before .before .before .before .before .before .before .before .before .before .before .before .args .y)) (put-then (c .before .before .before .before .before .before .before .before .before .before .before .before .before .before .before .before .before .before .write-bytes .ensures) (put-then (c .before .before .before .before .before .before .before .before .before .before .before .before .before .before .write-name .ensures) (put-then (c .before .before .before .before .before .before .before .before .before .before .write-byte .ensures) (put-then (c .before .before .before .before .before .before .write-parts .ensures) (c .before .before .write-parts2 .ensures)))))) (need-short (c .before .before .before .before .before .before .before .before .before .before .before .before .before .before .before .before .before .before .before .before .before .before .args .operation) (c .before .before .before .before .before .before .before .before .before .before .before .before .before .before .before .before .before .before .before .before .before .before .args .x) (c .before .before .before .before .before .before .before .before .before .before .before .before .before .before .before .before .before .before .before .before .before .before .args .y)) (c .before .before .before .before .before .before .before .before .before .before .before .before .before .before .before .before .before .before .before .before .before .before .pre)
+    put-line (rw (need-text (c .before .before .before .before .before .before .before .before .before .before .before .before .before .before .before .before .before .before .before .before .before .before .args .operation) (c .before .before .before .before .before .before .before .before .before .before .before .before .before .before .before .before .before .before .before .before .before .before .args .x) (c .before .before .before .before .before .before .before .before .before .before .before .before .before .before .before .before .before .before .before .before .before .before .args .y)) (put-then (c .before .before .before .before .before .before .before .before .before .before .before .before .before .before .before .before .before .before .write-bytes .ensures) (put-then (c .before .before .before .before .before .before .before .before .before .before .before .before .before .before .write-operation .ensures) (put-then (c .before .before .before .before .before .before .before .before .before .before .write-byte .ensures) (put-then (c .before .before .before .before .before .before .write-parts .ensures) (c .before .before .write-parts2 .ensures)))))) (need-short (c .before .before .before .before .before .before .before .before .before .before .before .before .before .before .before .before .before .before .before .before .before .before .args .operation) (c .before .before .before .before .before .before .before .before .before .before .before .before .before .before .before .before .before .before .before .before .before .before .args .x) (c .before .before .before .before .before .before .before .before .before .before .before .before .before .before .before .before .before .before .before .before .before .before .args .y)) (c .before .before .before .before .before .before .before .before .before .before .before .before .before .before .before .before .before .before .before .before .before .before .pre)
 
 pub write-need-spec : {M : Type 1} → statement M
 write-need-spec =
@@ -28,7 +28,7 @@ write-need-spec =
     (tie.spec
     (λ c. search needs)
     (λ c κs. search needs)
-    write-name-requires
+    write-operation-requires
     write-byte-requires
     write-parts-requires
     write-parts-requires-2

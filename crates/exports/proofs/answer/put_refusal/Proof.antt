@@ -22,4 +22,4 @@ put-refusal-spec =
     (λ c κs. search needs)
     (λ c κs. search needs)
     (λ c. search needs)
-    (λ c. lacks (c .before .before .before .before .before .before .before .before .before .before .before .why .given .1) (c .before .before .before .before .before .before .before .before .number2 .ensures) (c .before .before .before .before .before .before .before .operation-number .ensures) (c .before .before .before .before .before .before .to-bits .ensures) (c .before .before .before .before .before .to-bits2 .ensures) (c .before .before .before .before .to-bits3 .ensures) (c .before .before .before .to-bits4 .ensures) (c .before .before .put-words2 .ensures)))
+    (λ c. lacks (c .before .before .before .before .before .before .before .before .before .before .before .why .given .1) (c .before .before .before .before .before .before .before .before .number2 .ensures) (c .before .before .before .before .before .before .before .code .ensures) (c .before .before .before .before .before .before .to-bits .ensures) (c .before .before .before .before .before .to-bits2 .ensures) (c .before .before .before .before .to-bits3 .ensures) (c .before .before .before .to-bits4 .ensures) (c .before .before .put-words2 .ensures)))

@@ -8,10 +8,10 @@ pub cell-may-spec : {M : Type 1} → statement M
 cell-may-spec =
     tie.close
     (tie.spec
-    (λ c. cells-after-rows (c .before .before .before .args .table .now) (c .before .before .before .args .rows) _ (c .if1 .taken))
-    (λ c. first-cell (c .before .before .before .before .args .table .now) (c .before .before .before .before .args .rows) _ (c .before .if1 .left) (c .if2 .taken))
+    (λ c. cells-after-rows (c .before .before .before .args .table .now) (c .before .before .before .args .counts) _ (c .if1 .taken))
+    (λ c. first-cell (c .before .before .before .before .args .table .now) (c .before .before .before .before .args .counts) _ (c .before .if1 .left) (c .if2 .taken))
     (λ c. search needs)
     (λ c. search needs)
     (λ c. search needs)
     (λ c κs. search needs)
-    (λ c. rw (c .read .ensures) (next-cell (c .before .before .before .before .before .args .table .now) (c .before .before .before .before .before .args .rows) _ (c .before .before .if1 .left) (c .before .if2 .left))))
+    (λ c. rw (c .read .ensures) (next-cell (c .before .before .before .before .before .args .table .now) (c .before .before .before .before .before .args .counts) _ (c .before .before .if1 .left) (c .before .if2 .left))))

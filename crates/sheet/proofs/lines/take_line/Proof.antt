@@ -23,4 +23,4 @@ take-line-spec =
     (λ c. search needs)
     (λ c. as-line (c .before .before .take-row .ensures) (at-row _ _ _ (c .before .before .before .before .if3 .taken)))
     (λ c κs. omega (arith, c .before .before .before .before .before .before .pre .2 .variables, c .before .before .before .before .before .before .pre .2 .cells, c .before .before .before .before .before .before .pre .2 .functions))
-    (λ c. refuses (at-other (c .before .before .before .before .before .before .before .args .table .now) (c .before .before .before .before .before .before .before .args .rows) (c .line-number .result) (c .line-number .ensures) _ _ (c .before .before .before .if1 .left) (c .before .before .if2 .left) (c .before .if3 .left))))
+    (λ c. refuses (at-other (c .before .before .before .before .before .before .before .args .table .now) (c .before .before .before .before .before .before .before .args .counts) (c .line-number .result) (c .line-number .ensures) _ _ (c .before .before .before .if1 .left) (c .before .before .if2 .left) (c .before .if3 .left))))

@@ -10,12 +10,12 @@ take-row-spec =
     tie.close
     (tie.spec
     (λ c κs. omega (arith, c .before .before .pre .1 .variables, c .before .before .pre .1 .cells, c .before .before .pre .1 .functions))
-    (λ c. refuses (row-many (c .before .before .before .before .args .table .now) (c .before .before .before .before .args .rows) (c .before .line-number .result) (c .before .line-number .ensures) _ _ (c .if1 .taken)))
+    (λ c. refuses (row-many (c .before .before .before .before .args .table .now) (c .before .before .before .before .args .counts) (c .before .line-number .result) (c .before .line-number .ensures) _ _ (c .if1 .taken)))
     (λ c κs. search needs)
     (λ c. search needs)
     (λ c. search needs)
-    (λ c. refuses (row-malformed (c .before .before .before .before .before .before .before .args .table .now) (c .before .before .before .before .before .before .before .args .rows) (c .before .before .before .before .line-number .result) (c .before .before .before .before .line-number .ensures) _ _ (c .before .before .before .if1 .left) (rw (c .enum-told .given .1) at (c .before .before .read-row .ensures .0))))
+    (λ c. refuses (row-malformed (c .before .before .before .before .before .before .before .args .table .now) (c .before .before .before .before .before .before .before .args .counts) (c .before .before .before .before .line-number .result) (c .before .before .before .before .line-number .ensures) _ _ (c .before .before .before .if1 .left) (rw (c .enum-told .given .1) at (c .before .before .read-row .ensures .0))))
     (λ c κs. c .before .before .before .before .before .if1 .left)
     (λ c. omega arith)
     (λ c. search needs)
-    (λ c. rw (c .before .before .put-row .ensures) (row-taken _ (c .before .before .before .before .before .before .before .before .before .before .before .before .args .table .now) (c .before .before .before .before .before .before .before .before .before .before .before .before .args .rows) (c .before .before .before .before .before .before .before .before .before .before .before .before .pre .1) (c .before .before .before .before .before .before .before .before .before .before .before .before .pre .0) (c .before .before .before .before .before .before .before .before .before .line-number .result) (c .before .before .before .before .before .before .before .before .before .line-number .ensures) _ _ _ _ _ _ _ (c .before .before .before .before .before .before .before .before .if1 .left) (rw (c .before .before .before .before .before .fields .given .1) at (c .before .before .before .before .before .before .before .read-row .ensures .1)) (rw (c .before .before .before .before .before .fields .given .1) at (c .before .before .before .before .before .before .before .read-row .ensures .0)))))
+    (λ c. rw (c .before .before .put-row .ensures) (row-taken _ (c .before .before .before .before .before .before .before .before .before .before .before .before .args .table .now) (c .before .before .before .before .before .before .before .before .before .before .before .before .args .counts) (c .before .before .before .before .before .before .before .before .before .before .before .before .pre .1) (c .before .before .before .before .before .before .before .before .before .before .before .before .pre .0) (c .before .before .before .before .before .before .before .before .before .line-number .result) (c .before .before .before .before .before .before .before .before .before .line-number .ensures) _ _ _ _ _ _ _ (c .before .before .before .before .before .before .before .before .if1 .left) (rw (c .before .before .before .before .before .fields .given .1) at (c .before .before .before .before .before .before .before .read-row .ensures .1)) (rw (c .before .before .before .before .before .fields .given .1) at (c .before .before .before .before .before .before .before .read-row .ensures .0)))))

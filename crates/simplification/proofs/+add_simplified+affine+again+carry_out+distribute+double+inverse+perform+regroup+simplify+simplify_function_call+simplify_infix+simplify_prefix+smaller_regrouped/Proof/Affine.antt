@@ -4,7 +4,7 @@ use mathlib.Core.Path.{_∙_}
 use lib.Dec.{lit<}
 use borrow.Author.Needs.{needs}
 use Prim.Native.Nat.{ℕ}
-use Rattle.store.specs.Nodes.{grown}
+use Rattle.expression.specs.Nodes.{grown}
 use Rattle.simplification.proofs.again.Reads as again
 use Rattle.simplification.proofs.regroup.Reads as regroup
 use Rattle.simplification.proofs.affine.Reads as affine

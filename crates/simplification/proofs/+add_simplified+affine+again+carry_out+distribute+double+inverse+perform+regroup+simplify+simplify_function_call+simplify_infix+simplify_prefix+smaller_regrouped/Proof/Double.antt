@@ -5,7 +5,7 @@ use mathlib.Core.Path.{_∙_}
 use lib.Dec.{lit<}
 use borrow.Author.Needs.{needs}
 use Prim.Native.Nat.{ℕ}
-use Rattle.store.specs.Nodes.{grown}
+use Rattle.expression.specs.Nodes.{grown}
 use Rattle.complex.proofs.constants.two.Reads as two-reads
 use Rattle.store.proofs.add.Reads as add-reads
 use Rattle.simplification.proofs.add_simplified.Reads as add-simplified

@@ -5,7 +5,7 @@ use mathlib.Core.Path.{sym, _∙_}
 use lib.Dec.{lit<}
 use borrow.Author.Needs.{needs}
 use Prim.Native.Nat.{ℕ}
-use Rattle.store.specs.Nodes.{grown}
+use Rattle.expression.specs.Nodes.{grown}
 use Rattle.simplification.specs.Simplifying.{perform}
 use Rattle.simplification.proofs.is_pi.Reads as is-pi-reads
 use Rattle.complex.proofs.constants.pi.Reads as pi-reads

@@ -9,7 +9,7 @@ use borrow.Fn.PlainCycle.{Measures, is, falls, and}
 use Rattle.tape.proofs.compile.emit.Reads as emit
 use Rattle.tape.proofs.compile.emit.Kinds as emit-kinds
 use Rattle.tape.proofs.compile.+emit.Lts-emit as emit-lts
-use Rattle.evaluation.proofs.substitution.operands_of.Reads as operands-of-reads
+use Rattle.expression.proofs.node.operands_of.Reads as operands-of-reads
 use Rattle.store.proofs.reading.expression_at.Reads as expression-at-reads
 use Rattle.tape.proofs.compile.place_step.Reads as place-step-reads
 use Rattle.tape.proofs.compile.step_for.Reads as step-for-reads

@@ -1,0 +1,5 @@
+-- The laws that the proofs of this crate, and where `pub` those of its callers, cite.
+pub mod Slices
+pub mod Values
+pub mod Ascending
+mod Seeking

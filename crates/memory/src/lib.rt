@@ -1,0 +1,34 @@
+// Lent memory: words that are read and written at any place, cleared, and sought by halving, and where things stand in the
+// table that a call lends.
+ghost use mathlib.Core.Path.{_≡_};
+ghost use lib.ListN.{getD, set, length, replicate};
+
+pub mod halving;
+pub mod layout;
+
+// The number at i; past the end 0.
+pub fn read(s: &[u64], i: usize) -> u64
+    ensures { λ r. ⌜ r ≡ getD (now (s .entry)) i 0 ⌝ }
+{
+    if i < s.len() { s[i] } else { 0 }
+}
+
+// The number at i becomes v; past the end nothing does.
+pub fn put(s: &mut [u64], i: usize, v: u64)
+    ensures { λ _. ⌜ now (s .exit) ≡ set (now (s .entry)) i v ⌝ }
+{
+    if i < s.len() {
+        s[i] = v;
+    }
+}
+
+// Zero over the whole length.
+pub fn zero(s: &mut [u64])
+    ensures { λ _. ⌜ now (s .exit) ≡ replicate (length (now (s .entry))) 0 ⌝ }
+{
+    let mut i = 0;
+    while i < s.len() {
+        s[i] = 0;
+        i += 1;
+    }
+}

@@ -1,0 +1,26 @@
+-- `read_function` meets its contract. Assumes nothing.
+use mathlib.Core.Path.{sym, ap, _∙_}
+use Rattle.expression.specs.Nodes.{grown}
+use Rattle.text.specs.Reading.{then, ended}
+use Rattle.node_lines.specs.NodeLines.{functionFields, childField}
+use Rattle.text.proofs.Fields.{told, told-bad, told-below}
+use borrow.Author.Needs.{needs}
+use Rattle.node_lines.proofs.read_function.Statement.{statement}
+use Rattle.node_lines.proofs.read_function.Tie as tie
+
+pub read-function-spec : {M : Type 1} → statement M
+unfolding functionFields childField then grown
+read-function-spec =
+    tie.close
+    (tie.spec
+    (λ c κs. search needs)
+    (λ c κs. search needs)
+    (λ c. search needs)
+    (λ c. search needs)
+    (λ c. record { seen = λ earlier q. sym (rw (told-bad (c .before .before .before .before .before .args .s .now) (c .before .before .end-field .ensures ∙ ap (ended 9) (c .before .before .before .function-at .ensures)) (c .enum-told .given .1))); within = tt })
+    (λ c κs. search needs)
+    (λ c. search needs)
+    (λ c. search needs)
+    (λ c. record { seen = λ earlier q. sym (rw (told (c .before .before .before .before .before .before .before .before .before .args .s .now) (c .before .before .before .before .before .before .end-field .ensures ∙ ap (ended 9) (c .before .before .before .before .before .before .before .function-at .ensures)) (c .before .before .before .before .x .given .1), q, told-bad (c .before .before .before .before .before .before .before .before .before .args .s .now) (c .before .before .decimal-field .ensures) (c .enum-told2 .given .1))); within = tt })
+    (λ c κs. search needs)
+    (λ c. record { seen = λ earlier q. sym (rw (told (c .before .before .before .before .before .before .before .before .before .before .before .args .s .now) (c .before .before .before .before .before .before .before .before .end-field .ensures ∙ ap (ended 9) (c .before .before .before .before .before .before .before .before .before .function-at .ensures)) (c .before .before .before .before .before .before .x .given .1), q, told (c .before .before .before .before .before .before .before .before .before .before .before .args .s .now) (c .before .before .before .before .decimal-field .ensures) (c .before .before .y .given .1), c .from-code .ensures)); within = told-below (c .before .before .before .before .before .before .before .before .before .before .before .args .s .now) _ _ _ (c .before .before .before .before .decimal-field .ensures) (c .before .before .y .given .1) }))

@@ -1,0 +1,30 @@
+-- `read_infix` meets its contract. Assumes nothing.
+use mathlib.Core.Path.{sym, ap, _∙_}
+use Rattle.expression.specs.Nodes.{grown}
+use Rattle.text.specs.Reading.{then, ended}
+use Rattle.node_lines.specs.NodeLines.{infixFields, childField}
+use Rattle.text.proofs.Fields.{told, told-bad, told-below}
+use borrow.Author.Needs.{needs}
+use Rattle.node_lines.proofs.read_infix.Statement.{statement}
+use Rattle.node_lines.proofs.read_infix.Tie as tie
+
+pub read-infix-spec : {M : Type 1} → statement M
+unfolding infixFields childField then grown
+read-infix-spec =
+    tie.close
+    (tie.spec
+    (λ c κs. search needs)
+    (λ c κs. search needs)
+    (λ c. search needs)
+    (λ c. search needs)
+    (λ c. record { seen = λ earlier q. sym (rw (told-bad (c .before .before .before .before .before .args .s .now) (c .before .before .end-field .ensures ∙ ap (ended 9) (c .before .before .before .infix-at .ensures)) (c .enum-told .given .1))); within = tt })
+    (λ c κs. search needs)
+    (λ c. search needs)
+    (λ c. search needs)
+    (λ c. record { seen = λ earlier q. sym (rw (told (c .before .before .before .before .before .before .before .before .before .args .s .now) (c .before .before .before .before .before .before .end-field .ensures ∙ ap (ended 9) (c .before .before .before .before .before .before .before .infix-at .ensures)) (c .before .before .before .before .x .given .1), q, told-bad (c .before .before .before .before .before .before .before .before .before .args .s .now) (c .before .before .decimal-field .ensures) (c .enum-told2 .given .1))); within = tt })
+    (λ c κs. search needs)
+    (λ c. search needs)
+    (λ c. search needs)
+    (λ c. record { seen = λ earlier q. sym (rw (told (c .before .before .before .before .before .before .before .before .before .before .before .before .before .args .s .now) (c .before .before .before .before .before .before .before .before .before .before .end-field .ensures ∙ ap (ended 9) (c .before .before .before .before .before .before .before .before .before .before .before .infix-at .ensures)) (c .before .before .before .before .before .before .before .before .x .given .1), q, told (c .before .before .before .before .before .before .before .before .before .before .before .before .before .args .s .now) (c .before .before .before .before .before .before .decimal-field .ensures) (c .before .before .before .before .y .given .1), told-bad (c .before .before .before .before .before .before .before .before .before .before .before .before .before .args .s .now) (c .before .before .decimal-field2 .ensures) (c .enum-told3 .given .1))); within = tt })
+    (λ c κs. search needs)
+    (λ c. record { seen = λ earlier q. sym (rw (told (c .before .before .before .before .before .before .before .before .before .before .before .before .before .before .before .args .s .now) (c .before .before .before .before .before .before .before .before .before .before .before .before .end-field .ensures ∙ ap (ended 9) (c .before .before .before .before .before .before .before .before .before .before .before .before .before .infix-at .ensures)) (c .before .before .before .before .before .before .before .before .before .before .x .given .1), q, told (c .before .before .before .before .before .before .before .before .before .before .before .before .before .before .before .args .s .now) (c .before .before .before .before .before .before .before .before .decimal-field .ensures) (c .before .before .before .before .before .before .y .given .1), told (c .before .before .before .before .before .before .before .before .before .before .before .before .before .before .before .args .s .now) (c .before .before .before .before .decimal-field2 .ensures) (c .before .before .z .given .1), c .from-code .ensures)); within = (told-below (c .before .before .before .before .before .before .before .before .before .before .before .before .before .before .before .args .s .now) _ _ _ (c .before .before .before .before .before .before .before .before .decimal-field .ensures) (c .before .before .before .before .before .before .y .given .1), told-below (c .before .before .before .before .before .before .before .before .before .before .before .before .before .before .before .args .s .now) _ _ _ (c .before .before .before .before .decimal-field2 .ensures) (c .before .before .z .given .1)) }))

@@ -1,0 +1,3 @@
+-- The definitions that the contracts of `node_lines` cite. To believe: NodeLines; Seen only connects.
+pub mod NodeLines
+pub mod Seen

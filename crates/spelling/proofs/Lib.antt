@@ -1,0 +1,1 @@
+-- This crate needs no laws of its own; each proof stands with its function.

@@ -1,0 +1,33 @@
+-- `name_at` meets its contract. Assumes nothing.
+use mathlib.Core.Path.{sym, _∙_}
+use mathlib.Core.List.{[], _∷_}
+use native.Mathlib.Omega.{arith}
+use Rattle.text.proofs.Fields.{word-inside, name-here, name-later, name-none}
+use borrow.Author.Needs.{needs}
+use Rattle.spelling.proofs.name_at.Statement.{statement}
+use Rattle.spelling.proofs.name_at.Tie as tie
+
+pub name-at-spec : {M : Type 1} → statement M
+name-at-spec =
+    tie.close
+    (tie.spec
+    (λ c. search needs)
+    (λ c κs. search needs)
+    (λ c. let l = word-inside (115 ∷ 105 ∷ 110 ∷ []) (c .before .before .before .before .before .args .s .now) (c .before .before .before .before .before .args .at) (omega arith) (sym (c .before .word-at .ensures) ∙ c .if1 .taken) in omega (arith, l))
+    (λ c. sym (name-here _ _ _ (c .before .before .before .before .before .args .s .now) (c .before .before .before .before .before .args .at) (sym (c .before .word-at .ensures) ∙ c .if1 .taken)))
+    (λ c. search needs)
+    (λ c κs. search needs)
+    (λ c. let l = word-inside (99 ∷ 111 ∷ 115 ∷ []) (c .before .before .before .before .before .before .before .before .args .s .now) (c .before .before .before .before .before .before .before .before .args .at) (omega arith) (sym (c .before .word-at2 .ensures) ∙ c .if2 .taken) in omega (arith, l))
+    (λ c. sym (name-later _ _ _ (c .before .before .before .before .before .before .before .before .args .s .now) (c .before .before .before .before .before .before .before .before .args .at) (sym (c .before .before .before .before .word-at .ensures) ∙ c .before .before .before .if1 .left) ∙ name-here _ _ _ (c .before .before .before .before .before .before .before .before .args .s .now) (c .before .before .before .before .before .before .before .before .args .at) (sym (c .before .word-at2 .ensures) ∙ c .if2 .taken)))
+    (λ c. search needs)
+    (λ c κs. search needs)
+    (λ c. let l = word-inside (101 ∷ 120 ∷ 112 ∷ []) (c .before .before .before .before .before .before .before .before .before .before .before .args .s .now) (c .before .before .before .before .before .before .before .before .before .before .before .args .at) (omega arith) (sym (c .before .word-at3 .ensures) ∙ c .if3 .taken) in omega (arith, l))
+    (λ c. sym (name-later _ _ _ (c .before .before .before .before .before .before .before .before .before .before .before .args .s .now) (c .before .before .before .before .before .before .before .before .before .before .before .args .at) (sym (c .before .before .before .before .before .before .before .word-at .ensures) ∙ c .before .before .before .before .before .before .if1 .left) ∙ name-later _ _ _ (c .before .before .before .before .before .before .before .before .before .before .before .args .s .now) (c .before .before .before .before .before .before .before .before .before .before .before .args .at) (sym (c .before .before .before .before .word-at2 .ensures) ∙ c .before .before .before .if2 .left) ∙ name-here _ _ _ (c .before .before .before .before .before .before .before .before .before .before .before .args .s .now) (c .before .before .before .before .before .before .before .before .before .before .before .args .at) (sym (c .before .word-at3 .ensures) ∙ c .if3 .taken)))
+    (λ c. search needs)
+    (λ c κs. search needs)
+    (λ c. let l = word-inside (115 ∷ 113 ∷ 114 ∷ 116 ∷ []) (c .before .before .before .before .before .before .before .before .before .before .before .before .before .before .args .s .now) (c .before .before .before .before .before .before .before .before .before .before .before .before .before .before .args .at) (omega arith) (sym (c .before .word-at4 .ensures) ∙ c .if4 .taken) in omega (arith, l))
+    (λ c. sym (name-later _ _ _ (c .before .before .before .before .before .before .before .before .before .before .before .before .before .before .args .s .now) (c .before .before .before .before .before .before .before .before .before .before .before .before .before .before .args .at) (sym (c .before .before .before .before .before .before .before .before .before .before .word-at .ensures) ∙ c .before .before .before .before .before .before .before .before .before .if1 .left) ∙ name-later _ _ _ (c .before .before .before .before .before .before .before .before .before .before .before .before .before .before .args .s .now) (c .before .before .before .before .before .before .before .before .before .before .before .before .before .before .args .at) (sym (c .before .before .before .before .before .before .before .word-at2 .ensures) ∙ c .before .before .before .before .before .before .if2 .left) ∙ name-later _ _ _ (c .before .before .before .before .before .before .before .before .before .before .before .before .before .before .args .s .now) (c .before .before .before .before .before .before .before .before .before .before .before .before .before .before .args .at) (sym (c .before .before .before .before .word-at3 .ensures) ∙ c .before .before .before .if3 .left) ∙ name-here _ _ _ (c .before .before .before .before .before .before .before .before .before .before .before .before .before .before .args .s .now) (c .before .before .before .before .before .before .before .before .before .before .before .before .before .before .args .at) (sym (c .before .word-at4 .ensures) ∙ c .if4 .taken)))
+    (λ c κs. search needs)
+    (λ c. let l = word-inside (c .before .before .before .before .before .before .before .before .before .before .before .before .before .before .before .before .args .fifth .now) (c .before .before .before .before .before .before .before .before .before .before .before .before .before .before .before .before .args .s .now) (c .before .before .before .before .before .before .before .before .before .before .before .before .before .before .before .before .args .at) (c .before .before .before .before .before .before .before .before .before .before .before .before .before .before .before .before .pre) (sym (c .before .word-at5 .ensures) ∙ c .if5 .taken) in omega (arith, l))
+    (λ c. sym (name-later _ _ _ (c .before .before .before .before .before .before .before .before .before .before .before .before .before .before .before .before .args .s .now) (c .before .before .before .before .before .before .before .before .before .before .before .before .before .before .before .before .args .at) (sym (c .before .before .before .before .before .before .before .before .before .before .before .before .word-at .ensures) ∙ c .before .before .before .before .before .before .before .before .before .before .before .if1 .left) ∙ name-later _ _ _ (c .before .before .before .before .before .before .before .before .before .before .before .before .before .before .before .before .args .s .now) (c .before .before .before .before .before .before .before .before .before .before .before .before .before .before .before .before .args .at) (sym (c .before .before .before .before .before .before .before .before .before .word-at2 .ensures) ∙ c .before .before .before .before .before .before .before .before .if2 .left) ∙ name-later _ _ _ (c .before .before .before .before .before .before .before .before .before .before .before .before .before .before .before .before .args .s .now) (c .before .before .before .before .before .before .before .before .before .before .before .before .before .before .before .before .args .at) (sym (c .before .before .before .before .before .before .word-at3 .ensures) ∙ c .before .before .before .before .before .if3 .left) ∙ name-later _ _ _ (c .before .before .before .before .before .before .before .before .before .before .before .before .before .before .before .before .args .s .now) (c .before .before .before .before .before .before .before .before .before .before .before .before .before .before .before .before .args .at) (sym (c .before .before .before .word-at4 .ensures) ∙ c .before .before .if4 .left) ∙ name-here _ _ _ (c .before .before .before .before .before .before .before .before .before .before .before .before .before .before .before .before .args .s .now) (c .before .before .before .before .before .before .before .before .before .before .before .before .before .before .before .before .args .at) (sym (c .before .word-at5 .ensures) ∙ c .if5 .taken)))
+    (λ c. sym (name-later _ _ _ (c .before .before .before .before .before .before .before .before .before .before .before .before .before .before .before .before .args .s .now) (c .before .before .before .before .before .before .before .before .before .before .before .before .before .before .before .before .args .at) (sym (c .before .before .before .before .before .before .before .before .before .before .before .before .word-at .ensures) ∙ c .before .before .before .before .before .before .before .before .before .before .before .if1 .left) ∙ name-later _ _ _ (c .before .before .before .before .before .before .before .before .before .before .before .before .before .before .before .before .args .s .now) (c .before .before .before .before .before .before .before .before .before .before .before .before .before .before .before .before .args .at) (sym (c .before .before .before .before .before .before .before .before .before .word-at2 .ensures) ∙ c .before .before .before .before .before .before .before .before .if2 .left) ∙ name-later _ _ _ (c .before .before .before .before .before .before .before .before .before .before .before .before .before .before .before .before .args .s .now) (c .before .before .before .before .before .before .before .before .before .before .before .before .before .before .before .before .args .at) (sym (c .before .before .before .before .before .before .word-at3 .ensures) ∙ c .before .before .before .before .before .if3 .left) ∙ name-later _ _ _ (c .before .before .before .before .before .before .before .before .before .before .before .before .before .before .before .before .args .s .now) (c .before .before .before .before .before .before .before .before .before .before .before .before .before .before .before .before .args .at) (sym (c .before .before .before .word-at4 .ensures) ∙ c .before .before .if4 .left) ∙ name-later _ _ _ (c .before .before .before .before .before .before .before .before .before .before .before .before .before .before .before .before .args .s .now) (c .before .before .before .before .before .before .before .before .before .before .before .before .before .before .before .before .args .at) (sym (c .before .word-at5 .ensures) ∙ c .if5 .left) ∙ name-none _ _)))

@@ -1,0 +1,22 @@
+-- `prefix_at` meets its contract. Assumes nothing.
+use mathlib.Core.Path.{sym, _∙_}
+use mathlib.Core.List.{[], _∷_}
+use native.Mathlib.Omega.{arith}
+use Rattle.text.proofs.Fields.{word-inside, name-here, name-later, name-none}
+use borrow.Author.Needs.{needs}
+use Rattle.spelling.proofs.prefix_at.Statement.{statement}
+use Rattle.spelling.proofs.prefix_at.Tie as tie
+
+pub prefix-at-spec : {M : Type 1} → statement M
+prefix-at-spec =
+    tie.close
+    (tie.spec
+    (λ c. search needs)
+    (λ c κs. search needs)
+    (λ c. let l = word-inside (43 ∷ []) (c .before .before .before .before .args .s .now) (c .before .before .before .before .args .at) (omega arith) (sym (c .before .word-at .ensures) ∙ c .if1 .taken) in omega (arith, l))
+    (λ c. sym (name-here _ _ _ (c .before .before .before .before .args .s .now) (c .before .before .before .before .args .at) (sym (c .before .word-at .ensures) ∙ c .if1 .taken)))
+    (λ c. search needs)
+    (λ c κs. search needs)
+    (λ c. let l = word-inside (45 ∷ []) (c .before .before .before .before .before .before .before .args .s .now) (c .before .before .before .before .before .before .before .args .at) (omega arith) (sym (c .before .word-at2 .ensures) ∙ c .if2 .taken) in omega (arith, l))
+    (λ c. sym (name-later _ _ _ (c .before .before .before .before .before .before .before .args .s .now) (c .before .before .before .before .before .before .before .args .at) (sym (c .before .before .before .before .word-at .ensures) ∙ c .before .before .before .if1 .left) ∙ name-here _ _ _ (c .before .before .before .before .before .before .before .args .s .now) (c .before .before .before .before .before .before .before .args .at) (sym (c .before .word-at2 .ensures) ∙ c .if2 .taken)))
+    (λ c. sym (name-later _ _ _ (c .before .before .before .before .before .before .before .args .s .now) (c .before .before .before .before .before .before .before .args .at) (sym (c .before .before .before .before .word-at .ensures) ∙ c .before .before .before .if1 .left) ∙ name-later _ _ _ (c .before .before .before .before .before .before .before .args .s .now) (c .before .before .before .before .before .before .before .args .at) (sym (c .before .word-at2 .ensures) ∙ c .if2 .left) ∙ name-none _ _)))

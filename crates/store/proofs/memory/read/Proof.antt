@@ -1,9 +1,0 @@
--- `read` meets its contract: past the end there is 0. Assumes nothing.
-use mathlib.Core.Path.{sym}
-use borrow.Author.Needs.{needs}
-use Rattle.store.proofs.Slices.{getD-out}
-use Rattle.store.proofs.memory.read.Statement.{statement}
-use Rattle.store.proofs.memory.read.Tie as tie
-
-pub read-spec : {M : Type 1} → statement M
-read-spec = tie.close (tie.spec (λ c. search needs) (λ c. search needs) (λ c. search needs) (λ c. sym (getD-out (c .before .args .s .now) (c .before .args .i) 0 (c .if1 .left))))

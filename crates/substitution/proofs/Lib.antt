@@ -1,0 +1,3 @@
+-- The laws that the proofs of this crate, and where `pub` of its callers, cite.
+pub mod Replacing
+mod Examples

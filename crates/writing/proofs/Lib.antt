@@ -1,0 +1,9 @@
+-- The laws that the proofs of this crate, and where `pub` of its callers, cite.
+pub mod Orders
+pub mod Visiting
+pub mod LineTexts
+pub mod Texts
+pub mod ReadBack
+pub mod Fits
+mod Examples
+pub mod OneAnswer

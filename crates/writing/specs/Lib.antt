@@ -1,0 +1,3 @@
+-- The definitions that the contracts of `writing` cite. To believe: Order; Ordering only connects.
+pub mod Order
+pub mod Ordering
