@@ -13,9 +13,10 @@ use Rattle.expression.specs.Trees.{Tree, leaf, number, pi, variable, prefixed, 
 use Rattle.expression.specs.Alike.{alikeLeaves, alike}
 use Rattle.store.specs.Storing.{Answer, gives, refused, state, fresh, andThen, among, intern, recall, keep}
 use Rattle.sheet.specs.Rows.{rows}
+use Rattle.tasks.specs.Tasks.{oneMore, leafTask, taskAt}
 use Rattle.arms.specs.Looks.{bothHold, eitherHolds, isNumberOf, numberIn, isNegation, under, isInfix, left, right}
 use Rattle.arms.specs.Arms.{armIf, smaller, uninverted, isInverse, groupedRight, grouped, moved, sharing, affineSum, sumPlan, signedDifference, differencePlan, signedProduct, distributed, productPlan, signedQuotient, split, cancelled, quotientPlan, powerPlan, infixPlan, minusPlan, prefixPlan, sum, difference, product, quotient, minus}
-use Rattle.simplification.specs.Simplifying.{oneMore, counted, foldedTo, again, keeping, leafTask, taskAt, carryOut, simplifyPrefix, simplifyInfix, perform, resume, step, simplify}
+use Rattle.simplification.specs.Simplifying.{counted, foldedTo, again, keeping, carryOut, simplifyPrefix, simplifyInfix, perform, resume, step, simplify}
 
 -- a result, with the number of calls
 data Outcome : Type 0 where
