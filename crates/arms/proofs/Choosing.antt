@@ -16,7 +16,7 @@ use Rattle.store.specs.Held.{Holds}
 use Rattle.store.proofs.Stored.{read-size}
 use Rattle.arms.specs.declared.Arm.{Arm}
 use Rattle.arms.specs.declared.Outer.{Outer}
-use Rattle.arms.specs.Arms.{Plan, pick, the, new, folded, called, negation, combined, S, lesser, affine, constant, minus, sum, smaller}
+use Rattle.arms.specs.Arms.{Plan, armIf, the, new, folded, called, negation, combined, S, lesser, affine, constant, minus, sum, smaller}
 use Rattle.arms.specs.Choosing.{At, Chosen}
 
 -- a new node is this tree
@@ -27,12 +27,12 @@ pub record Makes (m : Memory) (n : ℕ) (e : Expression) (t : Tree) : Type 0 whe
 module _ {m : Memory} {n : ℕ} where
   -- ---- a row of tests
 
-  pub hit : {b : Bool} {arm : Arm} {p : Plan} (q : Plan) → b ≡ true → Chosen m n arm p → Chosen m n arm (pick b p q)
-  unfolding pick
+  pub hit : {b : Bool} {arm : Arm} {p : Plan} (q : Plan) → b ≡ true → Chosen m n arm p → Chosen m n arm (armIf b p q)
+  unfolding armIf
   hit q e c = rw e c
 
-  pub past : {b : Bool} {arm : Arm} {q : Plan} (p : Plan) → b ≡ false → Chosen m n arm q → Chosen m n arm (pick b p q)
-  unfolding pick
+  pub past : {b : Bool} {arm : Arm} {q : Plan} (p : Plan) → b ≡ false → Chosen m n arm q → Chosen m n arm (armIf b p q)
+  unfolding armIf
   past p e c = rw e c
 
   pub planned : {arm : Arm} {p q : Plan} → p ≡ q → Chosen m n arm p → Chosen m n arm q

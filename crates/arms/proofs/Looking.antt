@@ -14,7 +14,7 @@ use Rattle.expression.specs.Nodes.{Within}
 use Rattle.store.specs.Memory.{Memory, memory, fieldsAt, treeAt, treeOf}
 use Rattle.store.specs.Held.{Holds, Compares}
 use Rattle.store.proofs.Stored.{read-node}
-use Rattle.arms.specs.Looks.{both, either, isNumberOf, isNumber, numberIn}
+use Rattle.arms.specs.Looks.{bothHold, eitherHolds, isNumberOf, isNumber, numberIn}
 use Rattle.arms.specs.Choosing.{At, Sits}
 
 pub never : {A : Type 0} → false ≡ true → A
@@ -48,49 +48,49 @@ not-number test (infixed o l r) e = refl
 
 -- ---- of two tests
 
-pub first-of-both : (a b : Bool) → both a b ≡ true → a ≡ true
-unfolding both
+pub first-of-both : (a b : Bool) → bothHold a b ≡ true → a ≡ true
+unfolding bothHold
 first-of-both true b e = refl
 first-of-both false b e = e
 
-pub second-of-both : (a b : Bool) → both a b ≡ true → b ≡ true
-unfolding both
+pub second-of-both : (a b : Bool) → bothHold a b ≡ true → b ≡ true
+unfolding bothHold
 second-of-both true b e = e
 second-of-both false b e = never e
 
 -- the same of a callee that was told two answers
-pub first-told : {a p r : Bool} (b : Bool) → r ≡ both a b → a ≡ p → r ≡ true → p ≡ true
+pub first-told : {a p r : Bool} (b : Bool) → r ≡ bothHold a b → a ≡ p → r ≡ true → p ≡ true
 first-told b e f g = sym f ∙ first-of-both _ b (so e g)
 
-pub second-told : {b p r : Bool} (a : Bool) → r ≡ both a b → b ≡ p → r ≡ true → p ≡ true
+pub second-told : {b p r : Bool} (a : Bool) → r ≡ bothHold a b → b ≡ p → r ≡ true → p ≡ true
 second-told a e f g = sym f ∙ second-of-both a _ (so e g)
 
-pub other-of-either : (a b : Bool) → either a b ≡ true → b ≡ false → a ≡ true
-unfolding either
+pub other-of-either : (a b : Bool) → eitherHolds a b ≡ true → b ≡ false → a ≡ true
+unfolding eitherHolds
 other-of-either true b e f = refl
 other-of-either false b e f = never (sym f ∙ e)
 
 -- by the first of them
-pub both-yes : {a b c r : Bool} → a ≡ c → c ≡ true → r ≡ b → r ≡ both a b
-unfolding both
+pub both-yes : {a b c r : Bool} → a ≡ c → c ≡ true → r ≡ b → r ≡ bothHold a b
+unfolding bothHold
 both-yes e f g = rw (e ∙ f) g
 
-pub both-not : {a c : Bool} (b : Bool) → a ≡ c → c ≡ false → false ≡ both a b
-unfolding both
+pub both-not : {a c : Bool} (b : Bool) → a ≡ c → c ≡ false → false ≡ bothHold a b
+unfolding bothHold
 both-not b e f = rw (e ∙ f) refl
 
-pub both-of : {a b p q r : Bool} → r ≡ both a b → a ≡ p → b ≡ q → r ≡ both p q
-both-of e f g = e ∙ (λ i. both (f i) (g i))
+pub both-of : {a b p q r : Bool} → r ≡ bothHold a b → a ≡ p → b ≡ q → r ≡ bothHold p q
+both-of e f g = e ∙ (λ i. bothHold (f i) (g i))
 
-pub either-of : {a b p q r : Bool} → r ≡ either a b → a ≡ p → b ≡ q → r ≡ either p q
-either-of e f g = e ∙ (λ i. either (f i) (g i))
+pub either-of : {a b p q r : Bool} → r ≡ eitherHolds a b → a ≡ p → b ≡ q → r ≡ eitherHolds p q
+either-of e f g = e ∙ (λ i. eitherHolds (f i) (g i))
 
-pub either-yes : {a c : Bool} (b : Bool) → a ≡ c → c ≡ true → true ≡ either a b
-unfolding either
+pub either-yes : {a c : Bool} (b : Bool) → a ≡ c → c ≡ true → true ≡ eitherHolds a b
+unfolding eitherHolds
 either-yes b e f = rw (e ∙ f) refl
 
-pub either-not : {a b c r : Bool} → a ≡ c → c ≡ false → r ≡ b → r ≡ either a b
-unfolding either
+pub either-not : {a b c r : Bool} → a ≡ c → c ≡ false → r ≡ b → r ≡ eitherHolds a b
+unfolding eitherHolds
 either-not e f g = rw (e ∙ f) g
 
 pub not-true : (b : Bool) → not b ≡ true → b ≡ false

@@ -145,11 +145,11 @@ abbrev pub ChoosesOne : (Tree → Plan) → (tag first second : List ℕ) (x : �
 ChoosesOne plan tag first second x arm = (link : List ℕ) → ChoosesOneIn plan (memory tag first second link) x arm
 
 -- one of two nodes, by their trees, for which `tag` alone is read
-abbrev pub PicksIn : (Tree → Tree → Tree) → (m : Memory) (a b r : ℕ) → Type 0
-PicksIn pick m a b r = (n : ℕ) → Holds m n → a < n → b < n → At m n r (pick (treeAt m a) (treeAt m b))
+abbrev pub SelectsIn : (Tree → Tree → Tree) → (m : Memory) (a b r : ℕ) → Type 0
+SelectsIn select m a b r = (n : ℕ) → Holds m n → a < n → b < n → At m n r (select (treeAt m a) (treeAt m b))
 
-abbrev pub Picks : (Tree → Tree → Tree) → (tag : List ℕ) (a b r : ℕ) → Type 0
-Picks pick tag a b r = (first second link : List ℕ) → PicksIn pick (memory tag first second link) a b r
+abbrev pub Selects : (Tree → Tree → Tree) → (tag : List ℕ) (a b r : ℕ) → Type 0
+Selects select tag a b r = (first second link : List ℕ) → SelectsIn select (memory tag first second link) a b r
 
 -- where `given` holds of the operands, and `link` is read
 abbrev pub ChoosesLinkedIn : (given : Tree → Tree → Bool) → (Tree → Tree → Plan) → (m : Memory) (l r : ℕ) (left right : Expression) → Arm → Type 0

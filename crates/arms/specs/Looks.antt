@@ -10,14 +10,14 @@ use Rattle.expression.specs.Codes.{infixCode}
 use Rattle.expression.specs.Trees.{Tree, number, pi, variable, cell, leaf, functionCall, prefixed, infixed}
 use Rattle.expression.specs.Alike.{equal}
 
--- of two tests
-unfoldable pub both : Bool → Bool → Bool
-both true b = b
-both false b = false
+-- both tests hold, and at least one does
+unfoldable pub bothHold : Bool → Bool → Bool
+bothHold true b = b
+bothHold false b = false
 
-unfoldable pub either : Bool → Bool → Bool
-either true b = true
-either false b = b
+unfoldable pub eitherHolds : Bool → Bool → Bool
+eitherHolds true b = true
+eitherHolds false b = b
 
 -- a number that passes a test
 unfoldable pub isNumberOf : (Complex → Bool) → Tree → Bool
@@ -86,20 +86,20 @@ right (infixed o l r) = r
 
 -- both are b op c, each with its own b and c
 abbrev pub bothInfix : InfixOperator → Tree → Tree → Bool
-bothInfix op l r = both (isInfix op l) (isInfix op r)
+bothInfix op l r = bothHold (isInfix op l) (isInfix op r)
 
 abbrev pub eitherInfix : InfixOperator → Tree → Tree → Bool
-eitherInfix op l r = either (isInfix op l) (isInfix op r)
+eitherInfix op l r = eitherHolds (isInfix op l) (isInfix op r)
 
 -- t is k op c, or b op k, for a tree equal to k
 abbrev pub beginsWith : InfixOperator → (t k : Tree) → Bool
-beginsWith op t k = both (isInfix op t) (equal (left t) k)
+beginsWith op t k = bothHold (isInfix op t) (equal (left t) k)
 
 abbrev pub endsWith : InfixOperator → (t k : Tree) → Bool
-endsWith op t k = both (isInfix op t) (equal (right t) k)
+endsWith op t k = bothHold (isInfix op t) (equal (right t) k)
 
 -- `mul_matches`: both are products, and they share a factor
 abbrev pub mulMatches : Tree → Tree → Bool
 mulMatches l r =
-    both (bothInfix InfixOperator.Star l r)
-    (either (equal (left l) (left r)) (either (equal (left l) (right r)) (either (equal (right l) (left r)) (equal (right l) (right r)))))
+    bothHold (bothInfix InfixOperator.Star l r)
+    (eitherHolds (equal (left l) (left r)) (eitherHolds (equal (left l) (right r)) (eitherHolds (equal (right l) (left r)) (equal (right l) (right r)))))

@@ -20,11 +20,11 @@ use store::equal_at;
 fn choose_signed_difference(l: usize, r: usize, left: Expression, right: Expression) -> Arm
     ensures { λ arm. ⌜ ChoosesWhere always signedDifference l r left right arm ⌝ }
 {
-    // 20
+    // 20. l-(-e): S(l+e)
     if is_negation(right) {
         return Arm::Again(Expression::Infix(InfixOperator::Plus, l, operand_in(right)));
     }
-    // 21
+    // 21. (-e)-r: min(l-r, S(-S(e+r)))
     if is_negation(left) {
         return Arm::Smaller(
             Expression::Infix(InfixOperator::Minus, l, r),
@@ -32,11 +32,12 @@ fn choose_signed_difference(l: usize, r: usize, left: Expression, right: Express
             Outer::Negated,
         );
     }
-    // 31, 32
+    // 31. l-(b-c): min(l-r, S(S(l+c)-b))
+    // 32. (a-b)-r: min(l-r, S(a+S(b-r)))
     if has_infix(left, right, InfixOperator::Minus) {
         return choose_grouped(InfixOperator::Minus, l, r, left, right);
     }
-    // 41
+    // 41. Rebuild
     Arm::Build(Expression::Infix(InfixOperator::Minus, l, r))
 }
 
@@ -49,18 +50,19 @@ pub fn choose_difference(
 ) -> Arm
     ensures { λ arm. ⌜ Chooses differencePlan (now (link .entry)) l r left right arm ⌝ }
 {
-    // 3, 4
+    // 3. 0-r: S(-r)
     if is_zero_number(left) {
         return Arm::Again(Expression::Prefix(PrefixOperator::Minus, r));
     }
+    // 4. l-0: l
     if is_zero_number(right) {
         return Arm::Use(l);
     }
-    // 5
+    // 5. l-l: 0
     if equal_at(link, l, r) {
         return Arm::Build(Expression::Number(zero()));
     }
-    // 17
+    // 17. Two numbers: fold
     if are_numbers(left, right) {
         return Arm::Fold(InfixOperator::Minus, number_in(left), number_in(right));
     }

@@ -1,7 +1,7 @@
 // The arms that regroup and those that move a sign, which are the same for several operators.
 ghost use mathlib.Core.Path.{_≡_};
 ghost use Rattle.arms.specs.Looks.{eitherInfix};
-ghost use Rattle.arms.specs.Arms.{undone as undoneOf, undoes as undoesOf, eitherNegation, groupedRight, grouped, moved};
+ghost use Rattle.arms.specs.Arms.{uninverted as uninvertedOf, isInverse, eitherNegation, groupedRight, grouped, moved};
 ghost use Rattle.arms.specs.Choosing.{ChoosesWhere, rightInfix};
 use super::Arm;
 use super::Outer;
@@ -14,9 +14,9 @@ use expression::InfixOperator;
 use expression::PrefixOperator;
 use expression::node::Expression;
 
-// inv of arm 31 and op' of arm 32.
-fn undone(operator: InfixOperator) -> InfixOperator
-    ensures { λ r. ⌜ r ≡ undoneOf operator ⌝ }
+// inv of arm 31 and op' of arm 32: "+ for -, * for /, else op".
+fn uninverted(operator: InfixOperator) -> InfixOperator
+    ensures { λ r. ⌜ r ≡ uninvertedOf operator ⌝ }
 {
     match operator {
         InfixOperator::Plus => InfixOperator::Plus,
@@ -27,9 +27,9 @@ fn undone(operator: InfixOperator) -> InfixOperator
     }
 }
 
-// Whether arm 31 is meant, and not arm 30.
-fn undoes(operator: InfixOperator) -> bool
-    ensures { λ r. ⌜ r ≡ undoesOf operator ⌝ }
+// Whether the operator is the inverse of another, as - is of + and / is of *: arm 31 is meant then, and not arm 30.
+fn is_inverse(operator: InfixOperator) -> bool
+    ensures { λ r. ⌜ r ≡ isInverse operator ⌝ }
 {
     match operator {
         InfixOperator::Plus => false,
@@ -53,13 +53,15 @@ fn choose_grouped_right(
     let original = Expression::Infix(operator, l, r);
     let b = left_in(right);
     let c = right_in(right);
-    if undoes(operator) {
+    // 31. l op (b op c), - or /: min(l op r, S(S(l inv c) op b))
+    if is_inverse(operator) {
         return Arm::Smaller(
             original,
-            Expression::Infix(undone(operator), l, c),
+            Expression::Infix(uninverted(operator), l, c),
             Outer::Before(operator, b),
         );
     }
+    // 30. l op (b op c), + or *: min(l op r, S(S(l op b) op c))
     Arm::Smaller(
         original,
         Expression::Infix(operator, l, b),
@@ -67,7 +69,7 @@ fn choose_grouped_right(
     )
 }
 
-// Arms 30 to 32: l or r is b op c.
+// Arms 30 to 32: l or r is an operation of the same operator.
 pub fn choose_grouped(
     operator: InfixOperator,
     l: usize,
@@ -77,14 +79,16 @@ pub fn choose_grouped(
 ) -> Arm
     ensures { λ arm. ⌜ ChoosesWhere (eitherInfix operator) (grouped operator) l r left right arm ⌝ }
 {
+    // 30, 31. l op (b op c)
     if is_infix(right, operator) {
         return choose_grouped_right(operator, l, r, left, right);
     }
-    let rhs = undone(operator);
+    // 32. (a op b) op r, + * - /: min(l op r, S(a op' S(b op r)))
+    let rhs_operator = uninverted(operator);
     Arm::Smaller(
         Expression::Infix(operator, l, r),
         Expression::Infix(operator, right_in(left), r),
-        Outer::After(left_in(left), rhs),
+        Outer::After(left_in(left), rhs_operator),
     )
 }
 
@@ -99,6 +103,7 @@ pub fn choose_moved(
     ensures { λ arm. ⌜ ChoosesWhere eitherNegation (moved operator) l r left right arm ⌝ }
 {
     let original = Expression::Infix(InfixOperator::Star, l, r);
+    // 25. l op -e, op * or /: min(l*r, S(S(-l) op e))
     if is_negation(right) {
         return Arm::Smaller(
             original,
@@ -106,6 +111,7 @@ pub fn choose_moved(
             Outer::Before(operator, operand_in(right)),
         );
     }
+    // 26. (-e) op r, same ops: min(l*r, S(e op S(-r)))
     Arm::Smaller(
         original,
         Expression::Prefix(PrefixOperator::Minus, r),

@@ -3,7 +3,7 @@
 ghost use mathlib.Core.Path.{_≡_};
 ghost use Rattle.store.specs.Memory.{memory};
 ghost use Rattle.arms.specs.Arms.{smaller as smallerTree, infixPlan, functionPlan, prefixPlan};
-ghost use Rattle.arms.specs.Choosing.{appliedTo, ChoosesAt, ChoosesOne, Picks};
+ghost use Rattle.arms.specs.Choosing.{appliedTo, ChoosesAt, ChoosesOne, Selects};
 use complex::Complex;
 use complex::neg;
 use differences::choose_difference;
@@ -80,7 +80,7 @@ impl Outer {
 
 // The smaller of two nodes, by the sizes of their trees; the first at a tie.
 pub fn smaller(tag: &[u64], a: usize, b: usize) -> usize
-    ensures { λ r. ⌜ Picks smallerTree (now (tag .entry)) a b r ⌝ }
+    ensures { λ r. ⌜ Selects smallerTree (now (tag .entry)) a b r ⌝ }
 {
     if size_at(tag, b) < size_at(tag, a) {
         b

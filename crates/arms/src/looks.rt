@@ -2,7 +2,7 @@
 ghost use mathlib.Core.Path.{_≡_};
 ghost use Prim.Native.Nat.{ℕ};
 ghost use Rattle.store.specs.Memory.{Memory, treeOf};
-ghost use Rattle.arms.specs.Looks.{both as bothOf, either as eitherOf, isNumber, isZeroNumber, isOneNumber, numberIn, isNegation, under, isInfix, left as leftOf, right as rightOf, bothInfix, eitherInfix, beginsWith, endsWith};
+ghost use Rattle.arms.specs.Looks.{bothHold, eitherHolds, isNumber, isZeroNumber, isOneNumber, numberIn, isNegation, under, isInfix, left as leftOf, right as rightOf, bothInfix, eitherInfix, beginsWith, endsWith};
 ghost use Rattle.arms.specs.Arms.{bothNumbers};
 ghost use Rattle.arms.specs.Choosing.{Tells, TellsBoth, Parts, LikensTo};
 use complex::Complex;
@@ -158,29 +158,31 @@ pub fn right_in(e: Expression) -> usize
     }
 }
 
-// Of two tests.
-pub fn both(a: bool, b: bool) -> bool
-    ensures { λ r. ⌜ r ≡ bothOf a b ⌝ }
+// Both tests hold, and at least one does.
+pub fn both_hold(a: bool, b: bool) -> bool
+    ensures { λ r. ⌜ r ≡ bothHold a b ⌝ }
 {
     if a { b } else { false }
 }
 
-pub fn either(a: bool, b: bool) -> bool
-    ensures { λ r. ⌜ r ≡ eitherOf a b ⌝ }
+pub fn either_holds(a: bool, b: bool) -> bool
+    ensures { λ r. ⌜ r ≡ eitherHolds a b ⌝ }
 {
     if a { true } else { b }
 }
 
+// Both are b op c, each with its own b and c.
 pub fn are_infix(left: Expression, right: Expression, operator: InfixOperator) -> bool
     ensures { λ r. ⌜ TellsBoth (bothInfix operator) left right r ⌝ }
 {
-    both(is_infix(left, operator), is_infix(right, operator))
+    both_hold(is_infix(left, operator), is_infix(right, operator))
 }
 
+// At least one is.
 pub fn has_infix(left: Expression, right: Expression, operator: InfixOperator) -> bool
     ensures { λ r. ⌜ TellsBoth (eitherInfix operator) left right r ⌝ }
 {
-    either(is_infix(left, operator), is_infix(right, operator))
+    either_holds(is_infix(left, operator), is_infix(right, operator))
 }
 
 // e is k op c, for a node equal to k.

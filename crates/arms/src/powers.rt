@@ -14,24 +14,26 @@ use expression::node::Expression;
 pub fn choose_power(l: usize, r: usize, left: Expression, right: Expression) -> Arm
     ensures { λ arm. ⌜ ChoosesWhere always powerPlan l r left right arm ⌝ }
 {
-    // 13, 14
+    // 13. 0^r: 0
     if is_zero_number(left) {
         return Arm::Build(Expression::Number(zero()));
     }
+    // 14. l^0: 1
     if is_zero_number(right) {
         return Arm::Build(Expression::Number(one()));
     }
-    // 15, 16
+    // 15. 1^r: 1
     if is_one_number(left) {
         return Arm::Build(Expression::Number(one()));
     }
+    // 16. l^1: l
     if is_one_number(right) {
         return Arm::Use(l);
     }
-    // 17
+    // 17. Two numbers: fold
     if are_numbers(left, right) {
         return Arm::Fold(InfixOperator::Caret, number_in(left), number_in(right));
     }
-    // 41
+    // 41. Rebuild
     Arm::Build(Expression::Infix(InfixOperator::Caret, l, r))
 }

@@ -5,8 +5,8 @@ use super::Arm;
 use super::groups::choose_grouped;
 use super::groups::choose_moved;
 use super::looks::are_numbers;
-use super::looks::both;
-use super::looks::either;
+use super::looks::both_hold;
+use super::looks::either_holds;
 use super::looks::ends_with;
 use super::looks::has_infix;
 use super::looks::is_infix;
@@ -25,13 +25,16 @@ use expression::node::Expression;
 fn choose_signed_product(l: usize, r: usize, left: Expression, right: Expression) -> Arm
     ensures { λ arm. ⌜ ChoosesWhere eitherNegation signedProduct l r left right arm ⌝ }
 {
-    if both(is_negation(left), is_negation(right)) {
+    // 22. (-a)*(-b): S(a*b)
+    if both_hold(is_negation(left), is_negation(right)) {
         return Arm::Again(Expression::Infix(
             InfixOperator::Star,
             operand_in(left),
             operand_in(right),
         ));
     }
+    // 25. l*(-e): min(l*r, S(S(-l)*e))
+    // 26. (-e)*r: min(l*r, S(e*S(-r)))
     choose_moved(InfixOperator::Star, l, r, left, right)
 }
 
@@ -40,7 +43,7 @@ fn choose_distributed(link: &[u64], l: usize, r: usize, left: Expression, right:
     ensures { λ arm. ⌜ Chooses distributed (now (link .entry)) l r left right arm ⌝ }
 {
     let original = Expression::Infix(InfixOperator::Star, l, r);
-    // 33, 34
+    // 33. l*(b+c): min(l*r, S(S(l*b)+S(l*c)))
     if is_infix(right, InfixOperator::Plus) {
         return Arm::Distribute(
             original,
@@ -48,6 +51,7 @@ fn choose_distributed(link: &[u64], l: usize, r: usize, left: Expression, right:
             Expression::Infix(InfixOperator::Star, l, right_in(right)),
         );
     }
+    // 34. (a+b)*r likewise: min(l*r, S(S(a*r)+S(b*r)))
     if is_infix(left, InfixOperator::Plus) {
         return Arm::Distribute(
             original,
@@ -55,40 +59,43 @@ fn choose_distributed(link: &[u64], l: usize, r: usize, left: Expression, right:
             Expression::Infix(InfixOperator::Star, right_in(left), r),
         );
     }
-    // 39, 40
+    // 39. (o/r)*r: o
     if ends_with(link, left, InfixOperator::Slash, r) {
         return Arm::Use(left_in(left));
     }
+    // 40. l*(o/l): o
     if ends_with(link, right, InfixOperator::Slash, l) {
         return Arm::Use(left_in(right));
     }
-    // 41
+    // 41. Rebuild
     Arm::Build(original)
 }
 
 pub fn choose_product(link: &[u64], l: usize, r: usize, left: Expression, right: Expression) -> Arm
     ensures { λ arm. ⌜ Chooses productPlan (now (link .entry)) l r left right arm ⌝ }
 {
-    // 6
-    if either(is_zero_number(left), is_zero_number(right)) {
+    // 6. 0*r, l*0: 0
+    if either_holds(is_zero_number(left), is_zero_number(right)) {
         return Arm::Build(Expression::Number(zero()));
     }
-    // 7, 8
+    // 7. 1*r: r
     if is_one_number(left) {
         return Arm::Use(r);
     }
+    // 8. l*1: l
     if is_one_number(right) {
         return Arm::Use(l);
     }
-    // 17
+    // 17. Two numbers: fold
     if are_numbers(left, right) {
         return Arm::Fold(InfixOperator::Star, number_in(left), number_in(right));
     }
-    // 22, 25, 26
-    if either(is_negation(left), is_negation(right)) {
+    // 22, 25, 26. A factor is -e
+    if either_holds(is_negation(left), is_negation(right)) {
         return choose_signed_product(l, r, left, right);
     }
-    // 30, 32
+    // 30. l*(b*c): min(l*r, S(S(l*b)*c))
+    // 32. (a*b)*r: min(l*r, S(a*S(b*r)))
     if has_infix(left, right, InfixOperator::Star) {
         return choose_grouped(InfixOperator::Star, l, r, left, right);
     }

@@ -7,8 +7,8 @@ use super::groups::choose_grouped;
 use super::groups::choose_moved;
 use super::looks::are_numbers;
 use super::looks::begins_with;
-use super::looks::both;
-use super::looks::either;
+use super::looks::both_hold;
+use super::looks::either_holds;
 use super::looks::ends_with;
 use super::looks::has_infix;
 use super::looks::is_infix;
@@ -48,22 +48,24 @@ fn choose_signed_quotient(
 ) -> Arm
     ensures { λ arm. ⌜ ChoosesLinked eitherNegation signedQuotient (now (link .entry)) l r left right arm ⌝ }
 {
-    // 22
-    if both(is_negation(left), is_negation(right)) {
+    // 22. (-a)/(-b): S(a/b)
+    if both_hold(is_negation(left), is_negation(right)) {
         return Arm::Again(Expression::Infix(
             InfixOperator::Slash,
             operand_in(left),
             operand_in(right),
         ));
     }
-    // 23, 24
+    // 23. l/(-l): -1, the negation of 1, so its imaginary part is -0
     if negates(link, right, l) {
         return Arm::Build(Expression::Number(minus_one()));
     }
+    // 24. (-r)/r: the same
     if negates(link, left, r) {
         return Arm::Build(Expression::Number(minus_one()));
     }
-    // 25, 26
+    // 25. l/(-e): min(l*r, S(S(-l)/e))
+    // 26. (-e)/r: min(l*r, S(e/S(-r)))
     choose_moved(InfixOperator::Slash, l, r, left, right)
 }
 
@@ -72,7 +74,7 @@ fn choose_split(l: usize, r: usize, left: Expression, right: Expression) -> Arm
     ensures { λ arm. ⌜ ChoosesWhere always split l r left right arm ⌝ }
 {
     let original = Expression::Infix(InfixOperator::Slash, l, r);
-    // 37
+    // 37. (m*n)/r: min(l/r, S(m*S(n/r)))
     if is_infix(left, InfixOperator::Star) {
         return Arm::Smaller(
             original,
@@ -80,7 +82,7 @@ fn choose_split(l: usize, r: usize, left: Expression, right: Expression) -> Arm
             Outer::After(left_in(left), InfixOperator::Star),
         );
     }
-    // 38
+    // 38. l/(m*n): min(l/r, S(S(l/m)/n))
     if is_infix(right, InfixOperator::Star) {
         return Arm::Smaller(
             original,
@@ -88,7 +90,7 @@ fn choose_split(l: usize, r: usize, left: Expression, right: Expression) -> Arm
             Outer::Before(InfixOperator::Slash, right_in(right)),
         );
     }
-    // 41
+    // 41. Rebuild
     Arm::Build(original)
 }
 
@@ -96,14 +98,14 @@ fn choose_split(l: usize, r: usize, left: Expression, right: Expression) -> Arm
 fn choose_cancelled(link: &[u64], l: usize, r: usize, left: Expression, right: Expression) -> Arm
     ensures { λ arm. ⌜ Chooses cancelled (now (link .entry)) l r left right arm ⌝ }
 {
-    // 35
+    // 35. (s*o)/s, (o*s)/s: o
     if begins_with(link, left, InfixOperator::Star, r) {
         return Arm::Use(right_in(left));
     }
     if ends_with(link, left, InfixOperator::Star, r) {
         return Arm::Use(left_in(left));
     }
-    // 36
+    // 36. l/(l*o), l/(o*l): S(1/o)
     if begins_with(link, right, InfixOperator::Star, l) {
         return Arm::Inverse(right_in(right));
     }
@@ -116,29 +118,32 @@ fn choose_cancelled(link: &[u64], l: usize, r: usize, left: Expression, right: E
 pub fn choose_quotient(link: &[u64], l: usize, r: usize, left: Expression, right: Expression) -> Arm
     ensures { λ arm. ⌜ Chooses quotientPlan (now (link .entry)) l r left right arm ⌝ }
 {
-    // 9, 10
+    // 9. 0/r: 0
     if is_zero_number(left) {
         return Arm::Build(Expression::Number(zero()));
     }
+    // 10. l/0: NaN, imaginary 0
     if is_zero_number(right) {
         return Arm::Build(Expression::Number(not_a_number()));
     }
-    // 11, 12
+    // 11. l/1: l
     if is_one_number(right) {
         return Arm::Use(l);
     }
+    // 12. l/l: 1
     if equal_at(link, l, r) {
         return Arm::Build(Expression::Number(one()));
     }
-    // 17
+    // 17. Two numbers: fold
     if are_numbers(left, right) {
         return Arm::Fold(InfixOperator::Slash, number_in(left), number_in(right));
     }
-    // 22 to 26
-    if either(is_negation(left), is_negation(right)) {
+    // 22 to 26. Dividend or divisor is -e
+    if either_holds(is_negation(left), is_negation(right)) {
         return choose_signed_quotient(link, l, r, left, right);
     }
-    // 31, 32
+    // 31. l/(b/c): min(l/r, S(S(l*c)/b))
+    // 32. (a/b)/r: min(l/r, S(a*S(b/r)))
     if has_infix(left, right, InfixOperator::Slash) {
         return choose_grouped(InfixOperator::Slash, l, r, left, right);
     }

@@ -43,7 +43,7 @@ fn mul_matches(tag: &[u64], first: &[u64], second: &[u64], link: &[u64], l: usiz
     equal_at(link, q, right_in(right))
 }
 
-// Arm 27's test.
+// The test of arm 27: (p*q+b)+(p'*q'+b') with a shared factor.
 fn is_affine(
     tag: &[u64],
     first: &[u64],
@@ -61,7 +61,7 @@ fn is_affine(
     }
 }
 
-// Arm 28's test.
+// The test of arm 28: a*x+b*x.
 fn are_like_products(link: &[u64], left: Expression, right: Expression) -> bool
     ensures { λ r. ⌜ Likens likeProducts (now (link .entry)) left right r ⌝ }
 {
@@ -72,7 +72,7 @@ fn are_like_products(link: &[u64], left: Expression, right: Expression) -> bool
     }
 }
 
-// Arm 29's test.
+// The test of arm 29: (x+a)+(x+b).
 fn are_like_sums(link: &[u64], left: Expression, right: Expression) -> bool
     ensures { λ r. ⌜ Likens likeSums (now (link .entry)) left right r ⌝ }
 {
@@ -83,7 +83,7 @@ fn are_like_sums(link: &[u64], left: Expression, right: Expression) -> bool
     }
 }
 
-// Arm 27: which factor is shared.
+// Arm 27: which factor is shared, "tried as p=p', p=q', q=p', q=q'"; here p' is s and q' is t.
 fn choose_shared(
     tag: &[u64],
     first: &[u64],
@@ -101,15 +101,19 @@ fn choose_shared(
     let s = left_in(ay);
     let t = right_in(ay);
     let sum_bs = Expression::Infix(InfixOperator::Plus, right_in(left), right_in(right));
+    // p=p': S(S(S(q+q')*p)+S(b+b'))
     if equal_at(link, p, s) {
         return Arm::Affine(Expression::Infix(InfixOperator::Plus, q, t), p, sum_bs);
     }
+    // p=q': S(S(S(q+p')*p)+S(b+b'))
     if equal_at(link, p, t) {
         return Arm::Affine(Expression::Infix(InfixOperator::Plus, q, s), p, sum_bs);
     }
+    // q=p': S(S(S(p+q')*q)+S(b+b'))
     if equal_at(link, q, s) {
         return Arm::Affine(Expression::Infix(InfixOperator::Plus, p, t), q, sum_bs);
     }
+    // q=q': S(S(S(p+p')*q')+S(b+b'))
     Arm::Affine(Expression::Infix(InfixOperator::Plus, p, s), t, sum_bs)
 }
 
@@ -126,26 +130,27 @@ fn choose_affine(
 ) -> Arm
     ensures { λ arm. ⌜ ChoosesIn affineSum (memory (now (tag .entry)) (now (first .entry)) (now (second .entry)) (now (link .entry))) l r left right arm ⌝ }
 {
-    // 27
+    // 27. (p*q+b)+(p'*q'+b') with a shared factor: S(S(S(a+a')*x)+S(b+b')), sums first
     if is_affine(tag, first, second, link, left, right) {
         return choose_shared(tag, first, second, link, left, right);
     }
-    // 28
+    // 28. a*x+b*x: S(S(a+b)*x)
     if are_like_products(link, left, right) {
         return Arm::Regroup(
             Expression::Infix(InfixOperator::Plus, left_in(left), left_in(right)),
             Outer::Before(InfixOperator::Star, right_in(left)),
         );
     }
-    // 29
+    // 29. (x+a)+(x+b): S(S(2*x)+S(a+b))
     if are_like_sums(link, left, right) {
         return Arm::Double(left_in(left), right_in(left), right_in(right));
     }
-    // 30, 32
+    // 30. l+(b+c): min(l+r, S(S(l+b)+c))
+    // 32. (a+b)+r: min(l+r, S(a+S(b+r)))
     if has_infix(left, right, InfixOperator::Plus) {
         return choose_grouped(InfixOperator::Plus, l, r, left, right);
     }
-    // 41
+    // 41. Rebuild
     Arm::Build(Expression::Infix(InfixOperator::Plus, l, r))
 }
 
@@ -161,21 +166,23 @@ pub fn choose_sum(
 ) -> Arm
     ensures { λ arm. ⌜ ChoosesIn sumPlan (memory (now (tag .entry)) (now (first .entry)) (now (second .entry)) (now (link .entry))) l r left right arm ⌝ }
 {
-    // 1, 2
+    // 1. 0+r: r
     if is_zero_number(left) {
         return Arm::Use(r);
     }
+    // 2. l+0: l
     if is_zero_number(right) {
         return Arm::Use(l);
     }
-    // 17
+    // 17. Two numbers: fold
     if are_numbers(left, right) {
         return Arm::Fold(InfixOperator::Plus, number_in(left), number_in(right));
     }
-    // 18, 19
+    // 18. l+(-e): S(l-e)
     if is_negation(right) {
         return Arm::Again(Expression::Infix(InfixOperator::Minus, l, operand_in(right)));
     }
+    // 19. (-e)+r: S(r-e)
     if is_negation(left) {
         return Arm::Again(Expression::Infix(InfixOperator::Minus, r, operand_in(left)));
     }

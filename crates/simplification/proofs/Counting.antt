@@ -12,9 +12,10 @@ use Rattle.store.specs.Storing.{Kept, nothing, result, State, state, Answer, gi
 use Rattle.sheet.specs.Rows.{Rows}
 use Rattle.evaluation.specs.declared.Evaluation.{Evaluation}
 use Rattle.evaluation.specs.Evaluating.{calculateFunction, calculateInfix}
+use Rattle.tasks.specs.Tasks.{oneMore, Task, number-of-pi, itself, calling, prefixing, infixing, taskAt}
 use Rattle.arms.specs.Arms.{Plan, smaller, infixPlan, functionPlan, prefixPlan, the, new, folded, called, negation, combined, S, lesser, affine, minus, sum, product}
-use Rattle.simplification.specs.Bounds.{bound}
-use Rattle.simplification.specs.Simplifying.{Simplifier, oneMore, counted, foldedTo, again, keeping, Task, number-of-pi, itself, calling, prefixing, infixing, taskAt, carryOut, simplifyFunctionCall, simplifyPrefix, simplifyInfix, perform, resume, step, simplify}
+use Rattle.simplification.specs.Bounds.{mostCalls}
+use Rattle.simplification.specs.Simplifying.{Simplifier, counted, foldedTo, again, keeping, carryOut, simplifyFunctionCall, simplifyPrefix, simplifyInfix, perform, resume, step, simplify}
 use Rattle.simplification.proofs.Shapes.{weight, Closed, Fine, fine-infix, fine-function, fine-prefix}
 
 unfoldable pub count : State → ℕ
@@ -136,17 +137,17 @@ once-more (state room stored kept calls) = go (ltb calls 18446744073709551615)
     go false = omega arith
 
 module _ (R : Rows) (b f : Simplifier) (m n : ℕ) (x : Makes b m) (y : Makes f n) where
-  performs : (task : Task) (t : Tree) (s : State) → Below (count s + (2 * m + 4 * n)) (perform R b f task t s)
+  performs : (task : Task) (s : State) → Below (count s + (2 * m + 4 * n)) (perform R b f task s)
   unfolding perform simplifyFunctionCall simplifyPrefix simplifyInfix Below Makes Any
-  performs number-of-pi t s = more (intern _ s) (omega arith) (stores _ s)
-  performs itself t s = omega arith
-  performs (calling g a) t s =
+  performs number-of-pi s = more (intern _ s) (omega arith) (stores _ s)
+  performs (itself t) s = omega arith
+  performs (calling g a) s =
       then-below _ _ (b a s) (λ z s. carryOut R f (functionPlan g z) s) (x a s) λ z s′ l.
       more (carryOut R f (functionPlan g z) s′) (omega (arith, l)) (four R f n y (functionPlan g z) (fine-function Any any g z tt) s′)
-  performs (prefixing o a) t s =
+  performs (prefixing o a) s =
       then-below _ _ (b a s) (λ z s. carryOut R f (prefixPlan o z) s) (x a s) λ z s′ l.
       more (carryOut R f (prefixPlan o z) s′) (omega (arith, l)) (four R f n y (prefixPlan o z) (fine-prefix Any any o z tt) s′)
-  performs (infixing o a c) t s =
+  performs (infixing o a c) s =
       then-below _ _ (b a s) (λ z s. andThen (b c s) λ w s. carryOut R f (infixPlan o z w) s) (x a s) λ z s′ l.
       then-below _ _ (b c s′) (λ w s. carryOut R f (infixPlan o z w) s) (x c s′) λ w s″ k.
       more (carryOut R f (infixPlan o z w) s″) (omega (arith, l, k)) (four R f n y (infixPlan o z w) (fine-infix Any any o z w tt tt) s″)
@@ -154,7 +155,7 @@ module _ (R : Rows) (b f : Simplifier) (m n : ℕ) (x : Makes b m) (y : Makes f 
   resumes : (k : Kept) (limit : ℕ) (t : Tree) (s : State) → Below (count s + (2 * m + 4 * n)) (resume R b f k limit t s)
   unfolding resume Below
   resumes (result u) limit t s = omega arith
-  resumes nothing limit t s = keeps _ t (perform R b f (taskAt limit t) t s) (performs (taskAt limit t) t s)
+  resumes nothing limit t s = keeps _ t (perform R b f (taskAt limit t) s) (performs (taskAt limit t) s)
 
   steps : (limit : ℕ) → Makes (step R b f limit) (1 + 2 * m + 4 * n)
   unfolding step Makes
@@ -166,39 +167,39 @@ gives-makes : Makes gives 0
 unfolding Makes Below
 gives-makes t s = omega arith
 
-makes-bound : (R : Rows) (k : ℕ) → Makes (simplify R k) (bound k)
-unfolding simplify bound Makes
+makes-bound : (R : Rows) (k : ℕ) → Makes (simplify R k) (mostCalls k)
+unfolding simplify mostCalls Makes
 makes-bound R zero t s = steps R gives gives 0 0 gives-makes gives-makes 0 t s
 makes-bound R (suc zero) t s = steps R (simplify R 0) (simplify R 0) 1 1 (makes-bound R zero) (makes-bound R zero) 1 t s
 makes-bound R (suc (suc k)) t s =
-    steps R (simplify R (suc k)) (simplify R k) (bound (suc k)) (bound k) (makes-bound R (suc k)) (makes-bound R k) (suc (suc k)) t s
+    steps R (simplify R (suc k)) (simplify R k) (mostCalls (suc k)) (mostCalls k) (makes-bound R (suc k)) (makes-bound R k) (suc (suc k)) t s
 
 -- "It is at most 244,531 at limit 10"
-pub bounded : (R : Rows) (k : ℕ) (t : Tree) (s : State) → Below (count s + bound k) (simplify R k t s)
+pub bounded : (R : Rows) (k : ℕ) (t : Tree) (s : State) → Below (count s + mostCalls k) (simplify R k t s)
 unfolding Makes
 bounded R k t s = makes-bound R k t s
 
-pub bound-at-ten : bound 10 ≡ 244531
-unfolding bound
+pub bound-at-ten : mostCalls 10 ≡ 244531
+unfolding mostCalls
 bound-at-ten = refl
 
-grows : (k : ℕ) → bound k ≤ bound (suc k)
-unfolding bound
+grows : (k : ℕ) → mostCalls k ≤ mostCalls (suc k)
+unfolding mostCalls
 grows zero = omega arith
 grows (suc zero) = omega arith
 grows (suc (suc k)) = omega (arith, grows (suc k), grows k)
 
-grows-by : (k d e : ℕ) → e ≡ d + k → bound k ≤ bound e
-grows-by k zero e p = subst (λ n. bound k ≤ bound n) (same k e p) (omega arith)
+grows-by : (k d e : ℕ) → e ≡ d + k → mostCalls k ≤ mostCalls e
+grows-by k zero e p = subst (λ n. mostCalls k ≤ mostCalls n) (same k e p) (omega arith)
   where
     same : (k e : ℕ) → e ≡ 0 + k → k ≡ e
     same k e p = omega (arith, p)
-grows-by k (suc d) e p = subst (λ n. bound k ≤ bound n) (next k d e p) (omega (arith, grows-by k d (d + k) refl, grows (d + k)))
+grows-by k (suc d) e p = subst (λ n. mostCalls k ≤ mostCalls n) (next k d e p) (omega (arith, grows-by k d (d + k) refl, grows (d + k)))
   where
     next : (k d e : ℕ) → e ≡ suc d + k → suc (d + k) ≡ e
     next k d e p = omega (arith, p)
 
-pub bound-to-ten : (k : ℕ) → k ≤ 10 → bound k ≤ 244531
+pub bound-to-ten : (k : ℕ) → k ≤ 10 → mostCalls k ≤ 244531
 bound-to-ten k l = omega (arith, bound-at-ten, grows-by k (10 - k) 10 (back k l))
   where
     back : (k : ℕ) → k ≤ 10 → 10 ≡ 10 - k + k

@@ -1,20 +1,14 @@
 -- What is done at a node, from the operations to `simplify`: each return of the simplifiers. Assumes nothing.
 use mathlib.Core.Path.{_≡_, refl, sym, ap, _∙_, subst}
-use mathlib.Core.Bool.{true, false}
 use mathlib.Core.List.{List}
 use Prim.Native.Nat.{ℕ, zero, suc, _-_, _<_}
-use lib.Dec.{T}
 use native.Mathlib.Omega.{arith}
-use Rattle.complex.specs.declared.Complex.{Complex}
 use Rattle.expression.specs.declared.InfixOperator.{InfixOperator}
-use Rattle.expression.specs.declared.PrefixOperator.{PrefixOperator}
-use Rattle.expression.specs.declared.ExpressionFunction.{ExpressionFunction}
 use Rattle.expression.specs.declared.refusal.Refusal.{Refusal}
-use Rattle.expression.specs.Trees.{Tree, Leaf, number, pi, variable, cell, leaf, functionCall, prefixed, infixed}
+use Rattle.expression.specs.Trees.{Tree, number, pi, variable, cell, leaf, functionCall, prefixed, infixed}
 use Rattle.store.specs.declared.Added.{Added}
 use Rattle.store.specs.declared.Kept.{Kept}
 use Rattle.expression.specs.declared.node.Expression.{Expression}
-use Rattle.expression.specs.Nodes.{grown}
 use Rattle.store.specs.Storing as Storing
 use Rattle.store.specs.Storing.{State, Answer, gives, refused, andThen, recall, keep, result, nothing}
 use Rattle.store.specs.Memory.{Memory, memory, treeAt, treeOf, stateOf}
@@ -22,11 +16,14 @@ use Rattle.store.specs.Held.{Holds, Built, RecallsIn, KeptIn, keptSeen}
 use Rattle.store.proofs.Building.{older, named, stays, refuses, then-node, then-refused}
 use Rattle.sheet.specs.Rows.{Rows}
 use Rattle.evaluation.specs.declared.Evaluation.{Evaluation}
+use Rattle.tasks.specs.declared.Task.{Task}
+use Rattle.tasks.specs.Tasks.{oneMore, leafTask, taskAt}
+use Rattle.tasks.specs.Deciding.{taskOf, TaskIn, Decides}
 use Rattle.arms.specs.declared.Arm.{Arm}
 use Rattle.arms.specs.Arms.{Plan, infixPlan}
 use Rattle.arms.specs.Choosing.{Sits, Chosen, ArmIn, planOf}
-use Rattle.simplification.specs.Simplifying.{Simplifier, oneMore, counted, foldedTo, keeping, Task, number-of-pi, itself, calling, prefixing, infixing, leafTask, taskAt, carryOut, perform, resume, step, simplify}
-use Rattle.simplification.specs.Run.{isPi, KeepsAnswer}
+use Rattle.simplification.specs.Simplifying.{Simplifier, counted, foldedTo, keeping, carryOut, perform, resume, step, simplify}
+use Rattle.simplification.specs.Run.{KeepsAnswer}
 
 -- ---- a limit
 
@@ -54,7 +51,7 @@ unrolled R zero t s = at-zero R gives gives (simplify R 0) (simplify R 0) (recal
 unrolled R (suc zero) t s = refl
 unrolled R (suc (suc k)) t s = λ i. step R (simplify R (once k i)) (simplify R (twice k i)) (suc (suc k)) t s
 
--- ---- an arm, and the task of a node
+-- ---- an arm, and a task
 
 module _ (R : Rows) where
   -- an arm that was chosen is carried out, where the limit is 1 less
@@ -62,95 +59,12 @@ module _ (R : Rows) where
       → (ArmIn n arm → Built (carryOut R (simplify R low) (planOf m arm) s) r n m m′) → Built (carryOut R (simplify R k) plan s) r n m m′
   carried s e c b = named (λ i. carryOut R (simplify R (e i)) (c .wants i) s) (b (c .inside))
 
-  -- ---- the task of a node
-
-  module _ (b f : Simplifier) (limit : ℕ) where
-    pub performed : {task : Task} (t : Tree) (s : State) {m m′ : Memory} {n : ℕ} {r : Added} → taskAt limit t ≡ task → Built (perform R b f task t s) r n m m′
-        → Built (perform R b f (taskAt limit t) t s) r n m m′
-    performed t s e x = named (ap (λ q. perform R b f q t s) (sym e)) x
-
-    pub stays-itself : {m : Memory} {n node calls : ℕ} (e : Expression) → Holds m n → Sits m n node e → taskAt limit (treeOf m e) ≡ itself
-        → Built (perform R b f (taskAt limit (treeOf m e)) (treeOf m e) (stateOf m n calls)) (Added.Node node n calls) n m m
-    unfolding perform
-    stays-itself {m} {n} {node} {calls} e h x q =
-        performed (treeOf m e) (stateOf m n calls) q (stays h (x .at .inside) (ap (λ t. gives t (stateOf m n calls)) (x .at .tree)))
-
--- ---- which task it is
-
-leaf-task : (limit : ℕ) (l : Leaf) → taskAt limit (leaf l) ≡ leafTask l
-unfolding taskAt
-leaf-task zero l = refl
-leaf-task (suc k) l = refl
-
-never : {A : Type 0} → false ≡ true → A
-never e = absurd (subst T (sym e) tt)
-
--- pi, at any limit
-pub pi-task : (m : Memory) (limit : ℕ) (e : Expression) → isPi e ≡ true → taskAt limit (treeOf m e) ≡ number-of-pi
-unfolding grown leafTask isPi
-pi-task m limit Expression.PiConstant q = leaf-task limit pi
-pi-task m limit (Expression.Number z) q = never q
-pi-task m limit (Expression.Variable v) q = never q
-pi-task m limit (Expression.Address region index) q = never q
-pi-task m limit (Expression.FunctionCall f a) q = never q
-pi-task m limit (Expression.Prefix o a) q = never q
-pi-task m limit (Expression.Infix o a b) q = never q
-
--- all else at limit 0
-pub spent-task : (m : Memory) {limit : ℕ} (e : Expression) → isPi e ≡ false → limit ≡ 0 → taskAt limit (treeOf m e) ≡ itself
-unfolding grown leafTask taskAt isPi
-spent-task m Expression.PiConstant q z = never (sym q)
-spent-task m (Expression.Number w) q z = ap (λ k. taskAt k (leaf (number w))) z
-spent-task m (Expression.Variable v) q z = ap (λ k. taskAt k (leaf (variable v))) z
-spent-task m (Expression.Address region index) q z = ap (λ k. taskAt k (leaf (cell region index))) z
-spent-task m (Expression.FunctionCall f a) q z = ap (λ k. taskAt k (functionCall f (treeAt m a))) z
-spent-task m (Expression.Prefix o a) q z = ap (λ k. taskAt k (prefixed o (treeAt m a))) z
-spent-task m (Expression.Infix o a b) q z = ap (λ k. taskAt k (infixed o (treeAt m a) (treeAt m b))) z
-
-pub not-pi : {A : Type 0} {e : Expression} → e ≡ Expression.PiConstant → isPi e ≡ false → A
-unfolding isPi
-not-pi p q = never (sym q ∙ ap isPi p)
-
-module _ (m : Memory) (limit : ℕ) {e : Expression} where
-  pub number-task : {z : Complex} → e ≡ Expression.Number z → taskAt limit (treeOf m e) ≡ itself
-  unfolding grown leafTask
-  number-task {z} q = ap (λ e. taskAt limit (treeOf m e)) q ∙ leaf-task limit (number z)
-
-  pub variable-task : {v : ℕ} → e ≡ Expression.Variable v → taskAt limit (treeOf m e) ≡ itself
-  unfolding grown leafTask
-  variable-task {v} q = ap (λ e. taskAt limit (treeOf m e)) q ∙ leaf-task limit (variable v)
-
-  pub cell-task : {region index : ℕ} → e ≡ Expression.Address region index → taskAt limit (treeOf m e) ≡ itself
-  unfolding grown leafTask
-  cell-task {region} {index} q = ap (λ e. taskAt limit (treeOf m e)) q ∙ leaf-task limit (cell region index)
-
-  -- an operation, above limit 0
-  module _ {f : ExpressionFunction} {a : ℕ} (q : e ≡ Expression.FunctionCall f a) where
-    pub call-task : (limit ≡ 0 → ⊥) → taskAt limit (treeOf m e) ≡ calling f (treeAt m a)
-    unfolding grown taskAt
-    call-task z = ap (λ e. taskAt limit (treeOf m e)) q ∙ go limit z
-      where
-        go : (limit : ℕ) → (limit ≡ 0 → ⊥) → taskAt limit (functionCall f (treeAt m a)) ≡ calling f (treeAt m a)
-        go zero z = absurd (z refl)
-        go (suc k) z = refl
-
-  module _ {o : PrefixOperator} {a : ℕ} (q : e ≡ Expression.Prefix o a) where
-    pub prefix-task : (limit ≡ 0 → ⊥) → taskAt limit (treeOf m e) ≡ prefixing o (treeAt m a)
-    unfolding grown taskAt
-    prefix-task z = ap (λ e. taskAt limit (treeOf m e)) q ∙ go limit z
-      where
-        go : (limit : ℕ) → (limit ≡ 0 → ⊥) → taskAt limit (prefixed o (treeAt m a)) ≡ prefixing o (treeAt m a)
-        go zero z = absurd (z refl)
-        go (suc k) z = refl
-
-  module _ {o : InfixOperator} {a b : ℕ} (q : e ≡ Expression.Infix o a b) where
-    pub infix-task : (limit ≡ 0 → ⊥) → taskAt limit (treeOf m e) ≡ infixing o (treeAt m a) (treeAt m b)
-    unfolding grown taskAt
-    infix-task z = ap (λ e. taskAt limit (treeOf m e)) q ∙ go limit z
-      where
-        go : (limit : ℕ) → (limit ≡ 0 → ⊥) → taskAt limit (infixed o (treeAt m a) (treeAt m b)) ≡ infixing o (treeAt m a) (treeAt m b)
-        go zero z = absurd (z refl)
-        go (suc k) z = refl
+  -- the task of a node is done
+  pub performed : (b f : Simplifier) {limit node : ℕ} {e : Expression} {task : Task} (s : State) {n : ℕ} {r : Added} {m m′ : Memory}
+      → Decides limit node e task → Sits m n node e → (TaskIn n task → Built (perform R b f (taskOf (treeAt m) task) s) r n m m′)
+      → Built (perform R b f (taskAt limit (treeOf m e)) s) r n m m′
+  performed b f s {n} {m = m} d x done =
+      named (ap (λ q. perform R b f q s) (d .wants (treeAt m) (x .at .tree))) (done (d .inside n (x .at .inside) (x .within)))
 
 -- ---- the cache
 
@@ -181,12 +95,12 @@ module _ (R : Rows) (k calls : ℕ) (kept : Kept) {m : Memory} {n node more : �
       (stays h (subst (KeptIn n) e (c n calls h l .0)) refl)
 
   pub was-done : {e : Expression} {r : Added} (tag first second link link′ : List ℕ) → kept ≡ Kept.Nothing → Sits m n node e
-      → Built (perform R (simplify R (k - 1)) (simplify R (k - 1 - 1)) (taskAt k (treeOf m e)) (treeOf m e) (stateOf m n more)) r n m (memory tag first second link)
+      → Built (perform R (simplify R (k - 1)) (simplify R (k - 1 - 1)) (taskAt k (treeOf m e)) (stateOf m n more)) r n m (memory tag first second link)
       → KeepsAnswer r link link′ node → Built (simplify R k (treeAt m node) (stateOf m n calls)) r n m (memory tag first second link′)
   unfolding resume
   was-done {e} {r} tag first second link link′ z x b w =
       named
-      (ap (λ t. keeping (treeAt m node) (perform R (simplify R (k - 1)) (simplify R (k - 1 - 1)) (taskAt k t) t (stateOf m n more))) (sym (x .at .tree))
+      (ap (λ t. keeping (treeAt m node) (perform R (simplify R (k - 1)) (simplify R (k - 1 - 1)) (taskAt k t) (stateOf m n more))) (sym (x .at .tree))
       ∙ sym (unrolled R k (treeAt m node) (stateOf m n calls) ∙ start-kept nothing (ap (λ x. keptSeen x m) z)))
       (kept-on r tag first second link link′ l b w)
 

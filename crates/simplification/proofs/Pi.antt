@@ -17,9 +17,10 @@ use Rattle.store.specs.Storing.{Kept, nothing, result, State, state, Answer, gi
 use Rattle.sheet.specs.Rows.{Rows}
 use Rattle.evaluation.specs.declared.Evaluation.{Evaluation}
 use Rattle.evaluation.specs.Evaluating.{calculateFunction, calculateInfix}
+use Rattle.tasks.specs.Tasks.{leafTask, taskAt}
 use Rattle.arms.specs.Looks.{under, left, right}
 use Rattle.arms.specs.Arms.{Plan, smaller, infixPlan, functionPlan, prefixPlan, the, new, folded, called, negation, combined, S, lesser, affine, minus, sum, product}
-use Rattle.simplification.specs.Simplifying.{Simplifier, counted, foldedTo, again, keeping, leafTask, taskAt, carryOut, simplifyFunctionCall, simplifyPrefix, simplifyInfix, perform, resume, step, simplify}
+use Rattle.simplification.specs.Simplifying.{Simplifier, counted, foldedTo, again, keeping, carryOut, simplifyFunctionCall, simplifyPrefix, simplifyInfix, perform, resume, step, simplify}
 use Rattle.simplification.proofs.Shapes.{Closed, Over, fine-infix, fine-function, fine-prefix}
 
 -- no leaf is pi
@@ -196,14 +197,14 @@ positive (prefixed o t) = omega arith
 positive (infixed o l r) = omega arith
 
 module _ (R : Rows) (b f : Simplifier) where
-  performs-leaf : (l : Leaf) (s : State) → Clean s → Good (perform R b f (leafTask l) (leaf l) s)
+  performs-leaf : (l : Leaf) (s : State) → Clean s → Good (perform R b f (leafTask l) s)
   unfolding perform leafTask Good Piless
   performs-leaf (number z) s c = (tt, c)
   performs-leaf pi s c = stores (leaf (number piNumber)) s tt c
   performs-leaf (variable v) s c = (tt, c)
   performs-leaf (cell region index) s c = (tt, c)
 
-  performs-none : (t : Tree) (s : State) → Ready 0 t → Clean s → Good (perform R b f (taskAt 0 t) t s)
+  performs-none : (t : Tree) (s : State) → Ready 0 t → Clean s → Good (perform R b f (taskAt 0 t) s)
   unfolding perform taskAt Good measure
   performs-none (leaf l) s r c = performs-leaf l s c
   performs-none (functionCall g t) s r c = (as-it-is r (λ l. omega (arith, l, positive t)), c)
@@ -211,7 +212,7 @@ module _ (R : Rows) (b f : Simplifier) where
   performs-none (infixed o t u) s r c = (as-it-is r (λ l. omega (arith, l, positive t)), c)
 
   performs : (k : ℕ) → Simplifies b k → ((t : Tree) (s : State) → Piless t → Clean s → Good (f t s))
-      → (t : Tree) (s : State) → Ready (suc k) t → Clean s → Good (perform R b f (taskAt (suc k) t) t s)
+      → (t : Tree) (s : State) → Ready (suc k) t → Clean s → Good (perform R b f (taskAt (suc k) t) s)
   unfolding perform taskAt simplifyFunctionCall simplifyPrefix simplifyInfix Simplifies
   performs k hb hf (leaf l) s r c = performs-leaf l s c
   performs k hb hf (functionCall g t) s r c =
@@ -225,13 +226,13 @@ module _ (R : Rows) (b f : Simplifier) where
       then-good (b u s′) (λ z s. carryOut R f (infixPlan o x z) s) (hb u s′ (right-operand r) d) λ z s″ w e.
       carries R f hf (infixPlan o x z) s″ (fine-infix Piless piless o x z y w .over) e
 
-  steps : (limit : ℕ) (t : Tree) (s : State) → Clean s → ((s : State) → Clean s → Good (perform R b f (taskAt limit t) t s)) → Good (step R b f limit t s)
+  steps : (limit : ℕ) (t : Tree) (s : State) → Clean s → ((s : State) → Clean s → Good (perform R b f (taskAt limit t) s)) → Good (step R b f limit t s)
   unfolding step resume Good Clean
   steps limit t s c p = go (recall t s) refl
     where
       go : (k : Kept) → recall t s ≡ k → Good (resume R b f k limit t (counted s))
       go (result u) e = (c t u e, counted-clean s c)
-      go nothing e = keeps t (perform R b f (taskAt limit t) t (counted s)) (p (counted s) (counted-clean s c))
+      go nothing e = keeps t (perform R b f (taskAt limit t) (counted s)) (p (counted s) (counted-clean s c))
 
 simplifies : (R : Rows) (k : ℕ) → Simplifies (simplify R k) k
 unfolding simplify Simplifies

@@ -8,7 +8,7 @@ use Rattle.expression.specs.declared.PrefixOperator.{PrefixOperator}
 use Rattle.expression.specs.declared.ExpressionFunction.{ExpressionFunction}
 use Rattle.expression.specs.Trees.{Tree, number, leaf, functionCall, infixed}
 use Rattle.arms.specs.Looks.{under, left, right}
-use Rattle.arms.specs.Arms.{Plan, pick, undone, groupedRight, grouped, moved, sharing, affineSum, sumPlan, signedDifference, differencePlan, signedProduct, distributed, productPlan, signedQuotient, split, cancelled, quotientPlan, powerPlan, infixPlan, functionPlan, minusPlan, prefixPlan, the, new, folded, called, negation, combined, S, lesser, affine, minus}
+use Rattle.arms.specs.Arms.{Plan, armIf, uninverted, groupedRight, grouped, moved, sharing, affineSum, sumPlan, signedDifference, differencePlan, signedProduct, distributed, productPlan, signedQuotient, split, cancelled, quotientPlan, powerPlan, infixPlan, functionPlan, minusPlan, prefixPlan, the, new, folded, called, negation, combined, S, lesser, affine, minus}
 
 -- how many S calls a plan has
 unfoldable pub weight : Plan → ℕ
@@ -48,75 +48,75 @@ pub record Fine (P : Tree → Type 0) (p : Plan) : Type 0 where
   pub light : weight p ≤ 4
   pub over : Over P p
 
-picked : {P : Tree → Type 0} (b : Bool) (p q : Plan) → Fine P p → Fine P q → Fine P (pick b p q)
-unfolding pick
-picked true p q x y = x
-picked false p q x y = y
+fine-if : {P : Tree → Type 0} (b : Bool) (p q : Plan) → Fine P p → Fine P q → Fine P (armIf b p q)
+unfolding armIf
+fine-if true p q x y = x
+fine-if false p q x y = y
 
 module _ (P : Tree → Type 0) (c : Closed P) where
   fine-right : (op : InfixOperator) (l r : Tree) → P l → P r → Fine P (groupedRight op l r)
   unfolding groupedRight weight Over
-  fine-right op l r x y = picked _ _ _ (record { light = omega arith; over = (c .infix-of op (x) (y), (c .infix-of (undone op) (x) (c .right-of r y), c .left-of r y)) }) (record { light = omega arith; over = (c .infix-of op (x) (y), (c .infix-of op (x) (c .left-of r y), c .right-of r y)) })
+  fine-right op l r x y = fine-if _ _ _ (record { light = omega arith; over = (c .infix-of op (x) (y), (c .infix-of (uninverted op) (x) (c .right-of r y), c .left-of r y)) }) (record { light = omega arith; over = (c .infix-of op (x) (y), (c .infix-of op (x) (c .left-of r y), c .right-of r y)) })
 
   fine-grouped : (op : InfixOperator) (l r : Tree) → P l → P r → Fine P (grouped op l r)
   unfolding grouped weight Over
-  fine-grouped op l r x y = picked _ _ _ (fine-right op l r x y) (record { light = omega arith; over = (c .infix-of op (x) (y), (c .left-of l x, c .infix-of op (c .right-of l x) (y))) })
+  fine-grouped op l r x y = fine-if _ _ _ (fine-right op l r x y) (record { light = omega arith; over = (c .infix-of op (x) (y), (c .left-of l x, c .infix-of op (c .right-of l x) (y))) })
 
   fine-moved : (op : InfixOperator) (l r : Tree) → P l → P r → Fine P (moved op l r)
   unfolding moved weight Over
-  fine-moved op l r x y = picked _ _ _ (record { light = omega arith; over = (c .infix-of InfixOperator.Star (x) (y), (c .minus-of x, c .under-of r y)) }) (record { light = omega arith; over = (c .infix-of InfixOperator.Star (x) (y), (c .under-of l x, c .minus-of y)) })
+  fine-moved op l r x y = fine-if _ _ _ (record { light = omega arith; over = (c .infix-of InfixOperator.Star (x) (y), (c .minus-of x, c .under-of r y)) }) (record { light = omega arith; over = (c .infix-of InfixOperator.Star (x) (y), (c .under-of l x, c .minus-of y)) })
 
   fine-sharing : (p q p′ q′ bs : Tree) → P p → P q → P p′ → P q′ → P bs → Fine P (sharing p q p′ q′ bs)
   unfolding sharing weight Over
-  fine-sharing p q p′ q′ bs x y x′ y′ z = picked _ _ _ (record { light = omega arith; over = (c .infix-of InfixOperator.Plus y y′, x, z) }) (picked _ _ _ (record { light = omega arith; over = (c .infix-of InfixOperator.Plus y x′, x, z) }) (picked _ _ _ (record { light = omega arith; over = (c .infix-of InfixOperator.Plus x y′, y, z) }) (record { light = omega arith; over = (c .infix-of InfixOperator.Plus x x′, y′, z) })))
+  fine-sharing p q p′ q′ bs x y x′ y′ z = fine-if _ _ _ (record { light = omega arith; over = (c .infix-of InfixOperator.Plus y y′, x, z) }) (fine-if _ _ _ (record { light = omega arith; over = (c .infix-of InfixOperator.Plus y x′, x, z) }) (fine-if _ _ _ (record { light = omega arith; over = (c .infix-of InfixOperator.Plus x y′, y, z) }) (record { light = omega arith; over = (c .infix-of InfixOperator.Plus x x′, y′, z) })))
 
   fine-affine : (l r : Tree) → P l → P r → Fine P (affineSum l r)
   unfolding affineSum weight Over
-  fine-affine l r x y = picked _ _ _ (fine-sharing _ _ _ _ _ (c .left-of (left l) (c .left-of l x)) (c .right-of (left l) (c .left-of l x)) (c .left-of (left r) (c .left-of r y)) (c .right-of (left r) (c .left-of r y)) (c .infix-of InfixOperator.Plus (c .right-of l x) (c .right-of r y))) (picked _ _ _ (record { light = omega arith; over = (c .infix-of InfixOperator.Plus (c .left-of l x) (c .left-of r y), c .right-of l x) }) (picked _ _ _ (record { light = omega arith; over = ((c .numeral _, c .left-of l x), c .infix-of InfixOperator.Plus (c .right-of l x) (c .right-of r y)) }) (picked _ _ _ (fine-grouped InfixOperator.Plus l r x y) (record { light = omega arith; over = c .infix-of InfixOperator.Plus (x) (y) }))))
+  fine-affine l r x y = fine-if _ _ _ (fine-sharing _ _ _ _ _ (c .left-of (left l) (c .left-of l x)) (c .right-of (left l) (c .left-of l x)) (c .left-of (left r) (c .left-of r y)) (c .right-of (left r) (c .left-of r y)) (c .infix-of InfixOperator.Plus (c .right-of l x) (c .right-of r y))) (fine-if _ _ _ (record { light = omega arith; over = (c .infix-of InfixOperator.Plus (c .left-of l x) (c .left-of r y), c .right-of l x) }) (fine-if _ _ _ (record { light = omega arith; over = ((c .numeral _, c .left-of l x), c .infix-of InfixOperator.Plus (c .right-of l x) (c .right-of r y)) }) (fine-if _ _ _ (fine-grouped InfixOperator.Plus l r x y) (record { light = omega arith; over = c .infix-of InfixOperator.Plus (x) (y) }))))
 
   fine-sum : (l r : Tree) → P l → P r → Fine P (sumPlan l r)
   unfolding sumPlan weight Over
-  fine-sum l r x y = picked _ _ _ (record { light = omega arith; over = y }) (picked _ _ _ (record { light = omega arith; over = x }) (picked _ _ _ (record { light = omega arith; over = tt }) (picked _ _ _ (record { light = omega arith; over = c .infix-of InfixOperator.Minus (x) (c .under-of r y) }) (picked _ _ _ (record { light = omega arith; over = c .infix-of InfixOperator.Minus (y) (c .under-of l x) }) (fine-affine l r x y)))))
+  fine-sum l r x y = fine-if _ _ _ (record { light = omega arith; over = y }) (fine-if _ _ _ (record { light = omega arith; over = x }) (fine-if _ _ _ (record { light = omega arith; over = tt }) (fine-if _ _ _ (record { light = omega arith; over = c .infix-of InfixOperator.Minus (x) (c .under-of r y) }) (fine-if _ _ _ (record { light = omega arith; over = c .infix-of InfixOperator.Minus (y) (c .under-of l x) }) (fine-affine l r x y)))))
 
   fine-signed-difference : (l r : Tree) → P l → P r → Fine P (signedDifference l r)
   unfolding signedDifference weight Over
-  fine-signed-difference l r x y = picked _ _ _ (record { light = omega arith; over = c .infix-of InfixOperator.Plus (x) (c .under-of r y) }) (picked _ _ _ (record { light = omega arith; over = (c .infix-of InfixOperator.Minus (x) (y), c .infix-of InfixOperator.Plus (c .under-of l x) (y)) }) (picked _ _ _ (fine-grouped InfixOperator.Minus l r x y) (record { light = omega arith; over = c .infix-of InfixOperator.Minus (x) (y) })))
+  fine-signed-difference l r x y = fine-if _ _ _ (record { light = omega arith; over = c .infix-of InfixOperator.Plus (x) (c .under-of r y) }) (fine-if _ _ _ (record { light = omega arith; over = (c .infix-of InfixOperator.Minus (x) (y), c .infix-of InfixOperator.Plus (c .under-of l x) (y)) }) (fine-if _ _ _ (fine-grouped InfixOperator.Minus l r x y) (record { light = omega arith; over = c .infix-of InfixOperator.Minus (x) (y) })))
 
   fine-difference : (l r : Tree) → P l → P r → Fine P (differencePlan l r)
   unfolding differencePlan weight Over
-  fine-difference l r x y = picked _ _ _ (record { light = omega arith; over = c .minus-of y }) (picked _ _ _ (record { light = omega arith; over = x }) (picked _ _ _ (record { light = omega arith; over = c .numeral _ }) (picked _ _ _ (record { light = omega arith; over = tt }) (fine-signed-difference l r x y))))
+  fine-difference l r x y = fine-if _ _ _ (record { light = omega arith; over = c .minus-of y }) (fine-if _ _ _ (record { light = omega arith; over = x }) (fine-if _ _ _ (record { light = omega arith; over = c .numeral _ }) (fine-if _ _ _ (record { light = omega arith; over = tt }) (fine-signed-difference l r x y))))
 
   fine-signed-product : (l r : Tree) → P l → P r → Fine P (signedProduct l r)
   unfolding signedProduct weight Over
-  fine-signed-product l r x y = picked _ _ _ (record { light = omega arith; over = c .infix-of InfixOperator.Star (c .under-of l x) (c .under-of r y) }) (fine-moved InfixOperator.Star l r x y)
+  fine-signed-product l r x y = fine-if _ _ _ (record { light = omega arith; over = c .infix-of InfixOperator.Star (c .under-of l x) (c .under-of r y) }) (fine-moved InfixOperator.Star l r x y)
 
   fine-distributed : (l r : Tree) → P l → P r → Fine P (distributed l r)
   unfolding distributed weight Over
-  fine-distributed l r x y = picked _ _ _ (record { light = omega arith; over = (c .infix-of InfixOperator.Star (x) (y), (c .infix-of InfixOperator.Star (x) (c .left-of r y), c .infix-of InfixOperator.Star (x) (c .right-of r y))) }) (picked _ _ _ (record { light = omega arith; over = (c .infix-of InfixOperator.Star (x) (y), (c .infix-of InfixOperator.Star (c .left-of l x) (y), c .infix-of InfixOperator.Star (c .right-of l x) (y))) }) (picked _ _ _ (record { light = omega arith; over = c .left-of l x }) (picked _ _ _ (record { light = omega arith; over = c .left-of r y }) (record { light = omega arith; over = c .infix-of InfixOperator.Star (x) (y) }))))
+  fine-distributed l r x y = fine-if _ _ _ (record { light = omega arith; over = (c .infix-of InfixOperator.Star (x) (y), (c .infix-of InfixOperator.Star (x) (c .left-of r y), c .infix-of InfixOperator.Star (x) (c .right-of r y))) }) (fine-if _ _ _ (record { light = omega arith; over = (c .infix-of InfixOperator.Star (x) (y), (c .infix-of InfixOperator.Star (c .left-of l x) (y), c .infix-of InfixOperator.Star (c .right-of l x) (y))) }) (fine-if _ _ _ (record { light = omega arith; over = c .left-of l x }) (fine-if _ _ _ (record { light = omega arith; over = c .left-of r y }) (record { light = omega arith; over = c .infix-of InfixOperator.Star (x) (y) }))))
 
   fine-product : (l r : Tree) → P l → P r → Fine P (productPlan l r)
   unfolding productPlan weight Over
-  fine-product l r x y = picked _ _ _ (record { light = omega arith; over = c .numeral _ }) (picked _ _ _ (record { light = omega arith; over = y }) (picked _ _ _ (record { light = omega arith; over = x }) (picked _ _ _ (record { light = omega arith; over = tt }) (picked _ _ _ (fine-signed-product l r x y) (picked _ _ _ (fine-grouped InfixOperator.Star l r x y) (fine-distributed l r x y))))))
+  fine-product l r x y = fine-if _ _ _ (record { light = omega arith; over = c .numeral _ }) (fine-if _ _ _ (record { light = omega arith; over = y }) (fine-if _ _ _ (record { light = omega arith; over = x }) (fine-if _ _ _ (record { light = omega arith; over = tt }) (fine-if _ _ _ (fine-signed-product l r x y) (fine-if _ _ _ (fine-grouped InfixOperator.Star l r x y) (fine-distributed l r x y))))))
 
   fine-signed-quotient : (l r : Tree) → P l → P r → Fine P (signedQuotient l r)
   unfolding signedQuotient weight Over
-  fine-signed-quotient l r x y = picked _ _ _ (record { light = omega arith; over = c .infix-of InfixOperator.Slash (c .under-of l x) (c .under-of r y) }) (picked _ _ _ (record { light = omega arith; over = c .numeral _ }) (picked _ _ _ (record { light = omega arith; over = c .numeral _ }) (fine-moved InfixOperator.Slash l r x y)))
+  fine-signed-quotient l r x y = fine-if _ _ _ (record { light = omega arith; over = c .infix-of InfixOperator.Slash (c .under-of l x) (c .under-of r y) }) (fine-if _ _ _ (record { light = omega arith; over = c .numeral _ }) (fine-if _ _ _ (record { light = omega arith; over = c .numeral _ }) (fine-moved InfixOperator.Slash l r x y)))
 
   fine-split : (l r : Tree) → P l → P r → Fine P (split l r)
   unfolding split weight Over
-  fine-split l r x y = picked _ _ _ (record { light = omega arith; over = (c .infix-of InfixOperator.Slash (x) (y), (c .left-of l x, c .infix-of InfixOperator.Slash (c .right-of l x) (y))) }) (picked _ _ _ (record { light = omega arith; over = (c .infix-of InfixOperator.Slash (x) (y), (c .infix-of InfixOperator.Slash (x) (c .left-of r y), c .right-of r y)) }) (record { light = omega arith; over = c .infix-of InfixOperator.Slash (x) (y) }))
+  fine-split l r x y = fine-if _ _ _ (record { light = omega arith; over = (c .infix-of InfixOperator.Slash (x) (y), (c .left-of l x, c .infix-of InfixOperator.Slash (c .right-of l x) (y))) }) (fine-if _ _ _ (record { light = omega arith; over = (c .infix-of InfixOperator.Slash (x) (y), (c .infix-of InfixOperator.Slash (x) (c .left-of r y), c .right-of r y)) }) (record { light = omega arith; over = c .infix-of InfixOperator.Slash (x) (y) }))
 
   fine-cancelled : (l r : Tree) → P l → P r → Fine P (cancelled l r)
   unfolding cancelled weight Over
-  fine-cancelled l r x y = picked _ _ _ (record { light = omega arith; over = c .right-of l x }) (picked _ _ _ (record { light = omega arith; over = c .left-of l x }) (picked _ _ _ (record { light = omega arith; over = (c .numeral _, c .right-of r y) }) (picked _ _ _ (record { light = omega arith; over = (c .numeral _, c .left-of r y) }) (fine-split l r x y))))
+  fine-cancelled l r x y = fine-if _ _ _ (record { light = omega arith; over = c .right-of l x }) (fine-if _ _ _ (record { light = omega arith; over = c .left-of l x }) (fine-if _ _ _ (record { light = omega arith; over = (c .numeral _, c .right-of r y) }) (fine-if _ _ _ (record { light = omega arith; over = (c .numeral _, c .left-of r y) }) (fine-split l r x y))))
 
   fine-quotient : (l r : Tree) → P l → P r → Fine P (quotientPlan l r)
   unfolding quotientPlan weight Over
-  fine-quotient l r x y = picked _ _ _ (record { light = omega arith; over = c .numeral _ }) (picked _ _ _ (record { light = omega arith; over = c .numeral _ }) (picked _ _ _ (record { light = omega arith; over = x }) (picked _ _ _ (record { light = omega arith; over = c .numeral _ }) (picked _ _ _ (record { light = omega arith; over = tt }) (picked _ _ _ (fine-signed-quotient l r x y) (picked _ _ _ (fine-grouped InfixOperator.Slash l r x y) (fine-cancelled l r x y)))))))
+  fine-quotient l r x y = fine-if _ _ _ (record { light = omega arith; over = c .numeral _ }) (fine-if _ _ _ (record { light = omega arith; over = c .numeral _ }) (fine-if _ _ _ (record { light = omega arith; over = x }) (fine-if _ _ _ (record { light = omega arith; over = c .numeral _ }) (fine-if _ _ _ (record { light = omega arith; over = tt }) (fine-if _ _ _ (fine-signed-quotient l r x y) (fine-if _ _ _ (fine-grouped InfixOperator.Slash l r x y) (fine-cancelled l r x y)))))))
 
   fine-power : (l r : Tree) → P l → P r → Fine P (powerPlan l r)
   unfolding powerPlan weight Over
-  fine-power l r x y = picked _ _ _ (record { light = omega arith; over = c .numeral _ }) (picked _ _ _ (record { light = omega arith; over = c .numeral _ }) (picked _ _ _ (record { light = omega arith; over = c .numeral _ }) (picked _ _ _ (record { light = omega arith; over = x }) (picked _ _ _ (record { light = omega arith; over = tt }) (record { light = omega arith; over = c .infix-of InfixOperator.Caret (x) (y) })))))
+  fine-power l r x y = fine-if _ _ _ (record { light = omega arith; over = c .numeral _ }) (fine-if _ _ _ (record { light = omega arith; over = c .numeral _ }) (fine-if _ _ _ (record { light = omega arith; over = c .numeral _ }) (fine-if _ _ _ (record { light = omega arith; over = x }) (fine-if _ _ _ (record { light = omega arith; over = tt }) (record { light = omega arith; over = c .infix-of InfixOperator.Caret (x) (y) })))))
 
   pub fine-infix : (op : InfixOperator) (l r : Tree) → P l → P r → Fine P (infixPlan op l r)
   unfolding infixPlan
@@ -128,11 +128,11 @@ module _ (P : Tree → Type 0) (c : Closed P) where
 
   pub fine-function : (f : ExpressionFunction) (t : Tree) → P t → Fine P (functionPlan f t)
   unfolding functionPlan weight Over
-  fine-function f t x = picked _ _ _ (record { light = omega arith; over = tt }) (record { light = omega arith; over = c .call f x })
+  fine-function f t x = fine-if _ _ _ (record { light = omega arith; over = tt }) (record { light = omega arith; over = c .call f x })
 
   fine-minus : (t : Tree) → P t → Fine P (minusPlan t)
   unfolding minusPlan weight Over
-  fine-minus t x = picked _ _ _ (record { light = omega arith; over = c .numeral _ }) (picked _ _ _ (record { light = omega arith; over = c .under-of t x }) (record { light = omega arith; over = c .minus-of x }))
+  fine-minus t x = fine-if _ _ _ (record { light = omega arith; over = c .numeral _ }) (fine-if _ _ _ (record { light = omega arith; over = c .under-of t x }) (record { light = omega arith; over = c .minus-of x }))
 
   pub fine-prefix : (o : PrefixOperator) (t : Tree) → P t → Fine P (prefixPlan o t)
   unfolding prefixPlan weight Over

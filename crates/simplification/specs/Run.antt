@@ -1,6 +1,5 @@
 -- What the functions on nodes ensure where the slices hold a store and the table a sheet. Only connecting.
 use Prim.Native.Nat.{ℕ, _-_, _<_}
-use mathlib.Core.Bool.{Bool, true, false}
 use mathlib.Core.List.{List}
 use Rattle.expression.specs.declared.InfixOperator.{InfixOperator}
 use Rattle.expression.specs.declared.PrefixOperator.{PrefixOperator}
@@ -11,22 +10,14 @@ use Rattle.expression.specs.Nodes.{Within}
 use Rattle.store.specs.Storing.{State, Answer}
 use Rattle.store.specs.Memory.{Memory, memory, treeAt, treeOf, stateOf}
 use Rattle.store.specs.Held.{Holds, Built, KeepsFrom}
-use Rattle.sheet.specs.declared.Rows.{Rows as Counts}
+use Rattle.sheet.specs.declared.Counts.{Counts}
 use Rattle.sheet.specs.Rows.{Rows}
 use Rattle.sheet.specs.Table.{rowsOf, Held}
 use Rattle.evaluation.specs.declared.Evaluation.{Evaluation}
+use Rattle.tasks.specs.Tasks.{taskAt}
 use Rattle.arms.specs.declared.Arm.{Arm}
 use Rattle.arms.specs.Choosing.{Sits, ArmIn, planOf, addedPlan}
-use Rattle.simplification.specs.Simplifying.{carryOut, foldedTo, simplifyFunctionCall, simplifyPrefix, simplifyInfix, perform, taskAt, simplify}
-
-unfoldable pub isPi : Expression → Bool
-isPi (Expression.Number z) = false
-isPi Expression.PiConstant = true
-isPi (Expression.Variable v) = false
-isPi (Expression.Address region index) = false
-isPi (Expression.FunctionCall f a) = false
-isPi (Expression.Prefix o a) = false
-isPi (Expression.Infix o a b) = false
+use Rattle.simplification.specs.Simplifying.{carryOut, foldedTo, simplifyFunctionCall, simplifyPrefix, simplifyInfix, perform, simplify}
 
 -- a step that builds: where the slices hold a store and what it is about is among its nodes, it answers `want`
 abbrev pub Does : (In : ℕ → Type 0) (want : Memory → State → Answer) (n calls : ℕ) (r : Added) (m m′ : Memory) → Type 0
@@ -62,7 +53,7 @@ Infixes limit table rows op l r = DoesBy table rows (λ n. (l < n) × (r < n)) �
 abbrev pub Performs : (limit : ℕ) (table : List ℕ) → Counts → (node : ℕ) (e : Expression) (n calls : ℕ) (r : Added) (m m′ : Memory) → Type 0
 Performs limit table rows node e n calls r m m′ =
     Held table rows → Holds m n → Sits m n node e
-    → Built (perform (rowsOf table rows) (simplify (rowsOf table rows) (limit - 1)) (simplify (rowsOf table rows) (limit - 1 - 1)) (taskAt limit (treeOf m e)) (treeOf m e) (stateOf m n calls)) r n m m′
+    → Built (perform (rowsOf table rows) (simplify (rowsOf table rows) (limit - 1)) (simplify (rowsOf table rows) (limit - 1 - 1)) (taskAt limit (treeOf m e)) (stateOf m n calls)) r n m m′
 
 -- the answer is kept, if it is a node
 abbrev pub KeepsAnswer : Added → (link link′ : List ℕ) (e : ℕ) → Type 0

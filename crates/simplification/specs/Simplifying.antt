@@ -1,27 +1,22 @@
 -- 01's "Simplifying", on trees: what simplifying a tree at a limit gives, in a store, and how it counts. Definitions only.
 use Prim.Native.Nat.{ℕ, zero, suc}
-use mathlib.Core.Bool.{cond}
-use lib.Dec.{ltb}
 use Rattle.complex.specs.Constants.{piNumber}
 use Rattle.expression.specs.declared.InfixOperator.{InfixOperator}
 use Rattle.expression.specs.declared.PrefixOperator.{PrefixOperator}
 use Rattle.expression.specs.declared.ExpressionFunction.{ExpressionFunction}
 use Rattle.expression.specs.declared.refusal.Refusal.{Refusal}
-use Rattle.expression.specs.Trees.{Tree, Leaf, number, pi, variable, cell, leaf, functionCall, prefixed, infixed}
+use Rattle.expression.specs.Trees.{Tree, number, leaf, infixed}
 use Rattle.store.specs.Storing.{Kept, nothing, result, State, state, Answer, gives, refused, andThen, intern, recall, keep}
 use Rattle.sheet.specs.Rows.{Rows}
 use Rattle.evaluation.specs.declared.Evaluation.{Evaluation}
 use Rattle.evaluation.specs.Evaluating.{calculateFunction, calculateInfix}
+use Rattle.tasks.specs.Tasks.{oneMore, Task, number-of-pi, itself, calling, prefixing, infixing, taskAt}
 use Rattle.arms.specs.Arms.{Plan, the, new, folded, called, negation, combined, S, lesser, affine, smaller, minus, sum, product, infixPlan, functionPlan, prefixPlan}
 
 abbrev pub Simplifier : Type 0
 Simplifier = Tree → State → Answer
 
--- "The answer carries the number of simplify calls made, cache hits counted". The count is a machine word and would stay at its largest; it
--- never comes near it (proofs/Counting.antt, `bounded`)
-unfoldable pub oneMore : ℕ → ℕ
-oneMore calls = cond (ltb calls 18446744073709551615) (suc calls) calls
-
+-- one more simplify call
 unfoldable pub counted : State → State
 counted (state room stored kept calls) = state room stored kept (oneMore calls)
 
@@ -38,31 +33,6 @@ again simplified t s = andThen (intern t s) simplified
 -- "Results are cached on return"; "a later return for an equal node replaces an earlier one"
 unfoldable pub keeping : Tree → Answer → Answer
 keeping t answer = andThen answer λ u s. gives u (keep t u s)
-
--- what is done at a tree for which nothing is kept
-pub data Task : Type 0 where
-  number-of-pi : Task
-  itself : Task
-  calling : ExpressionFunction → Tree → Task
-  prefixing : PrefixOperator → Tree → Task
-  infixing : InfixOperator → Tree → Tree → Task
-
-unfoldable pub leafTask : Leaf → Task
-leafTask (number z) = itself
-leafTask pi = number-of-pi
-leafTask (variable v) = itself
-leafTask (cell region index) = itself
-
--- "pi gives its number, even at limit 0; limit 0 gives the node; leaves give themselves. Otherwise the operation runs"
-unfoldable pub taskAt : (limit : ℕ) → Tree → Task
-taskAt zero (leaf l) = leafTask l
-taskAt zero (functionCall f t) = itself
-taskAt zero (prefixed o t) = itself
-taskAt zero (infixed o l r) = itself
-taskAt (suc k) (leaf l) = leafTask l
-taskAt (suc k) (functionCall f t) = calling f t
-taskAt (suc k) (prefixed o t) = prefixing o t
-taskAt (suc k) (infixed o l r) = infixing o l r
 
 module _ (rows : Rows) where
   -- A plan carried out, where `S` is what simplifies again: from left to right, operands before their node
@@ -92,17 +62,17 @@ module _ (rows : Rows) where
     unfoldable pub simplifyInfix : InfixOperator → Tree → Tree → State → Answer
     simplifyInfix o l r s = andThen (below l s) λ x s. andThen (below r s) λ y s. carryOut further (infixPlan o x y) s
 
-    unfoldable pub perform : Task → Tree → State → Answer
-    perform number-of-pi t s = intern (leaf (number piNumber)) s
-    perform itself t s = gives t s
-    perform (calling f a) t s = simplifyFunctionCall f a s
-    perform (prefixing o a) t s = simplifyPrefix o a s
-    perform (infixing o a b) t s = simplifyInfix o a b s
+    unfoldable pub perform : Task → State → Answer
+    perform number-of-pi s = intern (leaf (number piNumber)) s
+    perform (itself t) s = gives t s
+    perform (calling f t) s = simplifyFunctionCall f t s
+    perform (prefixing o t) s = simplifyPrefix o t s
+    perform (infixing o l r) s = simplifyInfix o l r s
 
     -- "a cached equal node gives its cached result, whatever limit it was made at"
     unfoldable pub resume : Kept → (limit : ℕ) → Tree → State → Answer
     resume (result u) limit t s = gives u s
-    resume nothing limit t s = keeping t (perform (taskAt limit t) t s)
+    resume nothing limit t s = keeping t (perform (taskAt limit t) s)
 
     unfoldable pub step : (limit : ℕ) → Tree → State → Answer
     step limit t s = resume (recall t s) limit t (counted s)

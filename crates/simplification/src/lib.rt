@@ -1,10 +1,8 @@
 // The cycle of simplifying: `simplify` and what it calls, with the limit falling, and the carriers of the arms' shapes,
 // each of which stores and simplifies in the Rust's order.
-ghost use mathlib.Core.Path.{_≡_};
 ghost use Rattle.store.specs.Memory.{memory};
 ghost use Rattle.arms.specs.declared.Arm.{Arm as Arms};
-ghost use Rattle.simplification.specs.Simplifying.{oneMore};
-ghost use Rattle.simplification.specs.Run.{isPi, Stores, Carries, Adds, CallsFunction, Prefixes, Infixes, Performs, KeepsAnswer, Simplifies};
+ghost use Rattle.simplification.specs.Run.{Stores, Carries, Adds, CallsFunction, Prefixes, Infixes, Performs, KeepsAnswer, Simplifies};
 use arms::Arm;
 use arms::Outer;
 use arms::choose_function;
@@ -22,41 +20,17 @@ use expression::InfixOperator;
 use expression::PrefixOperator;
 use expression::node::Expression;
 use expression::refusal::Refusal;
-use limit::Limit;
-use sheet::Rows;
+use sheet::Counts;
 use store::Added;
 use store::Kept;
 use store::add;
 use store::keep;
 use store::kept_at;
 use store::reading::expression_at;
-
-pub mod limit;
-
-// One more simplify call.
-fn one_more(calls: u64) -> u64
-    ensures { λ r. ⌜ r ≡ oneMore calls ⌝ }
-{
-    if calls < 18446744073709551615 {
-        calls + 1
-    } else {
-        calls
-    }
-}
-
-fn is_pi(e: Expression) -> bool
-    ensures { λ r. ⌜ r ≡ isPi e ⌝ }
-{
-    match e {
-        Expression::PiConstant => true,
-        Expression::Address(_, _) => false,
-        Expression::FunctionCall(_, _) => false,
-        Expression::Infix(_, _, _) => false,
-        Expression::Number(_) => false,
-        Expression::Prefix(_, _) => false,
-        Expression::Variable(_) => false,
-    }
-}
+use tasks::Task;
+use tasks::limit::Limit;
+use tasks::one_more;
+use tasks::task_at;
 
 // A folded number is stored; NEED comes before.
 fn store_value(
@@ -93,18 +67,18 @@ fn keep_answer(link: &mut [u64], node: usize, answer: Added)
 
 // S(e), for a new node e.
 fn again(
-    at: Limit,
+    limit: Limit,
     tag: &mut [u64],
     first: &mut [u64],
     second: &mut [u64],
     link: &mut [u64],
     table: &[u64],
-    rows: Rows,
+    counts: Counts,
     e: Expression,
     n: usize,
     calls: u64,
 ) -> Added
-    ensures { λ o. ⌜ Carries (at .0) (now (table .entry)) rows (Arms.Again e) n calls o (memory (now (tag .entry)) (now (first .entry)) (now (second .entry)) (now (link .entry))) (memory (now (tag .exit)) (now (first .exit)) (now (second .exit)) (now (link .exit))) ⌝ }
+    ensures { λ o. ⌜ Carries (limit .0) (now (table .entry)) counts (Arms.Again e) n calls o (memory (now (tag .entry)) (now (first .entry)) (now (second .entry)) (now (link .entry))) (memory (now (tag .exit)) (now (first .exit)) (now (second .exit)) (now (link .exit))) ⌝ }
 {
     let added = add(tag, first, second, link, n, e, calls);
     let Added::Node {
@@ -115,23 +89,23 @@ fn again(
     else {
         return added;
     };
-    simplify(at, tag, first, second, link, table, rows, i, k, c)
+    simplify(limit, tag, first, second, link, table, counts, i, k, c)
 }
 
 // S(1/other)
 fn inverse(
-    at: Limit,
+    limit: Limit,
     tag: &mut [u64],
     first: &mut [u64],
     second: &mut [u64],
     link: &mut [u64],
     table: &[u64],
-    rows: Rows,
+    counts: Counts,
     other: usize,
     n: usize,
     calls: u64,
 ) -> Added
-    ensures { λ o. ⌜ Carries (at .0) (now (table .entry)) rows (Arms.Inverse other) n calls o (memory (now (tag .entry)) (now (first .entry)) (now (second .entry)) (now (link .entry))) (memory (now (tag .exit)) (now (first .exit)) (now (second .exit)) (now (link .exit))) ⌝ }
+    ensures { λ o. ⌜ Carries (limit .0) (now (table .entry)) counts (Arms.Inverse other) n calls o (memory (now (tag .entry)) (now (first .entry)) (now (second .entry)) (now (link .entry))) (memory (now (tag .exit)) (now (first .exit)) (now (second .exit)) (now (link .exit))) ⌝ }
 {
     let added = add(
         tag,
@@ -151,26 +125,37 @@ fn inverse(
         return added;
     };
     let quotient = Expression::Infix(InfixOperator::Slash, i, other);
-    again(at, tag, first, second, link, table, rows, quotient, k, c)
+    again(limit, tag, first, second, link, table, counts, quotient, k, c)
 }
 
 // S of what is made around S(inner).
 fn regroup(
-    at: Limit,
+    limit: Limit,
     tag: &mut [u64],
     first: &mut [u64],
     second: &mut [u64],
     link: &mut [u64],
     table: &[u64],
-    rows: Rows,
+    counts: Counts,
     inner: Expression,
     outer: Outer,
     n: usize,
     calls: u64,
 ) -> Added
-    ensures { λ o. ⌜ Carries (at .0) (now (table .entry)) rows (Arms.Regroup inner outer) n calls o (memory (now (tag .entry)) (now (first .entry)) (now (second .entry)) (now (link .entry))) (memory (now (tag .exit)) (now (first .exit)) (now (second .exit)) (now (link .exit))) ⌝ }
+    ensures { λ o. ⌜ Carries (limit .0) (now (table .entry)) counts (Arms.Regroup inner outer) n calls o (memory (now (tag .entry)) (now (first .entry)) (now (second .entry)) (now (link .entry))) (memory (now (tag .exit)) (now (first .exit)) (now (second .exit)) (now (link .exit))) ⌝ }
 {
-    let it = again(at, tag, first, second, link, table, rows, inner, n, calls);
+    let it = again(
+        limit,
+        tag,
+        first,
+        second,
+        link,
+        table,
+        counts,
+        inner,
+        n,
+        calls,
+    );
     let Added::Node {
         at: i,
         nodes: k,
@@ -180,13 +165,13 @@ fn regroup(
         return it;
     };
     again(
-        at,
+        limit,
         tag,
         first,
         second,
         link,
         table,
-        rows,
+        counts,
         outer.applied(i),
         k,
         c,
@@ -195,20 +180,20 @@ fn regroup(
 
 // min(original, S of what is made around S(e)): the first choice is stored first.
 fn smaller_regrouped(
-    at: Limit,
+    limit: Limit,
     tag: &mut [u64],
     first: &mut [u64],
     second: &mut [u64],
     link: &mut [u64],
     table: &[u64],
-    rows: Rows,
+    counts: Counts,
     original: Expression,
     e: Expression,
     outer: Outer,
     n: usize,
     calls: u64,
 ) -> Added
-    ensures { λ o. ⌜ Carries (at .0) (now (table .entry)) rows (Arms.Smaller original e outer) n calls o (memory (now (tag .entry)) (now (first .entry)) (now (second .entry)) (now (link .entry))) (memory (now (tag .exit)) (now (first .exit)) (now (second .exit)) (now (link .exit))) ⌝ }
+    ensures { λ o. ⌜ Carries (limit .0) (now (table .entry)) counts (Arms.Smaller original e outer) n calls o (memory (now (tag .entry)) (now (first .entry)) (now (second .entry)) (now (link .entry))) (memory (now (tag .exit)) (now (first .exit)) (now (second .exit)) (now (link .exit))) ⌝ }
 {
     let added = add(tag, first, second, link, n, original, calls);
     let Added::Node {
@@ -219,7 +204,7 @@ fn smaller_regrouped(
     else {
         return added;
     };
-    let new = regroup(at, tag, first, second, link, table, rows, e, outer, k, c);
+    let new = regroup(limit, tag, first, second, link, table, counts, e, outer, k, c);
     let Added::Node {
         at: j,
         nodes: q,
@@ -237,21 +222,21 @@ fn smaller_regrouped(
 
 // S(S(a)+S(b))
 fn add_simplified(
-    at: Limit,
+    limit: Limit,
     tag: &mut [u64],
     first: &mut [u64],
     second: &mut [u64],
     link: &mut [u64],
     table: &[u64],
-    rows: Rows,
+    counts: Counts,
     a: Expression,
     b: Expression,
     n: usize,
     calls: u64,
 ) -> Added
-    ensures { λ o. ⌜ Adds (at .0) (now (table .entry)) rows a b n calls o (memory (now (tag .entry)) (now (first .entry)) (now (second .entry)) (now (link .entry))) (memory (now (tag .exit)) (now (first .exit)) (now (second .exit)) (now (link .exit))) ⌝ }
+    ensures { λ o. ⌜ Adds (limit .0) (now (table .entry)) counts a b n calls o (memory (now (tag .entry)) (now (first .entry)) (now (second .entry)) (now (link .entry))) (memory (now (tag .exit)) (now (first .exit)) (now (second .exit)) (now (link .exit))) ⌝ }
 {
-    let left = again(at, tag, first, second, link, table, rows, a, n, calls);
+    let left = again(limit, tag, first, second, link, table, counts, a, n, calls);
     let Added::Node {
         at: i,
         nodes: k,
@@ -260,7 +245,7 @@ fn add_simplified(
     else {
         return left;
     };
-    let right = again(at, tag, first, second, link, table, rows, b, k, c);
+    let right = again(limit, tag, first, second, link, table, counts, b, k, c);
     let Added::Node {
         at: j,
         nodes: q,
@@ -270,25 +255,25 @@ fn add_simplified(
         return right;
     };
     let sum = Expression::Infix(InfixOperator::Plus, i, j);
-    again(at, tag, first, second, link, table, rows, sum, q, d)
+    again(limit, tag, first, second, link, table, counts, sum, q, d)
 }
 
 // min(original, S(S(a)+S(b)))
 fn distribute(
-    at: Limit,
+    limit: Limit,
     tag: &mut [u64],
     first: &mut [u64],
     second: &mut [u64],
     link: &mut [u64],
     table: &[u64],
-    rows: Rows,
+    counts: Counts,
     original: Expression,
     a: Expression,
     b: Expression,
     n: usize,
     calls: u64,
 ) -> Added
-    ensures { λ o. ⌜ Carries (at .0) (now (table .entry)) rows (Arms.Distribute original a b) n calls o (memory (now (tag .entry)) (now (first .entry)) (now (second .entry)) (now (link .entry))) (memory (now (tag .exit)) (now (first .exit)) (now (second .exit)) (now (link .exit))) ⌝ }
+    ensures { λ o. ⌜ Carries (limit .0) (now (table .entry)) counts (Arms.Distribute original a b) n calls o (memory (now (tag .entry)) (now (first .entry)) (now (second .entry)) (now (link .entry))) (memory (now (tag .exit)) (now (first .exit)) (now (second .exit)) (now (link .exit))) ⌝ }
 {
     let added = add(tag, first, second, link, n, original, calls);
     let Added::Node {
@@ -299,7 +284,7 @@ fn distribute(
     else {
         return added;
     };
-    let new = add_simplified(at, tag, first, second, link, table, rows, a, b, k, c);
+    let new = add_simplified(limit, tag, first, second, link, table, counts, a, b, k, c);
     let Added::Node {
         at: j,
         nodes: q,
@@ -317,20 +302,20 @@ fn distribute(
 
 // S(S(2*x)+S(a+b))
 fn double(
-    at: Limit,
+    limit: Limit,
     tag: &mut [u64],
     first: &mut [u64],
     second: &mut [u64],
     link: &mut [u64],
     table: &[u64],
-    rows: Rows,
+    counts: Counts,
     x: usize,
     a: usize,
     b: usize,
     n: usize,
     calls: u64,
 ) -> Added
-    ensures { λ o. ⌜ Carries (at .0) (now (table .entry)) rows (Arms.Double x a b) n calls o (memory (now (tag .entry)) (now (first .entry)) (now (second .entry)) (now (link .entry))) (memory (now (tag .exit)) (now (first .exit)) (now (second .exit)) (now (link .exit))) ⌝ }
+    ensures { λ o. ⌜ Carries (limit .0) (now (table .entry)) counts (Arms.Double x a b) n calls o (memory (now (tag .entry)) (now (first .entry)) (now (second .entry)) (now (link .entry))) (memory (now (tag .exit)) (now (first .exit)) (now (second .exit)) (now (link .exit))) ⌝ }
 {
     let added = add(
         tag,
@@ -352,13 +337,13 @@ fn double(
     let two_x = Expression::Infix(InfixOperator::Star, i, x);
     let sum_bs = Expression::Infix(InfixOperator::Plus, a, b);
     add_simplified(
-        at,
+        limit,
         tag,
         first,
         second,
         link,
         table,
-        rows,
+        counts,
         two_x,
         sum_bs,
         k,
@@ -368,22 +353,22 @@ fn double(
 
 // S(S(S(a)*x)+S(b)), S(a) and S(b) first
 fn affine(
-    at: Limit,
+    limit: Limit,
     tag: &mut [u64],
     first: &mut [u64],
     second: &mut [u64],
     link: &mut [u64],
     table: &[u64],
-    rows: Rows,
+    counts: Counts,
     a: Expression,
     x: usize,
     b: Expression,
     n: usize,
     calls: u64,
 ) -> Added
-    ensures { λ o. ⌜ Carries (at .0) (now (table .entry)) rows (Arms.Affine a x b) n calls o (memory (now (tag .entry)) (now (first .entry)) (now (second .entry)) (now (link .entry))) (memory (now (tag .exit)) (now (first .exit)) (now (second .exit)) (now (link .exit))) ⌝ }
+    ensures { λ o. ⌜ Carries (limit .0) (now (table .entry)) counts (Arms.Affine a x b) n calls o (memory (now (tag .entry)) (now (first .entry)) (now (second .entry)) (now (link .entry))) (memory (now (tag .exit)) (now (first .exit)) (now (second .exit)) (now (link .exit))) ⌝ }
 {
-    let sum_as = again(at, tag, first, second, link, table, rows, a, n, calls);
+    let sum_as = again(limit, tag, first, second, link, table, counts, a, n, calls);
     let Added::Node {
         at: i,
         nodes: k,
@@ -392,7 +377,7 @@ fn affine(
     else {
         return sum_as;
     };
-    let sum_bs = again(at, tag, first, second, link, table, rows, b, k, c);
+    let sum_bs = again(limit, tag, first, second, link, table, counts, b, k, c);
     let Added::Node {
         at: j,
         nodes: q,
@@ -404,13 +389,13 @@ fn affine(
     let product = Expression::Infix(InfixOperator::Star, i, x);
     let outer = Outer::Before(InfixOperator::Plus, j);
     regroup(
-        at,
+        limit,
         tag,
         first,
         second,
         link,
         table,
-        rows,
+        counts,
         product,
         outer,
         q,
@@ -418,71 +403,82 @@ fn affine(
     )
 }
 
-// What an arm wants.
+// What an arm wants; c calls were made before.
 fn carry_out(
-    at: Limit,
+    limit: Limit,
     tag: &mut [u64],
     first: &mut [u64],
     second: &mut [u64],
     link: &mut [u64],
     table: &[u64],
-    rows: Rows,
+    counts: Counts,
     arm: Arm,
     n: usize,
-    calls: u64,
+    c: u64,
 ) -> Added
-    ensures { λ o. ⌜ Carries (at .0) (now (table .entry)) rows (arm) n calls o (memory (now (tag .entry)) (now (first .entry)) (now (second .entry)) (now (link .entry))) (memory (now (tag .exit)) (now (first .exit)) (now (second .exit)) (now (link .exit))) ⌝ }
+    ensures { λ o. ⌜ Carries (limit .0) (now (table .entry)) counts arm n c o (memory (now (tag .entry)) (now (first .entry)) (now (second .entry)) (now (link .entry))) (memory (now (tag .exit)) (now (first .exit)) (now (second .exit)) (now (link .exit))) ⌝ }
 {
     match arm {
         Arm::Use(i) => Added::Node {
             at: i,
             nodes: n,
-            calls,
+            calls: c,
         },
-        Arm::Build(e) => add(tag, first, second, link, n, e, calls),
+        Arm::Build(e) => add(tag, first, second, link, n, e, c),
         Arm::Fold(operator, x, y) => {
-            let value = calculate_infix(table, rows, x, operator, y);
-            store_value(tag, first, second, link, value, n, calls)
+            let value = calculate_infix(table, counts, x, operator, y);
+            store_value(tag, first, second, link, value, n, c)
         }
         Arm::Call(function, x) => {
-            let value = calculate_function(table, rows, function, x);
-            store_value(tag, first, second, link, value, n, calls)
+            let value = calculate_function(table, counts, function, x);
+            store_value(tag, first, second, link, value, n, c)
         }
-        Arm::Again(e) => again(at, tag, first, second, link, table, rows, e, n, calls),
-        Arm::Inverse(x) => inverse(at, tag, first, second, link, table, rows, x, n, calls),
-        Arm::Regroup(e, o) => regroup(at, tag, first, second, link, table, rows, e, o, n, calls),
+        Arm::Again(e) => again(limit, tag, first, second, link, table, counts, e, n, c),
+        Arm::Inverse(x) => inverse(limit, tag, first, second, link, table, counts, x, n, c),
+        Arm::Regroup(e, o) => regroup(limit, tag, first, second, link, table, counts, e, o, n, c),
         Arm::Smaller(d, e, o) => {
-            smaller_regrouped(at, tag, first, second, link, table, rows, d, e, o, n, calls)
+            smaller_regrouped(limit, tag, first, second, link, table, counts, d, e, o, n, c)
         }
         Arm::Distribute(d, a, b) => {
-            distribute(at, tag, first, second, link, table, rows, d, a, b, n, calls)
+            distribute(limit, tag, first, second, link, table, counts, d, a, b, n, c)
         }
         Arm::Double(x, a, b) => {
-            double(at, tag, first, second, link, table, rows, x, a, b, n, calls)
+            double(limit, tag, first, second, link, table, counts, x, a, b, n, c)
         }
         Arm::Affine(a, x, b) => {
-            affine(at, tag, first, second, link, table, rows, a, x, b, n, calls)
+            affine(limit, tag, first, second, link, table, counts, a, x, b, n, c)
         }
     }
 }
 
 // The operand at the limit, then what the arm wants at 1 less.
 fn simplify_function_call(
-    at: Limit,
+    limit: Limit,
     tag: &mut [u64],
     first: &mut [u64],
     second: &mut [u64],
     link: &mut [u64],
     table: &[u64],
-    rows: Rows,
+    counts: Counts,
     function: ExpressionFunction,
     child: usize,
     n: usize,
     calls: u64,
 ) -> Added
-    ensures { λ o. ⌜ CallsFunction (at .0) (now (table .entry)) rows function child n calls o (memory (now (tag .entry)) (now (first .entry)) (now (second .entry)) (now (link .entry))) (memory (now (tag .exit)) (now (first .exit)) (now (second .exit)) (now (link .exit))) ⌝ }
+    ensures { λ o. ⌜ CallsFunction (limit .0) (now (table .entry)) counts function child n calls o (memory (now (tag .entry)) (now (first .entry)) (now (second .entry)) (now (link .entry))) (memory (now (tag .exit)) (now (first .exit)) (now (second .exit)) (now (link .exit))) ⌝ }
 {
-    let argument = simplify(at, tag, first, second, link, table, rows, child, n, calls);
+    let argument = simplify(
+        limit,
+        tag,
+        first,
+        second,
+        link,
+        table,
+        counts,
+        child,
+        n,
+        calls,
+    );
     let Added::Node {
         at: x,
         nodes: k,
@@ -492,28 +488,28 @@ fn simplify_function_call(
         return argument;
     };
     let arm = choose_function(tag, first, second, function, x);
-    let at = at.lowered();
-    carry_out(at, tag, first, second, link, table, rows, arm, k, c)
+    let limit = limit.lowered();
+    carry_out(limit, tag, first, second, link, table, counts, arm, k, c)
 }
 
 // Left before right, then the same.
 fn simplify_infix(
-    at: Limit,
+    limit: Limit,
     tag: &mut [u64],
     first: &mut [u64],
     second: &mut [u64],
     link: &mut [u64],
     table: &[u64],
-    rows: Rows,
+    counts: Counts,
     left: usize,
     operator: InfixOperator,
     right: usize,
     n: usize,
     calls: u64,
 ) -> Added
-    ensures { λ o. ⌜ Infixes (at .0) (now (table .entry)) rows operator left right n calls o (memory (now (tag .entry)) (now (first .entry)) (now (second .entry)) (now (link .entry))) (memory (now (tag .exit)) (now (first .exit)) (now (second .exit)) (now (link .exit))) ⌝ }
+    ensures { λ o. ⌜ Infixes (limit .0) (now (table .entry)) counts operator left right n calls o (memory (now (tag .entry)) (now (first .entry)) (now (second .entry)) (now (link .entry))) (memory (now (tag .exit)) (now (first .exit)) (now (second .exit)) (now (link .exit))) ⌝ }
 {
-    let l = simplify(at, tag, first, second, link, table, rows, left, n, calls);
+    let l = simplify(limit, tag, first, second, link, table, counts, left, n, calls);
     let Added::Node {
         at: x,
         nodes: k,
@@ -522,7 +518,7 @@ fn simplify_infix(
     else {
         return l;
     };
-    let r = simplify(at, tag, first, second, link, table, rows, right, k, c);
+    let r = simplify(limit, tag, first, second, link, table, counts, right, k, c);
     let Added::Node {
         at: y,
         nodes: q,
@@ -532,27 +528,38 @@ fn simplify_infix(
         return r;
     };
     let arm = choose_infix(tag, first, second, link, x, operator, y);
-    let at = at.lowered();
-    carry_out(at, tag, first, second, link, table, rows, arm, q, d)
+    let limit = limit.lowered();
+    carry_out(limit, tag, first, second, link, table, counts, arm, q, d)
 }
 
 // As for a function.
 fn simplify_prefix(
-    at: Limit,
+    limit: Limit,
     tag: &mut [u64],
     first: &mut [u64],
     second: &mut [u64],
     link: &mut [u64],
     table: &[u64],
-    rows: Rows,
+    counts: Counts,
     operator: PrefixOperator,
     child: usize,
     n: usize,
     calls: u64,
 ) -> Added
-    ensures { λ o. ⌜ Prefixes (at .0) (now (table .entry)) rows operator child n calls o (memory (now (tag .entry)) (now (first .entry)) (now (second .entry)) (now (link .entry))) (memory (now (tag .exit)) (now (first .exit)) (now (second .exit)) (now (link .exit))) ⌝ }
+    ensures { λ o. ⌜ Prefixes (limit .0) (now (table .entry)) counts operator child n calls o (memory (now (tag .entry)) (now (first .entry)) (now (second .entry)) (now (link .entry))) (memory (now (tag .exit)) (now (first .exit)) (now (second .exit)) (now (link .exit))) ⌝ }
 {
-    let operand = simplify(at, tag, first, second, link, table, rows, child, n, calls);
+    let operand = simplify(
+        limit,
+        tag,
+        first,
+        second,
+        link,
+        table,
+        counts,
+        child,
+        n,
+        calls,
+    );
     let Added::Node {
         at: x,
         nodes: k,
@@ -562,70 +569,74 @@ fn simplify_prefix(
         return operand;
     };
     let arm = choose_prefix(tag, first, second, operator, x);
-    let at = at.lowered();
-    carry_out(at, tag, first, second, link, table, rows, arm, k, c)
+    let limit = limit.lowered();
+    carry_out(limit, tag, first, second, link, table, counts, arm, k, c)
 }
 
-// A node for which nothing is kept. "pi gives its number, even at limit 0; limit 0 gives the node; leaves give
-// themselves. Otherwise the operation runs with limit 1 less."
+// The task of a node for which nothing is kept; an operation "runs with limit 1 less".
 fn perform(
-    at: Limit,
+    limit: Limit,
     tag: &mut [u64],
     first: &mut [u64],
     second: &mut [u64],
     link: &mut [u64],
     table: &[u64],
-    rows: Rows,
+    counts: Counts,
     node: usize,
     e: Expression,
     n: usize,
     calls: u64,
 ) -> Added
-    ensures { λ o. ⌜ Performs (at .0) (now (table .entry)) rows node e n calls o (memory (now (tag .entry)) (now (first .entry)) (now (second .entry)) (now (link .entry))) (memory (now (tag .exit)) (now (first .exit)) (now (second .exit)) (now (link .exit))) ⌝ }
+    ensures { λ o. ⌜ Performs (limit .0) (now (table .entry)) counts node e n calls o (memory (now (tag .entry)) (now (first .entry)) (now (second .entry)) (now (link .entry))) (memory (now (tag .exit)) (now (first .exit)) (now (second .exit)) (now (link .exit))) ⌝ }
 {
-    let itself = Added::Node {
-        at: node,
-        nodes: n,
-        calls,
-    };
-    if is_pi(e) {
-        return add(tag, first, second, link, n, Expression::Number(pi()), calls);
-    }
-    if at.is_spent() {
-        return itself;
-    }
-    let at = at.lowered();
-    match e {
-        Expression::FunctionCall(f, a) => {
-            simplify_function_call(at, tag, first, second, link, table, rows, f, a, n, calls)
+    let task = task_at(limit, node, e);
+    let limit = limit.lowered();
+    match task {
+        Task::NumberOfPi => add(tag, first, second, link, n, Expression::Number(pi()), calls),
+        Task::Itself(i) => Added::Node {
+            at: i,
+            nodes: n,
+            calls,
+        },
+        Task::FunctionCall(f, a) => {
+            simplify_function_call(limit, tag, first, second, link, table, counts, f, a, n, calls)
         }
-        Expression::Infix(o, a, b) => {
-            simplify_infix(at, tag, first, second, link, table, rows, a, o, b, n, calls)
+        Task::Infix(o, a, b) => {
+            simplify_infix(
+                limit,
+                tag,
+                first,
+                second,
+                link,
+                table,
+                counts,
+                a,
+                o,
+                b,
+                n,
+                calls,
+            )
         }
-        Expression::Prefix(o, a) => {
-            simplify_prefix(at, tag, first, second, link, table, rows, o, a, n, calls)
+        Task::Prefix(o, a) => {
+            simplify_prefix(limit, tag, first, second, link, table, counts, o, a, n, calls)
         }
-        Expression::Address(_, _) => itself,
-        Expression::Number(_) => itself,
-        Expression::PiConstant => itself,
-        Expression::Variable(_) => itself,
     }
 }
 
 // A node simplified at a limit. "A cached equal node gives its cached result, whatever limit it was made at."
 pub fn simplify(
-    at: Limit,
+    limit: Limit,
     tag: &mut [u64],
     first: &mut [u64],
     second: &mut [u64],
     link: &mut [u64],
     table: &[u64],
-    rows: Rows,
+    counts: Counts,
     node: usize,
     n: usize,
     calls: u64,
 ) -> Added
-    ensures { λ o. ⌜ Simplifies (at .0) (now (table .entry)) rows node n calls o (memory (now (tag .entry)) (now (first .entry)) (now (second .entry)) (now (link .entry))) (memory (now (tag .exit)) (now (first .exit)) (now (second .exit)) (now (link .exit))) ⌝ }
+    ensures { λ o. ⌜ Simplifies (limit .0) (now (table .entry)) counts node n calls o (memory (now (tag .entry)) (now (first .entry)) (now (second .entry)) (now (link .entry))) (memory (now (tag .exit)) (now (first .exit)) (now (second .exit)) (now (link .exit))) ⌝ }
 {
     let made = one_more(calls);
     let kept = kept_at(link, node);
@@ -637,7 +648,19 @@ pub fn simplify(
         };
     }
     let e = expression_at(tag, first, second, node);
-    let answer = perform(at, tag, first, second, link, table, rows, node, e, n, made);
+    let answer = perform(
+        limit,
+        tag,
+        first,
+        second,
+        link,
+        table,
+        counts,
+        node,
+        e,
+        n,
+        made,
+    );
     keep_answer(link, node, answer);
     answer
 }

@@ -15,5 +15,5 @@ choose-grouped-right-spec =
     (λ c κs. search needs)
     (λ c κs. search needs)
     (λ c κs. search needs)
-    (λ c. λ m n x y g. hit _ (so (c .before .before .undoes .ensures) (c .before .if1 .taken)) (smaller-before (infix-of (x .at) (y .at)) (infix-by (c .undone .ensures) (x .at) (c .before .before .before .right-in .ensures _ _ n (y .within) g)) (c .before .before .before .before .left-in .ensures _ _ n (y .within) g)))
-    (λ c. λ m n x y g. past _ (so (c .before .undoes .ensures) (c .if1 .left)) (smaller-before (infix-of (x .at) (y .at)) (infix-of (x .at) (c .before .before .before .left-in .ensures _ _ n (y .within) g)) (c .before .before .right-in .ensures _ _ n (y .within) g))))
+    (λ c. λ m n x y g. hit _ (so (c .before .before .is-inverse .ensures) (c .before .if1 .taken)) (smaller-before (infix-of (x .at) (y .at)) (infix-by (c .uninverted .ensures) (x .at) (c .before .before .before .right-in .ensures _ _ n (y .within) g)) (c .before .before .before .before .left-in .ensures _ _ n (y .within) g)))
+    (λ c. λ m n x y g. past _ (so (c .before .is-inverse .ensures) (c .if1 .left)) (smaller-before (infix-of (x .at) (y .at)) (infix-of (x .at) (c .before .before .before .left-in .ensures _ _ n (y .within) g)) (c .before .before .right-in .ensures _ _ n (y .within) g))))

@@ -11,4 +11,4 @@ are-infix-spec =
     (λ c κs. search needs)
     (λ c κs. search needs)
     (λ c κs. search needs)
-    (λ c. λ m. both-of (c .both .ensures) (c .before .before .is-infix .ensures m) (c .before .is-infix2 .ensures m)))
+    (λ c. λ m. both-of (c .both-hold .ensures) (c .before .before .is-infix .ensures m) (c .before .is-infix2 .ensures m)))

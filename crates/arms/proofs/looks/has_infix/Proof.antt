@@ -11,4 +11,4 @@ has-infix-spec =
     (λ c κs. search needs)
     (λ c κs. search needs)
     (λ c κs. search needs)
-    (λ c. λ m. either-of (c .either .ensures) (c .before .before .is-infix .ensures m) (c .before .is-infix2 .ensures m)))
+    (λ c. λ m. either-of (c .either-holds .ensures) (c .before .before .is-infix .ensures m) (c .before .is-infix2 .ensures m)))

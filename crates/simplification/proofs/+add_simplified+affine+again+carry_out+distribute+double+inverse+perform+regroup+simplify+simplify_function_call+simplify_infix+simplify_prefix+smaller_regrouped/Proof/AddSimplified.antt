@@ -13,7 +13,7 @@ abbrev claims : ℕ → lts.Claims
 claims t = (again-below t, again.Post)
 
 again-requires : (t : ℕ) → lts.Need-again-requires (claims t) (add-simplified-at t) add-simplified.Post
-again-requires t c κs = (down (c .before .before .before .before .before .before .before .before .before .args .at .0) 2 3 (c .before .before .before .before .before .before .before .before .before .pre .0) (lit< tt), tt)
+again-requires t c κs = (down (c .before .before .before .before .before .before .before .before .before .args .limit .0) 2 3 (c .before .before .before .before .before .before .before .before .before .pre .0) (lit< tt), tt)
 
 enum-known-left : (t : ℕ) → lts.Need-enum-known-left (claims t) (add-simplified-at t) add-simplified.Post
 enum-known-left t c = search needs
@@ -37,7 +37,7 @@ returns : (t : ℕ) → lts.Need-returns (claims t) (add-simplified-at t) add-si
 returns t c = λ held h w. added-refused _ _ _ _ _ (c .before .before .before .before .before .before .before .before .before .before .again .ensures held h (w .0)) (c .enum-told .given .1)
 
 again-requires-2 : (t : ℕ) → lts.Need-again-requires-2 (claims t) (add-simplified-at t) add-simplified.Post
-again-requires-2 t c κs = (down (c .before .before .before .before .before .before .before .before .before .before .before .before .before .before .before .before .before .before .before .before .before .before .before .before .before .args .at .0) 2 3 (c .before .before .before .before .before .before .before .before .before .before .before .before .before .before .before .before .before .before .before .before .before .before .before .before .before .pre .0) (lit< tt), tt)
+again-requires-2 t c κs = (down (c .before .before .before .before .before .before .before .before .before .before .before .before .before .before .before .before .before .before .before .before .before .before .before .before .before .args .limit .0) 2 3 (c .before .before .before .before .before .before .before .before .before .before .before .before .before .before .before .before .before .before .before .before .before .before .before .before .before .pre .0) (lit< tt), tt)
 
 enum-known-right : (t : ℕ) → lts.Need-enum-known-right (claims t) (add-simplified-at t) add-simplified.Post
 enum-known-right t c = search needs
@@ -61,7 +61,7 @@ returns-2 : (t : ℕ) → lts.Need-returns-2 (claims t) (add-simplified-at t) ad
 returns-2 t c = λ held h w. added-second _ _ _ (c .before .before .before .before .before .before .before .before .before .before .before .before .before .before .before .before .before .before .before .before .before .before .before .before .before .before .before .before .before .before .before .before .before .before .before .before .args .b) _ (w .1) (c .before .before .before .before .before .before .before .before .before .before .before .before .before .before .before .before .before .before .before .before .before .before .before .before .before .before .again .ensures held h (w .0)) (c .before .before .before .before .before .before .before .before .before .before .before .before .before .before .before .before .left .given .1) (λ p. c .before .before .before .before .before .before .before .before .before .before .again2 .ensures held (p .holds) (within-older p (c .before .before .before .before .before .before .before .before .before .before .before .before .before .before .before .before .before .before .before .before .before .before .before .before .before .before .before .before .before .before .before .before .before .before .before .before .args .b) (w .1))) (c .enum-told2 .given .1)
 
 again-requires-3 : (t : ℕ) → lts.Need-again-requires-3 (claims t) (add-simplified-at t) add-simplified.Post
-again-requires-3 t c κs = (down (c .before .before .before .before .before .before .before .before .before .before .before .before .before .before .before .before .before .before .before .before .before .before .before .before .before .before .before .before .before .before .before .before .before .before .before .before .before .before .before .before .before .args .at .0) 2 3 (c .before .before .before .before .before .before .before .before .before .before .before .before .before .before .before .before .before .before .before .before .before .before .before .before .before .before .before .before .before .before .before .before .before .before .before .before .before .before .before .before .before .pre .0) (lit< tt), tt)
+again-requires-3 t c κs = (down (c .before .before .before .before .before .before .before .before .before .before .before .before .before .before .before .before .before .before .before .before .before .before .before .before .before .before .before .before .before .before .before .before .before .before .before .before .before .before .before .before .before .args .limit .0) 2 3 (c .before .before .before .before .before .before .before .before .before .before .before .before .before .before .before .before .before .before .before .before .before .before .before .before .before .before .before .before .before .before .before .before .before .before .before .before .before .before .before .before .before .pre .0) (lit< tt), tt)
 
 same-length-9 : (t : ℕ) → lts.Need-same-length-9 (claims t) (add-simplified-at t) add-simplified.Post
 same-length-9 t c = c .before .before .before .before .before .before .before .before .again3 .kept .1 .0 ∙ c .before .before .before .before .before .before .before .before .before .before .before .before .before .before .before .before .before .before .before .before .before .before .before .before .again2 .kept .1 .0 ∙ c .before .before .before .before .before .before .before .before .before .before .before .before .before .before .before .before .before .before .before .before .before .before .before .before .before .before .before .before .before .before .before .before .before .before .before .before .before .before .before .before .again .kept .1 .0

@@ -15,7 +15,7 @@ abbrev claims : ℕ → lts.Claims
 claims t = (again-below t, again.Post, regroup-below t, regroup.Post)
 
 again-requires : (t : ℕ) → lts.Need-again-requires (claims t) (affine-at t) affine.Post
-again-requires t c κs = (down (c .before .before .before .before .before .before .before .before .before .args .at .0) 2 4 (c .before .before .before .before .before .before .before .before .before .pre .0) (lit< tt), tt)
+again-requires t c κs = (down (c .before .before .before .before .before .before .before .before .before .args .limit .0) 2 4 (c .before .before .before .before .before .before .before .before .before .pre .0) (lit< tt), tt)
 
 enum-known-sum-as : (t : ℕ) → lts.Need-enum-known-sum-as (claims t) (affine-at t) affine.Post
 enum-known-sum-as t c = search needs
@@ -40,7 +40,7 @@ unfolding grown
 returns t c = λ held h w. affine-refused _ _ _ (c .before .before .before .before .before .before .before .before .before .before .before .before .before .before .before .before .before .before .before .before .args .a) (c .before .before .before .before .before .before .before .before .before .before .before .before .before .before .before .before .before .before .before .before .args .x) (c .before .before .before .before .before .before .before .before .before .before .before .before .before .before .before .before .before .before .before .before .args .b) _ (c .before .before .before .before .before .before .before .before .before .before .again .ensures held h (w .0)) (c .enum-told .given .1)
 
 again-requires-2 : (t : ℕ) → lts.Need-again-requires-2 (claims t) (affine-at t) affine.Post
-again-requires-2 t c κs = (down (c .before .before .before .before .before .before .before .before .before .before .before .before .before .before .before .before .before .before .before .before .before .before .before .before .before .args .at .0) 2 4 (c .before .before .before .before .before .before .before .before .before .before .before .before .before .before .before .before .before .before .before .before .before .before .before .before .before .pre .0) (lit< tt), tt)
+again-requires-2 t c κs = (down (c .before .before .before .before .before .before .before .before .before .before .before .before .before .before .before .before .before .before .before .before .before .before .before .before .before .args .limit .0) 2 4 (c .before .before .before .before .before .before .before .before .before .before .before .before .before .before .before .before .before .before .before .before .before .before .before .before .before .pre .0) (lit< tt), tt)
 
 enum-known-sum-bs : (t : ℕ) → lts.Need-enum-known-sum-bs (claims t) (affine-at t) affine.Post
 enum-known-sum-bs t c = search needs
@@ -65,7 +65,7 @@ unfolding grown
 returns-2 t c = λ held h w. affine-second _ _ _ (c .before .before .before .before .before .before .before .before .before .before .before .before .before .before .before .before .before .before .before .before .before .before .before .before .before .before .before .before .before .before .before .before .before .before .before .before .args .a) (c .before .before .before .before .before .before .before .before .before .before .before .before .before .before .before .before .before .before .before .before .before .before .before .before .before .before .before .before .before .before .before .before .before .before .before .before .args .x) (c .before .before .before .before .before .before .before .before .before .before .before .before .before .before .before .before .before .before .before .before .before .before .before .before .before .before .before .before .before .before .before .before .before .before .before .before .args .b) _ (w .2) (c .before .before .before .before .before .before .before .before .before .before .before .before .before .before .before .before .before .before .before .before .before .before .before .before .before .before .again .ensures held h (w .0)) (c .before .before .before .before .before .before .before .before .before .before .before .before .before .before .before .before .sum-as .given .1) (λ p. c .before .before .before .before .before .before .before .before .before .before .again2 .ensures held (p .holds) (within-older p (c .before .before .before .before .before .before .before .before .before .before .before .before .before .before .before .before .before .before .before .before .before .before .before .before .before .before .before .before .before .before .before .before .before .before .before .before .args .b) (w .2))) (c .enum-told2 .given .1)
 
 regroup-requires : (t : ℕ) → lts.Need-regroup-requires (claims t) (affine-at t) affine.Post
-regroup-requires t c κs = (down (c .before .before .before .before .before .before .before .before .before .before .before .before .before .before .before .before .before .before .before .before .before .before .before .before .before .before .before .before .before .before .before .before .before .before .before .before .before .before .before .before .before .args .at .0) 3 4 (c .before .before .before .before .before .before .before .before .before .before .before .before .before .before .before .before .before .before .before .before .before .before .before .before .before .before .before .before .before .before .before .before .before .before .before .before .before .before .before .before .before .pre .0) (lit< tt), tt)
+regroup-requires t c κs = (down (c .before .before .before .before .before .before .before .before .before .before .before .before .before .before .before .before .before .before .before .before .before .before .before .before .before .before .before .before .before .before .before .before .before .before .before .before .before .before .before .before .before .args .limit .0) 3 4 (c .before .before .before .before .before .before .before .before .before .before .before .before .before .before .before .before .before .before .before .before .before .before .before .before .before .before .before .before .before .before .before .before .before .before .before .before .before .before .before .before .before .pre .0) (lit< tt), tt)
 
 same-length-9 : (t : ℕ) → lts.Need-same-length-9 (claims t) (affine-at t) affine.Post
 same-length-9 t c = c .before .before .before .before .before .before .before .before .regroup .kept .1 .0 ∙ c .before .before .before .before .before .before .before .before .before .before .before .before .before .before .before .before .before .before .before .before .before .before .before .before .again2 .kept .1 .0 ∙ c .before .before .before .before .before .before .before .before .before .before .before .before .before .before .before .before .before .before .before .before .before .before .before .before .before .before .before .before .before .before .before .before .before .before .before .before .before .before .before .before .again .kept .1 .0

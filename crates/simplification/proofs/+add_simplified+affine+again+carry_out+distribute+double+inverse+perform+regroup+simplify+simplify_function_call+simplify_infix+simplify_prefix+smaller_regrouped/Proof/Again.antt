@@ -40,7 +40,7 @@ unfolding grown
 returns t c = λ held h w. again-refused _ _ _ _ (c .before .before .before .before .before .before .before .before .before .before .add .ensures h w) (c .enum-told .given .1)
 
 simplify-requires : (t : ℕ) → lts.Need-simplify-requires (claims t) (again-at t) again.Post
-simplify-requires t c κs = (down (c .before .before .before .before .before .before .before .before .before .before .before .before .before .before .before .before .before .before .before .before .before .before .before .before .before .args .at .0) 1 2 (c .before .before .before .before .before .before .before .before .before .before .before .before .before .before .before .before .before .before .before .before .before .before .before .before .before .pre .0) (lit< tt), tt)
+simplify-requires t c κs = (down (c .before .before .before .before .before .before .before .before .before .before .before .before .before .before .before .before .before .before .before .before .before .before .before .before .before .args .limit .0) 1 2 (c .before .before .before .before .before .before .before .before .before .before .before .before .before .before .before .before .before .before .before .before .before .before .before .before .before .pre .0) (lit< tt), tt)
 
 same-length-5 : (t : ℕ) → lts.Need-same-length-5 (claims t) (again-at t) again.Post
 same-length-5 t c = c .before .before .before .before .before .before .before .before .simplify .kept .1 .0 ∙ c .before .before .before .before .before .before .before .before .before .before .before .before .before .before .before .before .before .before .before .before .before .before .before .before .add .kept .0

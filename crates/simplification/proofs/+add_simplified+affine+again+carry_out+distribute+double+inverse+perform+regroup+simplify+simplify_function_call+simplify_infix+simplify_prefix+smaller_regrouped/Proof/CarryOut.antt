@@ -55,43 +55,43 @@ enum-known-arm-5 : (t : ℕ) → lts.Need-enum-known-arm-5 (claims t) (carry-out
 enum-known-arm-5 t c = search needs
 
 again-requires : (t : ℕ) → lts.Need-again-requires (claims t) (carry-out-at t) carry-out.Post
-again-requires t c κs = (down (c .before .before .before .before .before .before .before .before .before .before .before .before .args .at .0) 2 5 (c .before .before .before .before .before .before .before .before .before .before .before .before .pre .0) (lit< tt), tt)
+again-requires t c κs = (down (c .before .before .before .before .before .before .before .before .before .before .before .before .args .limit .0) 2 5 (c .before .before .before .before .before .before .before .before .before .before .before .before .pre .0) (lit< tt), tt)
 
 enum-known-arm-6 : (t : ℕ) → lts.Need-enum-known-arm-6 (claims t) (carry-out-at t) carry-out.Post
 enum-known-arm-6 t c = search needs
 
 inverse-requires : (t : ℕ) → lts.Need-inverse-requires (claims t) (carry-out-at t) carry-out.Post
-inverse-requires t c κs = (down (c .before .before .before .before .before .before .before .before .before .before .before .before .args .at .0) 3 5 (c .before .before .before .before .before .before .before .before .before .before .before .before .pre .0) (lit< tt), tt)
+inverse-requires t c κs = (down (c .before .before .before .before .before .before .before .before .before .before .before .before .args .limit .0) 3 5 (c .before .before .before .before .before .before .before .before .before .before .before .before .pre .0) (lit< tt), tt)
 
 enum-known-arm-7 : (t : ℕ) → lts.Need-enum-known-arm-7 (claims t) (carry-out-at t) carry-out.Post
 enum-known-arm-7 t c = search needs
 
 regroup-requires : (t : ℕ) → lts.Need-regroup-requires (claims t) (carry-out-at t) carry-out.Post
-regroup-requires t c κs = (down (c .before .before .before .before .before .before .before .before .before .before .before .before .args .at .0) 3 5 (c .before .before .before .before .before .before .before .before .before .before .before .before .pre .0) (lit< tt), tt)
+regroup-requires t c κs = (down (c .before .before .before .before .before .before .before .before .before .before .before .before .args .limit .0) 3 5 (c .before .before .before .before .before .before .before .before .before .before .before .before .pre .0) (lit< tt), tt)
 
 enum-known-arm-8 : (t : ℕ) → lts.Need-enum-known-arm-8 (claims t) (carry-out-at t) carry-out.Post
 enum-known-arm-8 t c = search needs
 
 smaller-regrouped-requires : (t : ℕ) → lts.Need-smaller-regrouped-requires (claims t) (carry-out-at t) carry-out.Post
-smaller-regrouped-requires t c κs = (down (c .before .before .before .before .before .before .before .before .before .before .before .before .args .at .0) 4 5 (c .before .before .before .before .before .before .before .before .before .before .before .before .pre .0) (lit< tt), tt)
+smaller-regrouped-requires t c κs = (down (c .before .before .before .before .before .before .before .before .before .before .before .before .args .limit .0) 4 5 (c .before .before .before .before .before .before .before .before .before .before .before .before .pre .0) (lit< tt), tt)
 
 enum-known-arm-9 : (t : ℕ) → lts.Need-enum-known-arm-9 (claims t) (carry-out-at t) carry-out.Post
 enum-known-arm-9 t c = search needs
 
 distribute-requires : (t : ℕ) → lts.Need-distribute-requires (claims t) (carry-out-at t) carry-out.Post
-distribute-requires t c κs = (down (c .before .before .before .before .before .before .before .before .before .before .before .before .args .at .0) 4 5 (c .before .before .before .before .before .before .before .before .before .before .before .before .pre .0) (lit< tt), tt)
+distribute-requires t c κs = (down (c .before .before .before .before .before .before .before .before .before .before .before .before .args .limit .0) 4 5 (c .before .before .before .before .before .before .before .before .before .before .before .before .pre .0) (lit< tt), tt)
 
 enum-known-arm-10 : (t : ℕ) → lts.Need-enum-known-arm-10 (claims t) (carry-out-at t) carry-out.Post
 enum-known-arm-10 t c = search needs
 
 double-requires : (t : ℕ) → lts.Need-double-requires (claims t) (carry-out-at t) carry-out.Post
-double-requires t c κs = (down (c .before .before .before .before .before .before .before .before .before .before .before .before .args .at .0) 4 5 (c .before .before .before .before .before .before .before .before .before .before .before .before .pre .0) (lit< tt), tt)
+double-requires t c κs = (down (c .before .before .before .before .before .before .before .before .before .before .before .before .args .limit .0) 4 5 (c .before .before .before .before .before .before .before .before .before .before .before .before .pre .0) (lit< tt), tt)
 
 enum-known-arm-11 : (t : ℕ) → lts.Need-enum-known-arm-11 (claims t) (carry-out-at t) carry-out.Post
 enum-known-arm-11 t c = search needs
 
 affine-requires : (t : ℕ) → lts.Need-affine-requires (claims t) (carry-out-at t) carry-out.Post
-affine-requires t c κs = (down (c .before .before .before .before .before .before .before .before .before .before .before .before .args .at .0) 4 5 (c .before .before .before .before .before .before .before .before .before .before .before .before .pre .0) (lit< tt), tt)
+affine-requires t c κs = (down (c .before .before .before .before .before .before .before .before .before .before .before .before .args .limit .0) 4 5 (c .before .before .before .before .before .before .before .before .before .before .before .before .pre .0) (lit< tt), tt)
 
 returns : (t : ℕ) → lts.Need-returns (claims t) (carry-out-at t) carry-out.Post
 unfolding carryOut

@@ -40,7 +40,7 @@ returns : (t : ℕ) → lts.Need-returns (claims t) (distribute-at t) distribute
 returns t c = λ held h w. lesser-refused _ _ _ _ _ (c .before .before .before .before .before .before .before .before .before .before .add .ensures h (w .0)) (c .enum-told .given .1)
 
 add-simplified-requires : (t : ℕ) → lts.Need-add-simplified-requires (claims t) (distribute-at t) distribute.Post
-add-simplified-requires t c κs = (down (c .before .before .before .before .before .before .before .before .before .before .before .before .before .before .before .before .before .before .before .before .before .before .before .before .before .args .at .0) 3 4 (c .before .before .before .before .before .before .before .before .before .before .before .before .before .before .before .before .before .before .before .before .before .before .before .before .before .pre .0) (lit< tt), tt)
+add-simplified-requires t c κs = (down (c .before .before .before .before .before .before .before .before .before .before .before .before .before .before .before .before .before .before .before .before .before .before .before .before .before .args .limit .0) 3 4 (c .before .before .before .before .before .before .before .before .before .before .before .before .before .before .before .before .before .before .before .before .before .before .before .before .before .pre .0) (lit< tt), tt)
 
 enum-known-new : (t : ℕ) → lts.Need-enum-known-new (claims t) (distribute-at t) distribute.Post
 enum-known-new t c = search needs

@@ -45,7 +45,7 @@ unfolding grown
 returns t c = λ held h w. double-refused _ _ _ _ _ _ _ (rw (c .before .before .before .before .before .before .before .before .before .before .before .two .ensures) at (c .before .before .before .before .before .before .before .before .before .before .add .ensures h tt)) (c .enum-told .given .1)
 
 add-simplified-requires : (t : ℕ) → lts.Need-add-simplified-requires (claims t) (double-at t) double.Post
-add-simplified-requires t c κs = (down (c .before .before .before .before .before .before .before .before .before .before .before .before .before .before .before .before .before .before .before .before .before .before .before .before .before .before .args .at .0) 3 4 (c .before .before .before .before .before .before .before .before .before .before .before .before .before .before .before .before .before .before .before .before .before .before .before .before .before .before .pre .0) (lit< tt), tt)
+add-simplified-requires t c κs = (down (c .before .before .before .before .before .before .before .before .before .before .before .before .before .before .before .before .before .before .before .before .before .before .before .before .before .before .args .limit .0) 3 4 (c .before .before .before .before .before .before .before .before .before .before .before .before .before .before .before .before .before .before .before .before .before .before .before .before .before .before .pre .0) (lit< tt), tt)
 
 same-length-5 : (t : ℕ) → lts.Need-same-length-5 (claims t) (double-at t) double.Post
 same-length-5 t c = c .before .before .before .before .before .before .before .before .add-simplified .kept .1 .0 ∙ c .before .before .before .before .before .before .before .before .before .before .before .before .before .before .before .before .before .before .before .before .before .before .before .before .add .kept .0

@@ -45,7 +45,7 @@ unfolding grown
 returns t c = λ held h l. inverse-refused _ _ _ _ _ (rw (c .before .before .before .before .before .before .before .before .before .before .before .one .ensures) at (c .before .before .before .before .before .before .before .before .before .before .add .ensures h tt)) (c .enum-told .given .1)
 
 again-requires : (t : ℕ) → lts.Need-again-requires (claims t) (inverse-at t) inverse.Post
-again-requires t c κs = (down (c .before .before .before .before .before .before .before .before .before .before .before .before .before .before .before .before .before .before .before .before .before .before .before .before .before .before .args .at .0) 2 3 (c .before .before .before .before .before .before .before .before .before .before .before .before .before .before .before .before .before .before .before .before .before .before .before .before .before .before .pre .0) (lit< tt), tt)
+again-requires t c κs = (down (c .before .before .before .before .before .before .before .before .before .before .before .before .before .before .before .before .before .before .before .before .before .before .before .before .before .before .args .limit .0) 2 3 (c .before .before .before .before .before .before .before .before .before .before .before .before .before .before .before .before .before .before .before .before .before .before .before .before .before .before .pre .0) (lit< tt), tt)
 
 same-length-5 : (t : ℕ) → lts.Need-same-length-5 (claims t) (inverse-at t) inverse.Post
 same-length-5 t c = c .before .before .before .before .before .before .before .before .again .kept .1 .0 ∙ c .before .before .before .before .before .before .before .before .before .before .before .before .before .before .before .before .before .before .before .before .before .before .before .before .add .kept .0

@@ -14,7 +14,7 @@ abbrev claims : ℕ → lts.Claims
 claims t = (again-below t, again.Post, applied-reads.Asked, applied-reads.Learnt)
 
 again-requires : (t : ℕ) → lts.Need-again-requires (claims t) (regroup-at t) regroup.Post
-again-requires t c κs = (down (c .before .before .before .before .before .before .before .before .before .args .at .0) 2 3 (c .before .before .before .before .before .before .before .before .before .pre .0) (lit< tt), tt)
+again-requires t c κs = (down (c .before .before .before .before .before .before .before .before .before .args .limit .0) 2 3 (c .before .before .before .before .before .before .before .before .before .pre .0) (lit< tt), tt)
 
 enum-known-it : (t : ℕ) → lts.Need-enum-known-it (claims t) (regroup-at t) regroup.Post
 enum-known-it t c = search needs
@@ -41,7 +41,7 @@ applied-requires : (t : ℕ) → lts.Need-applied-requires (claims t) (regroup-a
 applied-requires t c κs = tt
 
 again-requires-2 : (t : ℕ) → lts.Need-again-requires-2 (claims t) (regroup-at t) regroup.Post
-again-requires-2 t c κs = (down (c .before .before .before .before .before .before .before .before .before .before .before .before .before .before .before .before .before .before .before .before .before .before .before .before .before .before .args .at .0) 2 3 (c .before .before .before .before .before .before .before .before .before .before .before .before .before .before .before .before .before .before .before .before .before .before .before .before .before .before .pre .0) (lit< tt), tt)
+again-requires-2 t c κs = (down (c .before .before .before .before .before .before .before .before .before .before .before .before .before .before .before .before .before .before .before .before .before .before .before .before .before .before .args .limit .0) 2 3 (c .before .before .before .before .before .before .before .before .before .before .before .before .before .before .before .before .before .before .before .before .before .before .before .before .before .before .pre .0) (lit< tt), tt)
 
 same-length-5 : (t : ℕ) → lts.Need-same-length-5 (claims t) (regroup-at t) regroup.Post
 same-length-5 t c = c .before .before .before .before .before .before .before .before .again2 .kept .1 .0 ∙ c .before .before .before .before .before .before .before .before .before .before .before .before .before .before .before .before .before .before .before .before .before .before .before .before .before .again .kept .1 .0

@@ -5,7 +5,7 @@ use mathlib.Core.Path.{refl, _∙_}
 use lib.Dec.{lit<}
 use borrow.Author.Needs.{needs}
 use Prim.Native.Nat.{ℕ}
-use Rattle.simplification.proofs.one_more.Reads as one-more-reads
+use Rattle.tasks.proofs.one_more.Reads as one-more-reads
 use Rattle.store.proofs.kept_at.Reads as kept-at-reads
 use Rattle.store.proofs.reading.expression_at.Reads as expression-at-reads
 use Rattle.simplification.proofs.perform.Reads as perform
@@ -39,7 +39,7 @@ expression-at-requires : (t : ℕ) → lts.Need-expression-at-requires (claims t
 expression-at-requires t c κs = tt
 
 perform-requires : (t : ℕ) → lts.Need-perform-requires (claims t) (simplify-at t) simplify.Post
-perform-requires t c κs = (down (c .before .before .before .before .before .before .before .before .before .before .before .before .before .before .before .before .before .before .args .at .0) 0 1 (c .before .before .before .before .before .before .before .before .before .before .before .before .before .before .before .before .before .before .pre .0) (lit< tt), tt)
+perform-requires t c κs = (down (c .before .before .before .before .before .before .before .before .before .before .before .before .before .before .before .before .before .before .args .limit .0) 0 1 (c .before .before .before .before .before .before .before .before .before .before .before .before .before .before .before .before .before .before .pre .0) (lit< tt), tt)
 
 keep-answer-requires : (t : ℕ) → lts.Need-keep-answer-requires (claims t) (simplify-at t) simplify.Post
 keep-answer-requires t c κs = tt

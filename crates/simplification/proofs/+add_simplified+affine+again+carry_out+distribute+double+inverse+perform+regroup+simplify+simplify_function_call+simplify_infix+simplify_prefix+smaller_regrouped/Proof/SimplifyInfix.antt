@@ -8,7 +8,7 @@ use Prim.Native.Nat.{ℕ}
 use Rattle.simplification.specs.Simplifying.{simplifyInfix}
 use Rattle.simplification.proofs.simplify.Reads as simplify
 use Rattle.arms.proofs.choose_infix.Reads as choose-infix-reads
-use Rattle.simplification.proofs.limit.Limit.lowered.Reads as lowered-reads
+use Rattle.tasks.proofs.limit.Limit.lowered.Reads as lowered-reads
 use Rattle.simplification.proofs.carry_out.Reads as carry-out
 use Rattle.simplification.proofs.simplify_infix.Reads as simplify-infix
 use Rattle.simplification.proofs.+add_simplified+affine+again+carry_out+distribute+double+inverse+perform+regroup+simplify+simplify_function_call+simplify_infix+simplify_prefix+smaller_regrouped.Lts-simplify_infix as lts
@@ -18,7 +18,7 @@ abbrev claims : ℕ → lts.Claims
 claims t = (simplify-below t, simplify.Post, choose-infix-reads.Asked, choose-infix-reads.Learnt, lowered-reads.Asked, lowered-reads.Learnt, carry-out-below t, carry-out.Post)
 
 simplify-requires : (t : ℕ) → lts.Need-simplify-requires (claims t) (simplify-infix-at t) simplify-infix.Post
-simplify-requires t c κs = (down (c .before .before .before .before .before .before .before .before .before .args .at .0) 1 6 (c .before .before .before .before .before .before .before .before .before .pre .0) (lit< tt), tt)
+simplify-requires t c κs = (down (c .before .before .before .before .before .before .before .before .before .args .limit .0) 1 6 (c .before .before .before .before .before .before .before .before .before .pre .0) (lit< tt), tt)
 
 enum-known-l : (t : ℕ) → lts.Need-enum-known-l (claims t) (simplify-infix-at t) simplify-infix.Post
 enum-known-l t c = search needs
@@ -43,7 +43,7 @@ unfolding simplifyInfix
 returns t c = λ held h w. then-refused _ (c .before .before .before .before .before .before .before .before .before .before .simplify .ensures held h (w .0)) (c .enum-told .given .1)
 
 simplify-requires-2 : (t : ℕ) → lts.Need-simplify-requires-2 (claims t) (simplify-infix-at t) simplify-infix.Post
-simplify-requires-2 t c κs = (down (c .before .before .before .before .before .before .before .before .before .before .before .before .before .before .before .before .before .before .before .before .before .before .before .before .before .args .at .0) 1 6 (c .before .before .before .before .before .before .before .before .before .before .before .before .before .before .before .before .before .before .before .before .before .before .before .before .before .pre .0) (lit< tt), tt)
+simplify-requires-2 t c κs = (down (c .before .before .before .before .before .before .before .before .before .before .before .before .before .before .before .before .before .before .before .before .before .before .before .before .before .args .limit .0) 1 6 (c .before .before .before .before .before .before .before .before .before .before .before .before .before .before .before .before .before .before .before .before .before .before .before .before .before .pre .0) (lit< tt), tt)
 
 enum-known-r : (t : ℕ) → lts.Need-enum-known-r (claims t) (simplify-infix-at t) simplify-infix.Post
 enum-known-r t c = search needs
@@ -74,7 +74,7 @@ lowered-requires : (t : ℕ) → lts.Need-lowered-requires (claims t) (simplify-
 lowered-requires t c κs = tt
 
 carry-out-requires : (t : ℕ) → lts.Need-carry-out-requires (claims t) (simplify-infix-at t) simplify-infix.Post
-carry-out-requires t c κs = (lowered (c .before .before .before .before .before .before .before .before .before .before .before .before .before .before .before .before .before .before .before .before .before .before .before .before .before .before .before .before .before .before .before .before .before .before .before .before .before .before .before .before .before .before .before .before .before .before .before .args .at .0) _ 5 6 (c .before .before .before .before .before .before .before .before .before .before .before .before .before .before .before .before .before .before .before .before .before .before .before .before .before .before .before .before .before .before .before .before .before .before .before .before .before .before .before .before .before .before .before .before .before .before .before .pre .0) (c .before .before .before .before .lowered .ensures) (lit< tt), tt)
+carry-out-requires t c κs = (lowered (c .before .before .before .before .before .before .before .before .before .before .before .before .before .before .before .before .before .before .before .before .before .before .before .before .before .before .before .before .before .before .before .before .before .before .before .before .before .before .before .before .before .before .before .before .before .before .before .args .limit .0) _ 5 6 (c .before .before .before .before .before .before .before .before .before .before .before .before .before .before .before .before .before .before .before .before .before .before .before .before .before .before .before .before .before .before .before .before .before .before .before .before .before .before .before .before .before .before .before .before .before .before .before .pre .0) (c .before .before .before .before .lowered .ensures) (lit< tt), tt)
 
 same-length-9 : (t : ℕ) → lts.Need-same-length-9 (claims t) (simplify-infix-at t) simplify-infix.Post
 same-length-9 t c = c .before .before .before .before .before .before .before .before .carry-out .kept .1 .0 ∙ c .before .before .before .before .before .before .before .before .before .before .before .before .before .before .before .before .before .before .before .before .before .before .before .before .before .before .before .before .before .before .simplify2 .kept .1 .0 ∙ c .before .before .before .before .before .before .before .before .before .before .before .before .before .before .before .before .before .before .before .before .before .before .before .before .before .before .before .before .before .before .before .before .before .before .before .before .before .before .before .before .before .before .before .before .before .before .simplify .kept .1 .0

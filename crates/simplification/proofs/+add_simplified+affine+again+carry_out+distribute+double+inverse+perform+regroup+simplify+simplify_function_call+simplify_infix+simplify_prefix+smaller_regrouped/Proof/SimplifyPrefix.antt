@@ -8,7 +8,7 @@ use Prim.Native.Nat.{ℕ}
 use Rattle.simplification.specs.Simplifying.{simplifyPrefix}
 use Rattle.simplification.proofs.simplify.Reads as simplify
 use Rattle.arms.proofs.choose_prefix.Reads as choose-prefix-reads
-use Rattle.simplification.proofs.limit.Limit.lowered.Reads as lowered-reads
+use Rattle.tasks.proofs.limit.Limit.lowered.Reads as lowered-reads
 use Rattle.simplification.proofs.carry_out.Reads as carry-out
 use Rattle.simplification.proofs.simplify_prefix.Reads as simplify-prefix
 use Rattle.simplification.proofs.+add_simplified+affine+again+carry_out+distribute+double+inverse+perform+regroup+simplify+simplify_function_call+simplify_infix+simplify_prefix+smaller_regrouped.Lts-simplify_prefix as lts
@@ -18,7 +18,7 @@ abbrev claims : ℕ → lts.Claims
 claims t = (simplify-below t, simplify.Post, choose-prefix-reads.Asked, choose-prefix-reads.Learnt, lowered-reads.Asked, lowered-reads.Learnt, carry-out-below t, carry-out.Post)
 
 simplify-requires : (t : ℕ) → lts.Need-simplify-requires (claims t) (simplify-prefix-at t) simplify-prefix.Post
-simplify-requires t c κs = (down (c .before .before .before .before .before .before .before .before .before .args .at .0) 1 6 (c .before .before .before .before .before .before .before .before .before .pre .0) (lit< tt), tt)
+simplify-requires t c κs = (down (c .before .before .before .before .before .before .before .before .before .args .limit .0) 1 6 (c .before .before .before .before .before .before .before .before .before .pre .0) (lit< tt), tt)
 
 enum-known-operand : (t : ℕ) → lts.Need-enum-known-operand (claims t) (simplify-prefix-at t) simplify-prefix.Post
 enum-known-operand t c = search needs
@@ -49,7 +49,7 @@ lowered-requires : (t : ℕ) → lts.Need-lowered-requires (claims t) (simplify-
 lowered-requires t c κs = tt
 
 carry-out-requires : (t : ℕ) → lts.Need-carry-out-requires (claims t) (simplify-prefix-at t) simplify-prefix.Post
-carry-out-requires t c κs = (lowered (c .before .before .before .before .before .before .before .before .before .before .before .before .before .before .before .before .before .before .before .before .before .before .before .before .before .before .before .before .before .before .args .at .0) _ 5 6 (c .before .before .before .before .before .before .before .before .before .before .before .before .before .before .before .before .before .before .before .before .before .before .before .before .before .before .before .before .before .before .pre .0) (c .before .before .before .before .lowered .ensures) (lit< tt), tt)
+carry-out-requires t c κs = (lowered (c .before .before .before .before .before .before .before .before .before .before .before .before .before .before .before .before .before .before .before .before .before .before .before .before .before .before .before .before .before .before .args .limit .0) _ 5 6 (c .before .before .before .before .before .before .before .before .before .before .before .before .before .before .before .before .before .before .before .before .before .before .before .before .before .before .before .before .before .before .pre .0) (c .before .before .before .before .lowered .ensures) (lit< tt), tt)
 
 same-length-5 : (t : ℕ) → lts.Need-same-length-5 (claims t) (simplify-prefix-at t) simplify-prefix.Post
 same-length-5 t c = c .before .before .before .before .before .before .before .before .carry-out .kept .1 .0 ∙ c .before .before .before .before .before .before .before .before .before .before .before .before .before .before .before .before .before .before .before .before .before .before .before .before .before .before .before .before .before .simplify .kept .1 .0

@@ -2,10 +2,10 @@
 use mathlib.Core.Path.{refl}
 use native.Mathlib.Omega.{arith}
 use borrow.Author.Tests.{lt-ltb, le-ltb}
-use Rattle.simplification.specs.Simplifying.{oneMore}
+use Rattle.tasks.specs.Tasks.{oneMore}
 use borrow.Author.Needs.{needs}
-use Rattle.simplification.proofs.one_more.Statement.{statement}
-use Rattle.simplification.proofs.one_more.Tie as tie
+use Rattle.tasks.proofs.one_more.Statement.{statement}
+use Rattle.tasks.proofs.one_more.Tie as tie
 
 pub one-more-spec : {M : Type 1} → statement M
 unfolding oneMore

@@ -2,6 +2,7 @@
 ghost use mathlib.Core.Path.{_≡_};
 ghost use Prim.Native.Nat.{_-_};
 ghost use lib.Dec.{eqb};
+ghost use Rattle.tasks.specs.Tasks.{isAllowed};
 
 // Never to be confused with numbers or sizes of nodes.
 pub struct Limit(pub u64);
@@ -23,5 +24,12 @@ impl Limit {
         ensures { λ r. ⌜ r ≡ eqb (self .0) 0 ⌝ }
     {
         self.0 == 0
+    }
+
+    // Not so: "5 BAD_LIMIT: limit above 10".
+    pub fn is_allowed(self) -> bool
+        ensures { λ r. ⌜ r ≡ isAllowed (self .0) ⌝ }
+    {
+        self.0 <= 10
     }
 }

@@ -1,13 +1,13 @@
--- `undone` meets its contract. Assumes nothing.
+-- `is_inverse` meets its contract. Assumes nothing.
 use mathlib.Core.Path.{refl}
-use Rattle.arms.specs.Arms.{undone}
+use Rattle.arms.specs.Arms.{isInverse}
 use borrow.Author.Needs.{needs}
-use Rattle.arms.proofs.groups.undone.Statement.{statement}
-use Rattle.arms.proofs.groups.undone.Tie as tie
+use Rattle.arms.proofs.groups.is_inverse.Statement.{statement}
+use Rattle.arms.proofs.groups.is_inverse.Tie as tie
 
-pub undone-spec : {M : Type 1} → statement M
-unfolding undone
-undone-spec =
+pub is-inverse-spec : {M : Type 1} → statement M
+unfolding isInverse
+is-inverse-spec =
     tie.close
     (tie.spec
     (λ c. search needs)

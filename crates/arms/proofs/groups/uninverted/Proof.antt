@@ -1,13 +1,13 @@
--- `undoes` meets its contract. Assumes nothing.
+-- `uninverted` meets its contract. Assumes nothing.
 use mathlib.Core.Path.{refl}
-use Rattle.arms.specs.Arms.{undoes}
+use Rattle.arms.specs.Arms.{uninverted}
 use borrow.Author.Needs.{needs}
-use Rattle.arms.proofs.groups.undoes.Statement.{statement}
-use Rattle.arms.proofs.groups.undoes.Tie as tie
+use Rattle.arms.proofs.groups.uninverted.Statement.{statement}
+use Rattle.arms.proofs.groups.uninverted.Tie as tie
 
-pub undoes-spec : {M : Type 1} → statement M
-unfolding undoes
-undoes-spec =
+pub uninverted-spec : {M : Type 1} → statement M
+unfolding uninverted
+uninverted-spec =
     tie.close
     (tie.spec
     (λ c. search needs)

@@ -1,0 +1,40 @@
+-- What `task_at` ensures: a task on nodes is a task on trees. Only connecting.
+use Prim.Native.Nat.{ℕ, _<_}
+use mathlib.Core.Path.{_≡_}
+use Rattle.expression.specs.Trees.{Tree}
+use Rattle.expression.specs.declared.node.Expression.{Expression}
+use Rattle.expression.specs.Nodes.{grown, Within}
+use Rattle.tasks.specs.declared.Task.{Task}
+use Rattle.tasks.specs.Tasks as Trees
+use Rattle.tasks.specs.Tasks.{number-of-pi, itself, calling, prefixing, infixing, taskAt}
+
+-- a task read as one on trees, where `tree` gives the tree of each node
+abbrev pub taskOf : (tree : ℕ → Tree) → Task → Trees.Task
+taskOf tree Task.NumberOfPi = number-of-pi
+taskOf tree (Task.Itself k) = itself (tree k)
+taskOf tree (Task.FunctionCall f a) = calling f (tree a)
+taskOf tree (Task.Infix o a b) = infixing o (tree a) (tree b)
+taskOf tree (Task.Prefix o a) = prefixing o (tree a)
+
+-- the nodes of a task are among the first n
+abbrev pub TaskIn : ℕ → Task → Type 0
+TaskIn n Task.NumberOfPi = Unit {0}
+TaskIn n (Task.Itself k) = k < n
+TaskIn n (Task.FunctionCall f a) = a < n
+TaskIn n (Task.Infix o a b) = (a < n) × (b < n)
+TaskIn n (Task.Prefix o a) = a < n
+
+-- no operation runs
+abbrev pub Rests : Task → Type 0
+Rests Task.NumberOfPi = Unit {0}
+Rests (Task.Itself k) = Unit {0}
+Rests (Task.FunctionCall f a) = ⊥
+Rests (Task.Infix o a b) = ⊥
+Rests (Task.Prefix o a) = ⊥
+
+-- the task of node `node`, which is e: as one on trees, and over n nodes; and at limit 0 no operation runs, so that the cycle ends whatever
+-- the slices hold
+pub record Decides (limit node : ℕ) (e : Expression) (task : Task) : Type 0 where
+  pub wants : (tree : ℕ → Tree) → tree node ≡ grown tree e → taskOf tree task ≡ taskAt limit (grown tree e)
+  pub inside : (n : ℕ) → node < n → Within n e → TaskIn n task
+  pub rests : limit ≡ 0 → Rests task
