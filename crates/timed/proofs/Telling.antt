@@ -1,5 +1,5 @@
 -- From its bits 58 on, a packed answer is the number of its refusal, and 0 where it is none. Assumes nothing.
-use mathlib.Core.Path.{_≡_, refl}
+use mathlib.Core.Path.{_≡_}
 use Prim.Native.Nat.{ℕ, _/_, _≤_, _<_}
 use native.Mathlib.Omega.{arith}
 use Rattle.expression.specs.declared.refusal.Refusal.{Refusal}

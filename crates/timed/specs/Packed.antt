@@ -83,5 +83,5 @@ valueOf (Evaluated.Refused why) out = (refusedOf why, out)
 
 -- ---- what is handed over by its parts
 
-abbrev pub counts : (variables cells functions : ℕ) → Counts
-counts variables cells functions = record { variables = variables; cells = cells; functions = functions }
+abbrev pub rowCounts : (variables cells functions : ℕ) → Counts
+rowCounts variables cells functions = record { variables = variables; cells = cells; functions = functions }

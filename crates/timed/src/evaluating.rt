@@ -1,6 +1,6 @@
 // Evaluating: a node of what was read, and the whole call.
 ghost use Rattle.calls.specs.Lent.{work};
-ghost use Rattle.timed.specs.Packed.{counts};
+ghost use Rattle.timed.specs.Packed.{rowCounts};
 ghost use Rattle.timed.specs.Promises.{EvaluatesNode, EvaluatesTexts};
 use super::packing::counted;
 use super::packing::put_evaluated;
@@ -20,7 +20,7 @@ pub extern "C" fn timed_evaluate(
     below: usize,
     value: &mut [u64],
 ) -> u64
-    ensures { λ r. ⌜ EvaluatesNode (now (tag .entry)) (now (first .entry)) (now (second .entry)) (now (table .entry)) (counts variables cells functions) node below r (now (value .entry)) (now (value .exit)) ⌝ }
+    ensures { λ r. ⌜ EvaluatesNode (now (tag .entry)) (now (first .entry)) (now (second .entry)) (now (table .entry)) (rowCounts variables cells functions) node below r (now (value .entry)) (now (value .exit)) ⌝ }
 {
     let rows = counted(variables, cells, functions);
     put_evaluated(

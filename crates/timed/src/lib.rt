@@ -1,10 +1,10 @@
-// What bench/ times, for Rust and C to call: over numbers and slices alone, since C passes a struct by value by rules of
-// each processor's own. A file for each topic; `packing` makes a number of each answer.
+// What bench/ times, for Rust or C to call: over numbers and slices alone, since C passes a struct by value by rules of
+// each processor's own. `packing` makes one number of each answer.
 pub mod arithmetic;
 pub mod evaluating;
+pub mod inputs;
 pub mod nodes;
+pub mod outputs;
 mod packing;
-pub mod reading;
 pub mod simplifying;
 pub mod tapes;
-pub mod writing;

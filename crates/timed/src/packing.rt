@@ -2,7 +2,7 @@
 ghost use mathlib.Core.Path.{_≡_};
 ghost use Prim.Native.Nat.{ℕ};
 ghost use mathlib.Core.List.{List};
-ghost use Rattle.timed.specs.Packed.{refusedOf, nodeOf, countsOf, addedOf, listingOf, sheetOf, jobOf, writtenOf, simplifiedOf, checkedOf, withValue, valueOf, counts};
+ghost use Rattle.timed.specs.Packed.{refusedOf, nodeOf, countsOf, addedOf, listingOf, sheetOf, jobOf, writtenOf, simplifiedOf, checkedOf, withValue, valueOf, rowCounts};
 use calls::Evaluated;
 use calls::Job;
 use calls::Simplified;
@@ -134,7 +134,7 @@ pub fn put_evaluated(value: &mut [u64], answer: Evaluated) -> u64
 
 // The rows that were read, from the counts that `packed_counts` has told.
 pub fn counted(variables: usize, cells: usize, functions: usize) -> Rows
-    ensures { λ r. ⌜ r ≡ counts variables cells functions ⌝ }
+    ensures { λ r. ⌜ r ≡ rowCounts variables cells functions ⌝ }
 {
     Rows {
         variables,

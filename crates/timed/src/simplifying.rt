@@ -1,7 +1,7 @@
 // Simplifying: a node of what was read, and the whole call.
 ghost use Rattle.store.specs.Memory.{memory};
 ghost use Rattle.calls.specs.Lent.{work};
-ghost use Rattle.timed.specs.Packed.{counts};
+ghost use Rattle.timed.specs.Packed.{rowCounts};
 ghost use Rattle.timed.specs.Promises.{SimplifiesNode, SimplifiesTexts};
 use super::packing::counted;
 use super::packing::packed_added;
@@ -23,7 +23,7 @@ pub extern "C" fn timed_simplify(
     node: usize,
     nodes: usize,
 ) -> u64
-    ensures { λ r. ⌜ SimplifiesNode limit (now (table .entry)) (counts variables cells functions) node nodes r (memory (now (tag .entry)) (now (first .entry)) (now (second .entry)) (now (link .entry))) (memory (now (tag .exit)) (now (first .exit)) (now (second .exit)) (now (link .exit))) ⌝ }
+    ensures { λ r. ⌜ SimplifiesNode limit (now (table .entry)) (rowCounts variables cells functions) node nodes r (memory (now (tag .entry)) (now (first .entry)) (now (second .entry)) (now (link .entry))) (memory (now (tag .exit)) (now (first .exit)) (now (second .exit)) (now (link .exit))) ⌝ }
 {
     let rows = counted(variables, cells, functions);
     packed_added(simplify(

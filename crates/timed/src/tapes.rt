@@ -2,7 +2,7 @@
 ghost use mathlib.Core.Path.{_≡_};
 ghost use Rattle.tape.specs.declared.Checked.{Checked as CheckedTape};
 ghost use Rattle.tape.specs.Tapes as Tapes;
-ghost use Rattle.timed.specs.Packed.{checkedOf, counts};
+ghost use Rattle.timed.specs.Packed.{checkedOf, rowCounts};
 ghost use Rattle.timed.specs.Promises.{CompilesNode, Plays, ChecksAndPlays, PlaysBytes};
 use super::packing::counted;
 use super::packing::packed_checked;
@@ -46,7 +46,7 @@ pub extern "C" fn timed_play(
     value: &mut [u64],
 ) -> u64
     requires { ⌜ Tapes.check (now tape) ≡ CheckedTape.Sound ⌝ }
-    ensures { λ r. ⌜ Plays (now (tape .entry)) (now (table .entry)) (counts variables cells functions) r (now (value .entry)) (now (value .exit)) ⌝ }
+    ensures { λ r. ⌜ Plays (now (tape .entry)) (now (table .entry)) (rowCounts variables cells functions) r (now (value .entry)) (now (value .exit)) ⌝ }
 {
     let rows = counted(variables, cells, functions);
     put_evaluated(value, answer_of(play(tape, table, rows)))
@@ -62,7 +62,7 @@ pub extern "C" fn timed_check_and_play(
     functions: usize,
     value: &mut [u64],
 ) -> u64
-    ensures { λ r. ⌜ ChecksAndPlays (Tapes.check (now (tape .entry))) (now (tape .entry)) (now (table .entry)) (counts variables cells functions) r (now (value .entry)) (now (value .exit)) ⌝ }
+    ensures { λ r. ⌜ ChecksAndPlays (Tapes.check (now (tape .entry))) (now (tape .entry)) (now (table .entry)) (rowCounts variables cells functions) r (now (value .entry)) (now (value .exit)) ⌝ }
 {
     let checked = check(tape);
     match checked {

@@ -1,4 +1,4 @@
-// Reading: a listing, its lines alone, a sheet, and a job of both.
+// Reading: a listing, its lines alone, a sheet, and a job, which is a listing and a sheet.
 ghost use Prim.Native.Nat.{_≤_};
 ghost use lib.ListN.{length};
 ghost use Rattle.store.specs.Memory.{memory};

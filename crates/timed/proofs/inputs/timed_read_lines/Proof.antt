@@ -4,8 +4,8 @@ use Prim.Native.Nat.{_-_, _≤_}
 use lib.ListN.{length}
 use native.Mathlib.Omega.{arith}
 use borrow.Author.Needs.{needs}
-use Rattle.timed.proofs.reading.timed_read_lines.Statement.{statement}
-use Rattle.timed.proofs.reading.timed_read_lines.Tie as tie
+use Rattle.timed.proofs.inputs.timed_read_lines.Statement.{statement}
+use Rattle.timed.proofs.inputs.timed_read_lines.Tie as tie
 
 abbrev Inv-loop : tie.InvT-loop
 Inv-loop text table₀ at₀ lines₀ table at lines = (lines ≤ 1024) × (length table ≡ length table₀)

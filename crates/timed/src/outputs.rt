@@ -22,7 +22,7 @@ pub extern "C" fn timed_write_listing(
     packed_written(write_listing(tag, first, second, root, table, out))
 }
 
-// The same as the answer of a call that built the node.
+// As a call writes the node that it has built, one of `nodes`.
 #[no_mangle]
 pub extern "C" fn timed_write_node(
     tag: &[u64],
