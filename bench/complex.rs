@@ -1,4 +1,4 @@
-// Times the functions of the crate complex_timed against the same in Rust: num_complex's product and quotient, and the
+// Times the arithmetic of the crate timed against the same in Rust: num_complex's product and quotient, and the
 // exact zero test against `re.hypot(im) < 1e-10`. bench/run builds it; an argument asks for more rounds.
 use std::{f64::consts::TAU, hint::black_box};
 

@@ -1,4 +1,4 @@
-// Times the crate evaluation_timed against the Rust's own `evaluate` (the library of tests/rust/oracle) on the same
+// Times evaluating by the crate timed against the Rust's own `evaluate` (the library of tests/rust/oracle) on the same
 // trees and values. bench/run builds it; an argument asks for more rounds.
 use jobs::{FEW, MIXES, Mix, SIZES, Side, Work, call_row, evaluated, median, ratio, rounds, rust, rust_again, times};
 

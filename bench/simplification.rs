@@ -1,6 +1,6 @@
-// Times the crate simplification_timed against the Rust's own `into_simplified`, which is at limit 10 (the library of
+// Times simplifying by the crate timed against the Rust's own `into_simplified`, which is at limit 10 (the library of
 // tests/rust/oracle), on the same trees. bench/run builds it; an argument asks for more rounds.
-use common::{Random, line, listing, now, quartiles, rows};
+use common::{Random, line, listing, now, packed, quartiles, rows};
 use oracle::{
     expression::{Expression, ExpressionFunction, InfixOperator, PrefixOperator, simplified},
     nodes::{Node, number_of, trees},
@@ -198,11 +198,11 @@ struct Answer {
 
 impl Answer {
     fn node(word: u64) -> Answer {
-        Answer { at: (word % 4096) as usize, nodes: (word >> 12) as usize % 8192, ..Answer::bytes(word) }
+        Answer { at: packed::node(word), nodes: packed::nodes(word), ..Answer::bytes(word) }
     }
 
     fn bytes(word: u64) -> Answer {
-        Answer { refused: word >> 58, at: (word % (1 << 25)) as usize, nodes: 0, calls: (word >> 25) % (1 << 32) }
+        Answer { refused: packed::refused(word), at: packed::bytes(word), nodes: 0, calls: packed::calls(word) }
     }
 }
 
@@ -220,10 +220,10 @@ impl Sheet {
                 first.as_mut_ptr(), first.len(), second.as_mut_ptr(), second.len(), link.as_mut_ptr(), link.len(),
                 self.table.as_mut_ptr(), TABLE,
             )
-        } as usize;
-        assert_eq!(read >> 58, 0, "what is drawn here is read");
-        self.rows = [read >> 25, read >> 36, read >> 47].map(|n| n % 2048);
-        [read % 4096, (read >> 12) % 8192]
+        };
+        assert_eq!(packed::refused(read), 0, "what is drawn here is read");
+        self.rows = packed::rows(read);
+        [packed::node(read), packed::nodes(read)]
     }
 
     #[inline(never)]
@@ -258,8 +258,8 @@ fn written(Store([tag, first, second, _]): &Store, answer: Answer) -> Vec<u8> {
             TABLE, out.as_mut_ptr(), OUT, answer.at, answer.nodes,
         )
     };
-    assert_eq!(word >> 58, 0);
-    out.truncate(word as usize);
+    assert_eq!(packed::refused(word), 0);
+    out.truncate(packed::bytes(word));
     out
 }
 
@@ -383,7 +383,7 @@ fn time_here(jobs: &mut [Job]) -> f64 {
     let mut refused = 0;
     for job in jobs.iter_mut() {
         for tree in job.trees.iter_mut() {
-            refused |= job.sheet.simplify(&mut tree.work, tree.root) >> 58;
+            refused |= packed::refused(job.sheet.simplify(&mut tree.work, tree.root));
         }
     }
     let taken = now() - start;

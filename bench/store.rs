@@ -1,7 +1,10 @@
-// Times adding to the store of the crate store_timed against the same work in Rust with two HashMaps: an add of a new
+// Times adding to the store by the crate timed against the same work in Rust with two HashMaps: an add of a new
 // node and of a stored one, at 100, 1000 and 4000 nodes. Rust is handed a node's fields, or an expression as the store
 // here is. bench/run builds it; an argument asks for more rounds.
 use std::{collections::HashSet, f64::consts::PI, hint::black_box, time::Instant};
+
+#[path = "common/packed.rs"]
+mod packed;
 
 const ROOM: usize = 4096;
 const LARGEST: u64 = 1_000_000;
@@ -30,8 +33,7 @@ struct Node {
     b: u64,
 }
 
-// What is timed. An add to n nodes answers the node in 16 bits and the count of nodes then in 16 bits above, or a
-// refusal's number times 2^32.
+// What is timed. An add to n nodes answers the node and the count of nodes then, or a refusal, packed.
 trait Store {
     fn start(&mut self);
     fn add(&mut self, n: usize, node: Node) -> u64;
@@ -119,8 +121,7 @@ fn node_of(e: Expression) -> Node {
 
 // A side of Rust: one map finds a node by its fields, the other a class by the fields with classes in place of nodes
 // and of doubles. Neither grows: both have room for all from the beginning. What it is handed is made of a node
-// outside of its add, which is never inlined: so an expression is really made, and matched on. In timed_add clang has
-// made one jump of both.
+// outside of its add, which is never inlined: so an expression is really made, and matched on, as it is in timed_add.
 macro_rules! side {
     ($name:ident, $handed:ty, $made:path, $node:path) => {
         mod $name {
@@ -152,7 +153,7 @@ macro_rules! side {
                     let Node { code, a, b } = $node(handed);
                     let kind = code % 8;
                     let place = match self.nodes.entry(Node { code, a, b }) {
-                        Entry::Occupied(at) => return *at.get() as u64 + ((n as u64) << 16),
+                        Entry::Occupied(at) => return packed::of_nodes(*at.get(), n),
                         Entry::Vacant(place) => place,
                     };
                     let (i, j) = (a as usize, b as usize);
@@ -162,13 +163,13 @@ macro_rules! side {
                         _ => (1, 1),
                     };
                     if size > LARGEST {
-                        return 6 << 32;
+                        return packed::refusal(6);
                     }
                     if depth > DEEPEST {
-                        return 7 << 32;
+                        return packed::refusal(7);
                     }
                     if n >= self.room {
-                        return 8 << 32;
+                        return packed::refusal(8);
                     }
                     let key = match kind {
                         1 => Node { code, a: unsigned_zero(a), b: unsigned_zero(b) },
@@ -181,7 +182,7 @@ macro_rules! side {
                     self.size.push(size);
                     self.depth.push(depth);
                     self.class.push(class as u64);
-                    n as u64 + ((n as u64 + 1) << 16)
+                    packed::of_nodes(n, n + 1)
                 }
             }
 
@@ -254,7 +255,7 @@ impl Random {
         let (mut seen, mut nodes, mut store) = (HashSet::new(), Vec::new(), rust::Store::new(count));
         while nodes.len() < count {
             let node = self.node(nodes.len());
-            if seen.insert(node) && store.add(nodes.len(), node) >> 32 == 0 {
+            if seen.insert(node) && packed::refused(store.add(nodes.len(), node)) == 0 {
                 nodes.push(node);
             }
         }
@@ -280,8 +281,8 @@ fn agree(nodes: &[Node], room: usize) {
         }
         let answers = sides.each_mut().map(|side| side.add(n, *node));
         assert!(answers == [answers[0]; 4], "they differ at {n} nodes: {answers:?}");
-        if answers[0] >> 32 == 0 {
-            n = answers[0] as usize >> 16;
+        if packed::refused(answers[0]) == 0 {
+            n = packed::nodes(answers[0]);
             let classes = sides.each_ref().map(|side| side.class(n - 1));
             assert!(classes == [classes[0]; 4], "they differ at {n} nodes: {classes:?}");
         }
@@ -297,11 +298,11 @@ fn growing(store: &mut impl Store, nodes: &[Node]) -> f64 {
     let (before, last) = nodes.split_at(nodes.len() - GROWTH);
     let mut n = 0;
     for node in before {
-        n = store.add(n, *node) as usize >> 16;
+        n = packed::nodes(store.add(n, *node));
     }
     let start = Instant::now();
     for node in last {
-        n = store.add(n, *node) as usize >> 16;
+        n = packed::nodes(store.add(n, *node));
     }
     let time = start.elapsed().as_secs_f64();
     assert_eq!(n, nodes.len());

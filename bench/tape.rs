@@ -1,6 +1,6 @@
-// Times the crate tape_timed against the Rust's own `evaluate` (the library of tests/rust/oracle) and against evaluating
-// here, on the same trees and values: playing a tape, checking, compiling. bench/run builds it; an argument asks for more
-// rounds. It also links: evaluation_timed
+// Times tapes by the crate timed against the Rust's own `evaluate` (the library of tests/rust/oracle) and against
+// evaluating here, on the same trees and values: playing a tape, checking, compiling. bench/run builds it; an argument
+// asks for more rounds.
 use jobs::{FEW, Job, MIXES, Mix, SIZES, TABLE, Tree, Work, call_row, evaluated, median, ratio, rounds, rust, rust_again, time, times};
 use std::hint::black_box;
 

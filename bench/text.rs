@@ -1,4 +1,4 @@
-// Times the crate text_timed against plain Rust (text/plain.rs) on the same bytes: reading a listing of 1024 lines and
+// Times the texts of the crate timed against plain Rust (text/plain.rs) on the same bytes: reading a listing of 1024 lines and
 // a sheet of 1536, and writing a listing. bench/run builds it; an argument asks for more rounds.
 use std::{
     collections::{BTreeSet, HashSet, VecDeque, hash_map::RandomState},
@@ -10,6 +10,8 @@ use std::{
 
 #[path = "text/plain.rs"]
 mod again;
+#[path = "common/packed.rs"]
+mod packed;
 #[path = "text/plain.rs"]
 mod rust;
 
@@ -96,7 +98,7 @@ struct Table(Vec<u64>);
 struct Here(Store, Table);
 
 fn answer(r: u64) -> Result<u64, Refusal> {
-    if r >> 48 == 0 { Ok(r) } else { Err((r >> 48, r & 0xFFFF)) }
+    if packed::refused(r) == 0 { Ok(r) } else { Err((packed::refused(r), packed::place(r))) }
 }
 
 impl Store {
@@ -120,7 +122,7 @@ impl Table {
         answer(unsafe { timed_read_lines(text.as_ptr(), text.len(), self.0.as_mut_ptr(), self.0.len()) })
     }
 
-    // The counts of variables, cells and functions, 16 bits each.
+    // The counts of variables, cells and functions, packed.
     fn read_sheet(&mut self, text: &[u8]) -> Result<u64, Refusal> {
         answer(unsafe { timed_read_sheet(text.as_ptr(), text.len(), self.0.as_mut_ptr(), self.0.len()) })
     }
@@ -142,7 +144,7 @@ impl Here {
         Here(Store::new(), Table::new())
     }
 
-    // The root's node in 16 bits and the count of nodes above.
+    // The root's node and the count of nodes, packed.
     fn read_listing(&mut self, text: &[u8]) -> Result<u64, Refusal> {
         let ([tag, first, second, link], table) = (&mut self.0.0, &mut self.1.0);
         answer(unsafe {
@@ -341,7 +343,7 @@ fn agree_on_listing(text: &[u8]) {
     assert_eq!((read, &plain.nodes), (again.read_listing(text), &again.nodes));
     assert_eq!((read, &plain.nodes), (quick.read_listing(text), &quick.nodes));
     let n = plain.nodes.len();
-    assert_eq!(read.map(|root| root as u64 + ((n as u64) << 16)), here.read_listing(text));
+    assert_eq!(read.map(|root| packed::of_nodes(root, n)), here.read_listing(text));
     if let Ok(root) = read {
         (0..n).for_each(|i| assert_eq!(plain.nodes[i], here.0.node(i)));
         let (mut writer, mut writer_again, mut out) = (rust::Writer::new(), again::Writer::new(), vec![b'#'; OUT]);
@@ -365,8 +367,8 @@ fn agree_on_sheet(text: &[u8]) {
     let read = rust::read_sheet(text, &mut sheet);
     assert_eq!(read, again::read_sheet(text, &mut sheet_again));
     let Sheet { variables, cells, functions } = sheet;
-    let counts = variables.len() + (cells.len() << 16) + (functions.len() << 32);
-    assert_eq!(read.map(|_| counts as u64), table.read_sheet(text));
+    let counts = packed::of_rows([variables.len(), cells.len(), functions.len()]);
+    assert_eq!(read.map(|_| counts), table.read_sheet(text));
     if read.is_ok() {
         let words = variables.iter().flat_map(|(v, [re, im])| [*v, *re, *im]);
         assert!(words.eq(table.0[..3 * variables.len()].iter().copied()));

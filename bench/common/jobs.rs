@@ -1,7 +1,7 @@
-// Trees of several kinds under sheets, as the Rust has them and as the crate evaluation_timed has read them, and times of
+// Trees of several kinds under sheets, as the Rust has them and as the crate timed has read them, and times of
 // going through them: what the benchmarks of evaluating and of the tape share.
 #![allow(dead_code)] // what only one of them uses
-use super::common::{self, Random, listing, now, quartiles};
+use super::common::{self, Random, listing, now, packed, quartiles};
 use num_complex::Complex64;
 use oracle::{
     expression::{EvaluationError, Expression, ExpressionFunction, InfixOperator, PrefixOperator},
@@ -20,7 +20,7 @@ const REGIONS: u16 = 8;
 const ROUNDS: usize = 101; // at the least
 
 unsafe extern "C" {
-    fn timed_read(
+    fn timed_read_job(
         list: *const u8, list_len: usize, values: *const u8, values_len: usize, tag: *mut u64, tag_len: usize,
         first: *mut u64, first_len: usize, second: *mut u64, second_len: usize, link: *mut u64, link_len: usize,
         table: *mut u64, table_len: usize,
@@ -245,23 +245,25 @@ impl Job {
         let (list, mut store) = (listing(nodes), Store::new(nodes.len()));
         let [tag, first, second, link] = &mut store.0;
         let read = unsafe {
-            timed_read(
+            timed_read_job(
                 list.as_ptr(), list.len(), self.sheet.as_ptr(), self.sheet.len(), tag.as_mut_ptr(), tag.len(),
                 first.as_mut_ptr(), first.len(), second.as_mut_ptr(), second.len(), link.as_mut_ptr(), link.len(),
                 self.table.as_mut_ptr(), TABLE,
             )
-        } as usize;
-        self.rows = [read >> 25, read >> 36, read >> 47].map(|n| n % 2048);
+        };
+        self.rows = packed::rows(read);
         let rust_again = (**trees(nodes).last().unwrap()).clone();
-        let tree = Tree { tape: Vec::new(), rust, rust_again, list, store, root: read % 4096, below: (read >> 12) % 8192 };
-        (read >> 58 == 0).then_some(tree)
+        let (root, below) = (packed::node(read), packed::nodes(read));
+        let tree = Tree { tape: Vec::new(), rust, rust_again, list, store, root, below };
+        (packed::refused(read) == 0).then_some(tree)
     }
 
     // The same bits, any NaN for any, and a zero for a zero. A NEED here, for a zero of the other sign, is no agreement.
     fn agrees(&self, tree: &Tree) -> bool {
         let z = by_rust(&tree.rust, &self.values).expect("a value");
         let same = |x: f64, bits: u64| x.to_bits() == bits || x == 0.0 && bits << 1 == 0 || x.is_nan() && f64::from_bits(bits).is_nan();
-        let is_same = |(number, [re, im]): (u64, [u64; 2])| {
+        let is_same = |(answer, [re, im]): (u64, [u64; 2])| {
+            let number = packed::refused(answer);
             assert!(number == 9 || number == 0 && same(z.re, re) && same(z.im, im), "{z} is not {number} {re:X} {im:X}");
             number == 0
         };

@@ -3,6 +3,8 @@ use num_complex::Complex64;
 use oracle::{nodes::Node, trace::Asked};
 use std::fmt::Write;
 
+pub mod packed;
+
 unsafe extern "C" {
     safe fn clock_gettime(clock: i32, seconds_and_nanoseconds: &mut [i64; 2]) -> i32;
 }

@@ -48,7 +48,7 @@ pub enum Simplified {
 }
 
 // Evaluation's lacks as refusals: 9 and 10.
-fn answer_of(value: Evaluation) -> Evaluated
+pub fn answer_of(value: Evaluation) -> Evaluated
     ensures { λ r. ⌜ r ≡ evaluated value ⌝ }
 {
     match value {

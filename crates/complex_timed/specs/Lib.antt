@@ -1,2 +1,0 @@
--- What the contracts of `complex_timed` cite.
-pub mod Pair

@@ -1,2 +1,0 @@
--- What the contracts of `evaluation_timed` cite.
-pub mod Packed

@@ -1,2 +1,0 @@
--- What the contracts of `simplification_timed` cite.
-pub mod Packed

@@ -1,2 +1,0 @@
--- What the contracts of `store_timed` cite.
-pub mod Packed

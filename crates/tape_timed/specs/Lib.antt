@@ -1,2 +1,0 @@
--- What the contracts of `tape_timed` cite.
-pub mod Packed

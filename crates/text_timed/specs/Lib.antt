@@ -1,2 +1,0 @@
--- What the contracts of `text_timed` cite.
-pub mod Packed

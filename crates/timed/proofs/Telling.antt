@@ -1,0 +1,58 @@
+-- From its bits 58 on, a packed answer is the number of its refusal, and 0 where it is none. Assumes nothing.
+use mathlib.Core.Path.{_≡_}
+use Prim.Native.Nat.{ℕ, _/_, _≤_, _<_}
+use native.Mathlib.Omega.{arith}
+use Rattle.expression.specs.declared.refusal.Refusal.{Refusal}
+use Rattle.expression.specs.Refusals.{numberOf}
+use Rattle.store.specs.declared.Added.{Added}
+use Rattle.listing.specs.declared.Listing.{Listing}
+use Rattle.writing.specs.declared.Written.{Written}
+use Rattle.sheet.specs.declared.Counts.{Counts}
+use Rattle.sheet.specs.declared.Sheet.{Sheet}
+use Rattle.calls.specs.declared.Job.{Job}
+use Rattle.calls.specs.declared.Simplified.{Simplified}
+use Rattle.timed.specs.Packed.{refusedOf, addedOf, listingOf, sheetOf, jobOf, writtenOf, simplifiedOf}
+
+abbrev told : ℕ → ℕ
+told r = r / 288230376151711744
+
+-- five bits are enough
+pub numbered : (why : Refusal) → (1 ≤ numberOf why) × (numberOf why < 32)
+numbered (Refusal.BadList line) = (omega arith, omega arith)
+numbered (Refusal.LongList line) = (omega arith, omega arith)
+numbered (Refusal.BadSheet line) = (omega arith, omega arith)
+numbered (Refusal.LongSheet line) = (omega arith, omega arith)
+numbered Refusal.BadLimit = (omega arith, omega arith)
+numbered Refusal.Big = (omega arith, omega arith)
+numbered Refusal.Deep = (omega arith, omega arith)
+numbered Refusal.Room = (omega arith, omega arith)
+numbered (Refusal.Need operation x y) = (omega arith, omega arith)
+numbered Refusal.Incomplete = (omega arith, omega arith)
+numbered Refusal.NotReal = (omega arith, omega arith)
+numbered Refusal.NotANumber = (omega arith, omega arith)
+numbered Refusal.OutRoom = (omega arith, omega arith)
+numbered Refusal.LongTape = (omega arith, omega arith)
+numbered (Refusal.BadTape step) = (omega arith, omega arith)
+
+pub refusal-told : (why : Refusal) → told (refusedOf why) ≡ numberOf why
+refusal-told why = let (_, small) = numbered why in omega arith
+
+-- ---- answers that are none
+
+pub node-told : (at nodes calls : ℕ) → told (addedOf (Added.Node at nodes calls)) ≡ 0
+node-told at nodes calls = omega arith
+
+pub listing-told : (root nodes swaps : ℕ) → told (listingOf (Listing.Read root nodes swaps)) ≡ 0
+listing-told root nodes swaps = omega arith
+
+pub sheet-told : (rows : Counts) → told (sheetOf (Sheet.Read rows)) ≡ 0
+sheet-told rows = omega arith
+
+pub job-told : (root nodes : ℕ) (rows : Counts) → told (jobOf (Job.Ready root nodes rows)) ≡ 0
+job-told root nodes rows = omega arith
+
+pub written-told : (bytes : ℕ) → told (writtenOf (Written.Bytes bytes)) ≡ 0
+written-told bytes = omega arith
+
+pub simplified-told : (bytes calls : ℕ) → told (simplifiedOf (Simplified.Bytes bytes calls)) ≡ 0
+simplified-told bytes calls = omega arith

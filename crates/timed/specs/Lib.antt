@@ -1,0 +1,3 @@
+-- What the contracts of `timed` cite: how answers are packed, and what each call ensures. Nothing else stands on it.
+pub mod Packed
+pub mod Promises

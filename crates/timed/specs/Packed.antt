@@ -1,0 +1,87 @@
+-- Answers as numbers of 64 bits. Definitions only.
+--   bits 58 to 62: the number of a refusal, up to 31; 0 where the answer is none
+--   bits 0 to 15: the line or step that a refusal carries
+--   bits 0 to 11 and 12 to 24: a node, and the count of nodes
+--   bits 0 to 24: a count of bytes
+--   bits 25 to 35, 36 to 46 and 47 to 57: the counts of variables, cells and function values
+--   bits 25 to 56: the number of simplify calls
+use Prim.Native.Nat.{ℕ, _+_, _*_, _%_}
+use mathlib.Core.List.{List}
+use lib.ListN.{set}
+use Rattle.complex.specs.declared.Complex.{Complex}
+use Rattle.complex.specs.Bits.{bitsOf}
+use Rattle.expression.specs.declared.refusal.Refusal.{Refusal}
+use Rattle.expression.specs.Refusals.{numberOf, placeOf}
+use Rattle.store.specs.declared.Added.{Added}
+use Rattle.listing.specs.declared.Listing.{Listing}
+use Rattle.writing.specs.declared.Written.{Written}
+use Rattle.sheet.specs.declared.Counts.{Counts}
+use Rattle.sheet.specs.declared.Sheet.{Sheet}
+use Rattle.tape.specs.declared.Checked.{Checked}
+use Rattle.calls.specs.declared.Evaluated.{Evaluated}
+use Rattle.calls.specs.declared.Job.{Job}
+use Rattle.calls.specs.declared.Simplified.{Simplified}
+
+-- ---- the parts
+
+-- 2^58
+abbrev pub refusedOf : Refusal → ℕ
+refusedOf why = 288230376151711744 * (numberOf why % 32) + placeOf why % 65536
+
+abbrev pub nodeOf : (at nodes : ℕ) → ℕ
+nodeOf at nodes = at % 4096 + 4096 * (nodes % 8192)
+
+abbrev pub bytesOf : ℕ → ℕ
+bytesOf bytes = bytes % 33554432
+
+-- 2^25, 2^36 and 2^47
+abbrev pub countsOf : Counts → ℕ
+countsOf rows = 33554432 * (rows .variables % 2048) + 68719476736 * (rows .cells % 2048) + 140737488355328 * (rows .functions % 2048)
+
+abbrev pub callsOf : ℕ → ℕ
+callsOf calls = 33554432 * (calls % 4294967296)
+
+-- ---- answers that are one number
+
+abbrev pub addedOf : Added → ℕ
+addedOf (Added.Node at nodes calls) = nodeOf at nodes + callsOf calls
+addedOf (Added.Refused why) = refusedOf why
+
+abbrev pub listingOf : Listing → ℕ
+listingOf (Listing.Read root nodes swaps) = nodeOf root nodes
+listingOf (Listing.Refused why) = refusedOf why
+
+abbrev pub sheetOf : Sheet → ℕ
+sheetOf (Sheet.Read rows) = countsOf rows
+sheetOf (Sheet.Refused why) = refusedOf why
+
+abbrev pub jobOf : Job → ℕ
+jobOf (Job.Ready root nodes rows) = nodeOf root nodes + countsOf rows
+jobOf (Job.Refused why) = refusedOf why
+
+abbrev pub writtenOf : Written → ℕ
+writtenOf (Written.Bytes bytes) = bytesOf bytes
+writtenOf (Written.Refused why) = refusedOf why
+
+abbrev pub simplifiedOf : Simplified → ℕ
+simplifiedOf (Simplified.Bytes bytes calls) = bytesOf bytes + callsOf calls
+simplifiedOf (Simplified.Refused why) = refusedOf why
+
+abbrev pub checkedOf : Checked → ℕ
+checkedOf Checked.Sound = 0
+checkedOf (Checked.Bad step) = refusedOf (Refusal.BadTape step)
+
+-- ---- a value: 0 or a refusal, and the words after the call
+
+-- the bits of its parts in the first two words
+abbrev pub withValue : List ℕ → Complex → List ℕ
+withValue out z = set (set out 0 (bitsOf (z .re))) 1 (bitsOf (z .im))
+
+abbrev pub valueOf : Evaluated → List ℕ → ℕ × List ℕ
+valueOf (Evaluated.Value z) out = (0, withValue out z)
+valueOf (Evaluated.Refused why) out = (refusedOf why, out)
+
+-- ---- what is handed over by its parts
+
+abbrev pub rowCounts : (variables cells functions : ℕ) → Counts
+rowCounts variables cells functions = record { variables = variables; cells = cells; functions = functions }

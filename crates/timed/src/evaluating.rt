@@ -1,0 +1,50 @@
+// Evaluating: a node of what was read, and the whole call.
+ghost use Rattle.calls.specs.Lent.{work};
+ghost use Rattle.timed.specs.Packed.{rowCounts};
+ghost use Rattle.timed.specs.Promises.{EvaluatesNode, EvaluatesTexts};
+use super::packing::counted;
+use super::packing::put_evaluated;
+use calls::answer_of;
+
+// The words of `value` are the bits of the value's parts.
+#[no_mangle]
+pub extern "C" fn timed_evaluate(
+    tag: &[u64],
+    first: &[u64],
+    second: &[u64],
+    table: &[u64],
+    variables: usize,
+    cells: usize,
+    functions: usize,
+    node: usize,
+    below: usize,
+    value: &mut [u64],
+) -> u64
+    ensures { λ r. ⌜ EvaluatesNode (now (tag .entry)) (now (first .entry)) (now (second .entry)) (now (table .entry)) (rowCounts variables cells functions) node below r (now (value .entry)) (now (value .exit)) ⌝ }
+{
+    let counts = counted(variables, cells, functions);
+    put_evaluated(
+        value,
+        answer_of(evaluation::evaluate(tag, first, second, table, counts, node, below)),
+    )
+}
+
+// From bytes, with the work memory cleared.
+#[no_mangle]
+pub extern "C" fn timed_evaluate_texts(
+    list: &[u8],
+    values: &[u8],
+    tag: &mut [u64],
+    first: &mut [u64],
+    second: &mut [u64],
+    link: &mut [u64],
+    table: &mut [u64; 8192],
+    value: &mut [u64],
+) -> u64
+    ensures { λ r. ⌜ EvaluatesTexts (now (list .entry)) (now (values .entry)) (work (now (tag .entry)) (now (first .entry)) (now (second .entry)) (now (link .entry)) (now (table .entry))) r (now (value .entry)) (now (value .exit)) (work (now (tag .exit)) (now (first .exit)) (now (second .exit)) (now (link .exit)) (now (table .exit))) ⌝ }
+{
+    put_evaluated(
+        value,
+        calls::evaluate(list, values, tag, first, second, link, table),
+    )
+}

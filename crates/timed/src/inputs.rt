@@ -1,0 +1,87 @@
+// Reading: a listing, its lines alone, a sheet, and a job, which is a listing and a sheet.
+ghost use Prim.Native.Nat.{_≤_};
+ghost use lib.ListN.{length};
+ghost use Rattle.store.specs.Memory.{memory};
+ghost use Rattle.timed.specs.Promises.{ReadsListing, ReadsSheet, ReadsTexts};
+use super::packing::packed_job;
+use super::packing::packed_listing;
+use super::packing::packed_sheet;
+use super::packing::refused;
+use calls::frame::read_job;
+use expression::refusal::Refusal;
+use node_lines::Line;
+use node_lines::read_node;
+use listing::read_listing;
+use sheet::read_sheet;
+use memory::put;
+use store::node::Fields;
+use store::node::fields_of;
+
+#[no_mangle]
+pub extern "C" fn timed_read_listing(
+    text: &[u8],
+    tag: &mut [u64],
+    first: &mut [u64],
+    second: &mut [u64],
+    link: &mut [u64],
+    table: &mut [u64],
+) -> u64
+    requires { ⌜ 8192 ≤ length (now table) ⌝ }
+    ensures { λ r. ⌜ ReadsListing (now (text .entry)) r (memory (now (tag .entry)) (now (first .entry)) (now (second .entry)) (now (link .entry))) (memory (now (tag .exit)) (now (first .exit)) (now (second .exit)) (now (link .exit))) (now (table .exit)) ⌝ }
+{
+    packed_listing(read_listing(text, false, tag, first, second, link, table))
+}
+
+// Three words for each line.
+fn put_fields(table: &mut [u64], line: usize, f: Fields)
+    requires { ⌜ line ≤ 1024 ⌝ }
+{
+    put(table, 3 * line, f.code);
+    put(table, 3 * line + 1, f.first);
+    put(table, 3 * line + 2, f.second);
+}
+
+// The lines of a listing without a store: of each the fields of a node whose operands are numbers of lines. The answer
+// is how many lines there are.
+#[no_mangle]
+pub extern "C" fn timed_read_lines(text: &[u8], table: &mut [u64]) -> u64 {
+    let mut at: usize = 0;
+    let mut lines: usize = 0;
+    while at < text.len() {
+        if 1024 <= lines {
+            return refused(Refusal::LongList(lines as u64));
+        }
+        let found = read_node(text, at, lines);
+        let Line::Node(e, next) = found else {
+            return refused(Refusal::BadList(lines as u64));
+        };
+        put_fields(table, lines, fields_of(e));
+        lines += 1;
+        at = next;
+    }
+    lines as u64
+}
+
+#[no_mangle]
+pub extern "C" fn timed_read_sheet(text: &[u8], table: &mut [u64]) -> u64
+    requires { ⌜ 8192 ≤ length (now table) ⌝ }
+    ensures { λ r. ⌜ ReadsSheet (now (text .entry)) r (now (table .exit)) ⌝ }
+{
+    packed_sheet(read_sheet(text, table))
+}
+
+#[no_mangle]
+pub extern "C" fn timed_read_job(
+    list: &[u8],
+    values: &[u8],
+    tag: &mut [u64],
+    first: &mut [u64],
+    second: &mut [u64],
+    link: &mut [u64],
+    table: &mut [u64],
+) -> u64
+    requires { ⌜ 8192 ≤ length (now table) ⌝ }
+    ensures { λ r. ⌜ ReadsTexts (now (list .entry)) (now (values .entry)) r (memory (now (tag .entry)) (now (first .entry)) (now (second .entry)) (now (link .entry))) (memory (now (tag .exit)) (now (first .exit)) (now (second .exit)) (now (link .exit))) (now (table .exit)) ⌝ }
+{
+    packed_job(read_job(list, values, tag, first, second, link, table))
+}

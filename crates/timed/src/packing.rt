@@ -1,0 +1,144 @@
+// Answers as numbers: specs/Packed says which bits are which.
+ghost use mathlib.Core.Path.{_≡_};
+ghost use Prim.Native.Nat.{ℕ};
+ghost use mathlib.Core.List.{List};
+ghost use Rattle.timed.specs.Packed.{refusedOf, nodeOf, countsOf, addedOf, listingOf, sheetOf, jobOf, writtenOf, simplifiedOf, checkedOf, withValue, valueOf, rowCounts};
+use calls::Evaluated;
+use calls::Job;
+use calls::Simplified;
+use complex::Complex;
+use complex::bits::to_bits;
+use expression::refusal::Refusal;
+use listing::Listing;
+use writing::Written;
+use sheet::Counts;
+use sheet::Sheet;
+use store::Added;
+use memory::put;
+use tape::Checked;
+
+// 2^25: below it a node with the count of nodes, or a count of bytes; from it on counts of rows, or a number of calls.
+const ABOVE: u64 = 33554432;
+
+// 2^58, where a refusal's number begins.
+const REFUSED: u64 = 288230376151711744;
+
+pub fn refused(why: Refusal) -> u64
+    ensures { λ r. ⌜ r ≡ refusedOf why ⌝ }
+{
+    REFUSED * (why.number() % 32) + why.place() % 65536
+}
+
+fn packed_node(at: usize, nodes: usize) -> u64
+    ensures { λ r. ⌜ r ≡ nodeOf at nodes ⌝ }
+{
+    at as u64 % 4096 + 4096 * (nodes as u64 % 8192)
+}
+
+fn packed_counts(counts: Counts) -> u64
+    ensures { λ r. ⌜ r ≡ countsOf counts ⌝ }
+{
+    ABOVE * (counts.variables as u64 % 2048)
+        + 2048 * ABOVE * (counts.cells as u64 % 2048)
+        + 4194304 * ABOVE * (counts.functions as u64 % 2048)
+}
+
+pub fn packed_added(answer: Added) -> u64
+    ensures { λ r. ⌜ r ≡ addedOf answer ⌝ }
+{
+    match answer {
+        Added::Node { at, nodes, calls } => {
+            packed_node(at, nodes) + ABOVE * (calls % 4294967296)
+        }
+        Added::Refused(why) => refused(why),
+    }
+}
+
+pub fn packed_listing(answer: Listing) -> u64
+    ensures { λ r. ⌜ r ≡ listingOf answer ⌝ }
+{
+    match answer {
+        Listing::Read {
+            root,
+            nodes,
+            swaps: _,
+        } => packed_node(root, nodes),
+        Listing::Refused(why) => refused(why),
+    }
+}
+
+pub fn packed_sheet(answer: Sheet) -> u64
+    ensures { λ r. ⌜ r ≡ sheetOf answer ⌝ }
+{
+    match answer {
+        Sheet::Read(counts) => packed_counts(counts),
+        Sheet::Refused(why) => refused(why),
+    }
+}
+
+pub fn packed_job(job: Job) -> u64
+    ensures { λ r. ⌜ r ≡ jobOf job ⌝ }
+{
+    match job {
+        Job::Ready { root, nodes, counts } => packed_node(root, nodes) + packed_counts(counts),
+        Job::Refused(why) => refused(why),
+    }
+}
+
+pub fn packed_written(answer: Written) -> u64
+    ensures { λ r. ⌜ r ≡ writtenOf answer ⌝ }
+{
+    match answer {
+        Written::Bytes(bytes) => bytes as u64 % ABOVE,
+        Written::Refused(why) => refused(why),
+    }
+}
+
+pub fn packed_simplified(answer: Simplified) -> u64
+    ensures { λ r. ⌜ r ≡ simplifiedOf answer ⌝ }
+{
+    match answer {
+        Simplified::Bytes { bytes, calls } => bytes as u64 % ABOVE + ABOVE * (calls % 4294967296),
+        Simplified::Refused(why) => refused(why),
+    }
+}
+
+pub fn packed_checked(answer: Checked) -> u64
+    ensures { λ r. ⌜ r ≡ checkedOf answer ⌝ }
+{
+    match answer {
+        Checked::Sound => 0,
+        Checked::Bad(step) => refused(Refusal::BadTape(step)),
+    }
+}
+
+fn put_value(value: &mut [u64], z: Complex)
+    ensures { λ _. ⌜ now (value .exit) ≡ withValue (now (value .entry)) z ⌝ }
+{
+    put(value, 0, to_bits(z.re));
+    put(value, 1, to_bits(z.im));
+}
+
+// 0 and the bits of the value, or the refusal.
+pub fn put_evaluated(value: &mut [u64], answer: Evaluated) -> u64
+    ensures { λ r. ⌜ _≡_ {A = ℕ × List ℕ} (r, now (value .exit)) (valueOf answer (now (value .entry))) ⌝ }
+{
+    match answer {
+        Evaluated::Value(z) => {
+            put_value(value, z);
+            0
+        }
+        Evaluated::Refused(why) => refused(why),
+    }
+}
+
+// The rows that were read, from the counts that `packed_counts` has told.
+pub fn counted(variables: usize, cells: usize, functions: usize) -> Counts
+    ensures { λ r. ⌜ r ≡ rowCounts variables cells functions ⌝ }
+{
+    Counts {
+        variables,
+        cells,
+        functions,
+    }
+}
