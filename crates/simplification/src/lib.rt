@@ -125,7 +125,18 @@ fn inverse(
         return added;
     };
     let quotient = Expression::Infix(InfixOperator::Slash, i, other);
-    again(limit, tag, first, second, link, table, counts, quotient, k, c)
+    again(
+        limit,
+        tag,
+        first,
+        second,
+        link,
+        table,
+        counts,
+        quotient,
+        k,
+        c,
+    )
 }
 
 // S of what is made around S(inner).
@@ -204,7 +215,19 @@ fn smaller_regrouped(
     else {
         return added;
     };
-    let new = regroup(limit, tag, first, second, link, table, counts, e, outer, k, c);
+    let new = regroup(
+        limit,
+        tag,
+        first,
+        second,
+        link,
+        table,
+        counts,
+        e,
+        outer,
+        k,
+        c,
+    );
     let Added::Node {
         at: j,
         nodes: q,
@@ -437,16 +460,68 @@ fn carry_out(
         Arm::Inverse(x) => inverse(limit, tag, first, second, link, table, counts, x, n, c),
         Arm::Regroup(e, o) => regroup(limit, tag, first, second, link, table, counts, e, o, n, c),
         Arm::Smaller(d, e, o) => {
-            smaller_regrouped(limit, tag, first, second, link, table, counts, d, e, o, n, c)
+            smaller_regrouped(
+                limit,
+                tag,
+                first,
+                second,
+                link,
+                table,
+                counts,
+                d,
+                e,
+                o,
+                n,
+                c,
+            )
         }
         Arm::Distribute(d, a, b) => {
-            distribute(limit, tag, first, second, link, table, counts, d, a, b, n, c)
+            distribute(
+                limit,
+                tag,
+                first,
+                second,
+                link,
+                table,
+                counts,
+                d,
+                a,
+                b,
+                n,
+                c,
+            )
         }
         Arm::Double(x, a, b) => {
-            double(limit, tag, first, second, link, table, counts, x, a, b, n, c)
+            double(
+                limit,
+                tag,
+                first,
+                second,
+                link,
+                table,
+                counts,
+                x,
+                a,
+                b,
+                n,
+                c,
+            )
         }
         Arm::Affine(a, x, b) => {
-            affine(limit, tag, first, second, link, table, counts, a, x, b, n, c)
+            affine(
+                limit,
+                tag,
+                first,
+                second,
+                link,
+                table,
+                counts,
+                a,
+                x,
+                b,
+                n,
+                c,
+            )
         }
     }
 }
@@ -509,7 +584,18 @@ fn simplify_infix(
 ) -> Added
     ensures { λ o. ⌜ Infixes (limit .0) (now (table .entry)) counts operator left right n calls o (memory (now (tag .entry)) (now (first .entry)) (now (second .entry)) (now (link .entry))) (memory (now (tag .exit)) (now (first .exit)) (now (second .exit)) (now (link .exit))) ⌝ }
 {
-    let l = simplify(limit, tag, first, second, link, table, counts, left, n, calls);
+    let l = simplify(
+        limit,
+        tag,
+        first,
+        second,
+        link,
+        table,
+        counts,
+        left,
+        n,
+        calls,
+    );
     let Added::Node {
         at: x,
         nodes: k,
@@ -599,7 +685,19 @@ fn perform(
             calls,
         },
         Task::FunctionCall(f, a) => {
-            simplify_function_call(limit, tag, first, second, link, table, counts, f, a, n, calls)
+            simplify_function_call(
+                limit,
+                tag,
+                first,
+                second,
+                link,
+                table,
+                counts,
+                f,
+                a,
+                n,
+                calls,
+            )
         }
         Task::Infix(o, a, b) => {
             simplify_infix(
@@ -618,7 +716,19 @@ fn perform(
             )
         }
         Task::Prefix(o, a) => {
-            simplify_prefix(limit, tag, first, second, link, table, counts, o, a, n, calls)
+            simplify_prefix(
+                limit,
+                tag,
+                first,
+                second,
+                link,
+                table,
+                counts,
+                o,
+                a,
+                n,
+                calls,
+            )
         }
     }
 }

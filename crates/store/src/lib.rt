@@ -28,8 +28,6 @@ mod index;
 pub mod node;
 pub mod reading;
 mod room;
-mod room;
-mod room;
 
 // 01's limits of a new node.
 const LARGEST: u64 = 1_000_000;

@@ -10,7 +10,7 @@ use Rattle.expression.specs.declared.PrefixOperator.{PrefixOperator}
 use Rattle.expression.specs.declared.ExpressionFunction.{ExpressionFunction}
 use Rattle.expression.specs.Trees.{Tree, Leaf, number, pi, variable, cell, leaf, functionCall, prefixed, infixed}
 use Rattle.expression.specs.declared.node.Expression.{Expression}
-use Rattle.store.proofs.node.Expression.{the-type}
+use Rattle.expression.proofs.node.Expression.{the-type}
 use Rattle.expression.specs.Nodes.{grown}
 use Rattle.tasks.specs.declared.Task.{Task}
 use Rattle.tasks.specs.Tasks.{itself, calling, prefixing, infixing, leafTask, taskAt}

@@ -6,8 +6,8 @@ ghost use Rattle.tasks.specs.Deciding.{Decides};
 use expression::ExpressionFunction;
 use expression::InfixOperator;
 use expression::PrefixOperator;
-use limit::Limit;
 use expression::node::Expression;
+use limit::Limit;
 
 pub mod limit;
 

@@ -9,11 +9,11 @@ use super::packing::packed_sheet;
 use super::packing::refused;
 use calls::frame::read_job;
 use expression::refusal::Refusal;
+use listing::read_listing;
+use memory::put;
 use node_lines::Line;
 use node_lines::read_node;
-use listing::read_listing;
 use sheet::read_sheet;
-use memory::put;
 use store::node::Fields;
 use store::node::fields_of;
 

@@ -4,8 +4,8 @@ ghost use lib.ListN.{length};
 ghost use Rattle.timed.specs.Promises.{WritesListing, WritesNode};
 use super::packing::packed_written;
 use calls::frame::write_answer;
-use writing::write_listing;
 use store::Added;
+use writing::write_listing;
 
 #[no_mangle]
 pub extern "C" fn timed_write_listing(

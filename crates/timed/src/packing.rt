@@ -10,12 +10,12 @@ use complex::Complex;
 use complex::bits::to_bits;
 use expression::refusal::Refusal;
 use listing::Listing;
-use writing::Written;
+use memory::put;
 use sheet::Counts;
 use sheet::Sheet;
 use store::Added;
-use memory::put;
 use tape::Checked;
+use writing::Written;
 
 // 2^25: below it a node with the count of nodes, or a count of bytes; from it on counts of rows, or a number of calls.
 const ABOVE: u64 = 33554432;
@@ -80,7 +80,11 @@ pub fn packed_job(job: Job) -> u64
     ensures { λ r. ⌜ r ≡ jobOf job ⌝ }
 {
     match job {
-        Job::Ready { root, nodes, counts } => packed_node(root, nodes) + packed_counts(counts),
+        Job::Ready {
+            root,
+            nodes,
+            counts,
+        } => packed_node(root, nodes) + packed_counts(counts),
         Job::Refused(why) => refused(why),
     }
 }
