@@ -20,8 +20,8 @@ use listing::Listing;
 use listing::read_listing;
 use listing::writing::Written;
 use sheet::Rows;
-use simplification::limit::Limit;
 use store::Added;
+use tasks::limit::Limit;
 
 pub mod frame;
 pub mod tapes;
@@ -226,14 +226,15 @@ fn simplify_texts(
     requires { ⌜ 8192 ≤ length (now table) ⌝ }
     ensures { λ r. ⌜ SimplifiesTexts limit (now (list .entry)) (now (values .entry)) (now (out .entry)) (work (now (tag .entry)) (now (first .entry)) (now (second .entry)) (now (link .entry)) (now (table .entry))) r (now (out .exit)) ⌝ }
 {
-    if 10 < limit {
+    let limit = Limit(limit);
+    if !limit.is_allowed() {
         return Simplified::Refused(Refusal::BadLimit);
     }
     let job = read_job(list, values, tag, first, second, link, table);
     match job {
         Job::Ready { root, nodes, rows } => {
             let built = simplification::simplify(
-                Limit(limit),
+                limit,
                 tag,
                 first,
                 second,

@@ -14,9 +14,9 @@ use evaluation_timed::packed;
 use expression::refusal::Refusal;
 use listing::writing::Written;
 use sheet::Rows;
-use simplification::limit::Limit;
 use simplification::simplify;
 use store::Added;
+use tasks::limit::Limit;
 
 fn refused(why: Refusal) -> u64
     ensures { λ r. ⌜ r ≡ refusedOf why ⌝ }
