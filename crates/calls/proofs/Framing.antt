@@ -1,7 +1,6 @@
 -- What the steps of a call make together: the texts, the operation, the result, and the memory. Assumes nothing.
 use mathlib.Core.Path.{_≡_, refl, ap, _∙_}
 use Prim.Native.Nat.{ℕ, _≤_, _<_}
-use borrow.Author.Tests.{lt-ltb, le-ltb}
 use mathlib.Core.List.{List}
 use mathlib.Core.Bool.{Bool, true, false}
 use lib.ListN.{length, replicate}
@@ -26,6 +25,7 @@ use Rattle.evaluation.specs.declared.real.Real.{Real}
 use Rattle.evaluation.specs.Evaluating.{evaluate}
 use Rattle.substitution.specs.Substituting.{substitute}
 use Rattle.evaluation.specs.Reals.{toReal}
+use Rattle.tasks.specs.Tasks.{isAllowed}
 use Rattle.simplification.specs.Simplifying.{simplify}
 use Rattle.calls.specs.declared.Evaluated.{Evaluated}
 use Rattle.calls.specs.declared.Simplified.{Simplified}
@@ -158,15 +158,15 @@ unfolding callsIn
 seen-calls (Added.Node i n c) m = refl
 seen-calls (Added.Refused why) m = refl
 
-pub simplifies-beyond : (room : ℕ) {limit : ℕ} (list values out : List ℕ) → 10 < limit
+pub simplifies-beyond : (room limit : ℕ) (list values out : List ℕ) → isAllowed limit ≡ false
     → _≡_ {A = Simplified × List ℕ} (Simplified.Refused Refusal.BadLimit, out) (simplifyCall room limit list values out)
 unfolding simplifyCall
-simplifies-beyond room {limit} list values out l = rw (lt-ltb 10 limit l) refl
+simplifies-beyond room limit list values out e = rw e refl
 
-module _ (limit : ℕ) (few : limit ≤ 10) {list values : List ℕ} (out : List ℕ) {j : Job} {m m₁ : Memory} {table : List ℕ} (p : ReadsJob list values j m m₁ table) where
+module _ (limit : ℕ) (allowed : isAllowed limit ≡ true) {list values : List ℕ} (out : List ℕ) {j : Job} {m m₁ : Memory} {table : List ℕ} (p : ReadsJob list values j m m₁ table) where
   from-job : {r : Simplified × List ℕ} → r ≡ simplifyJob limit out (job (room m) list values) → r ≡ simplifyCall (room m) limit list values out
   unfolding simplifyCall
-  from-job e = rw (le-ltb 10 limit few) e
+  from-job e = rw allowed e
 
   pub simplifies : {root nodes calls : ℕ} {rows : Counts} {built : Added} {tag first second link : List ℕ} {r : Simplified} {w : Written} {out′ : List ℕ} → j ≡ Job.Ready root nodes rows
       → Built (simplify (rowsOf table rows) limit (treeAt m₁ root) (stateOf m₁ nodes 0)) built nodes m₁ (memory tag first second link)

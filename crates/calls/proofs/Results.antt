@@ -4,7 +4,7 @@ use mathlib.Core.Bool.{Bool, true, false, cond, _&&_}
 use mathlib.Core.List.{List, [], _∷_}
 use Prim.Native.Nat.{ℕ, _+_, _≤_}
 use native.Mathlib.Omega.{arith}
-use borrow.Author.Tests.{ltb-false}
+use borrow.Author.Tests.{leb-true}
 use lib.Dec.{ltb, eqb}
 use lib.ListN.{length}
 use Rattle.expression.specs.declared.refusal.Refusal.{Refusal}
@@ -26,7 +26,8 @@ use Rattle.node_lines.specs.NodeLines.{nodeFields}
 use Rattle.writing.specs.Order.{order, textOf}
 use Rattle.writing.proofs.Fits.{written-reads-back}
 use Rattle.sheet.specs.Rows.{Rows, sheet}
-use Rattle.simplification.specs.Bounds.{bound}
+use Rattle.tasks.specs.Tasks.{isAllowed}
+use Rattle.simplification.specs.Bounds.{mostCalls}
 use Rattle.simplification.specs.Simplifying.{simplify}
 use Rattle.simplification.proofs.Counting.{count, Below, bounded, bound-to-ten}
 use Rattle.calls.specs.declared.Simplified.{Simplified}
@@ -146,16 +147,16 @@ unfolding simplifyJob FreshJob Within
 job-within limit out (Calls.refused why) l f = tt
 job-within limit out (ready root store rows) l f =
     let a = simplify rows limit root store in
-    answer-within (count store + bound limit) a (writtenAnswer out a .0) (omega (arith, f .uncounted, bound-to-ten limit l)) (bounded rows limit root store)
+    answer-within (count store + mostCalls limit) a (writtenAnswer out a .0) (omega (arith, f .uncounted, bound-to-ten limit l)) (bounded rows limit root store)
 
 -- "It is at most 244,531 at limit 10": so for every call
 pub calls-within : (room limit : ℕ) (list values out : List ℕ) → Within (simplifyCall room limit list values out .0)
-unfolding simplifyCall Within
-calls-within room limit list values out = go (ltb 10 limit) λ e. ltb-false 10 limit e
+unfolding simplifyCall isAllowed Within
+calls-within room limit list values out = go (isAllowed limit) λ e. leb-true limit 10 e
   where
-    go : (b : Bool) → (b ≡ false → limit ≤ 10) → Within (cond b (Simplified.Refused Refusal.BadLimit, out) (simplifyJob limit out (job room list values)) .0)
-    go true l = tt
-    go false l = job-within limit out (job room list values) (l refl) (job-fresh room list values)
+    go : (b : Bool) → (b ≡ true → limit ≤ 10) → Within (cond b (simplifyJob limit out (job room list values)) (Simplified.Refused Refusal.BadLimit, out) .0)
+    go true l = job-within limit out (job room list values) (l refl) (job-fresh room list values)
+    go false l = tt
 
 pub at-most : (limit : ℕ) (list values out : List ℕ) (w : Work) {bytes calls : ℕ} {out′ : List ℕ} {w′ : Work}
     → Simplifies limit list values out w (Simplified.Bytes bytes calls) out′ w′ → calls ≤ 244531

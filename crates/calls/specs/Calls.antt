@@ -2,7 +2,6 @@
 use Prim.Native.Nat.{ℕ}
 use mathlib.Core.List.{List}
 use mathlib.Core.Bool.{true, false, cond}
-use lib.Dec.{ltb}
 use Rattle.expression.specs.declared.refusal.Refusal.{Refusal}
 use Rattle.expression.specs.Trees.{Tree}
 use Rattle.store.specs.Storing as Storing
@@ -19,6 +18,7 @@ use Rattle.evaluation.specs.declared.real.Real.{Real}
 use Rattle.evaluation.specs.Evaluating.{evaluate}
 use Rattle.substitution.specs.Substituting.{substitute}
 use Rattle.evaluation.specs.Reals.{toReal}
+use Rattle.tasks.specs.Tasks.{isAllowed}
 use Rattle.simplification.specs.Simplifying.{simplify}
 use Rattle.tape.specs.declared.Checked.{Checked}
 use Rattle.tape.specs.Tapes.{compiled, check}
@@ -94,7 +94,7 @@ simplifyJob limit out (refused why) = (Simplified.Refused why, out)
 
 -- "Order: limit; listing line by line; sheet line by line; the operation in its running order; 2 for a result; 13"
 unfoldable pub simplifyCall : (room limit : ℕ) (list values out : List ℕ) → Simplified × List ℕ
-simplifyCall room limit list values out = cond (ltb 10 limit) (Simplified.Refused Refusal.BadLimit, out) (simplifyJob limit out (job room list values))
+simplifyCall room limit list values out = cond (isAllowed limit) (simplifyJob limit out (job room list values)) (Simplified.Refused Refusal.BadLimit, out)
 
 -- compiling takes no sheet: the listing's refusals, then 14, then 13
 unfoldable pub compileCall : (room : ℕ) (list out : List ℕ) → Written × List ℕ

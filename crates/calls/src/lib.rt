@@ -18,9 +18,9 @@ use frame::write_answer;
 use listing::Listing;
 use listing::read_listing;
 use sheet::Counts;
-use simplification::limit::Limit;
 use store::Added;
 use substitution::substitute_variables;
+use tasks::limit::Limit;
 use writing::Written;
 
 pub mod frame;
@@ -222,7 +222,8 @@ fn simplify_texts(
     requires { ⌜ 8192 ≤ length (now table) ⌝ }
     ensures { λ r. ⌜ SimplifiesTexts limit (now (list .entry)) (now (values .entry)) (now (out .entry)) (work (now (tag .entry)) (now (first .entry)) (now (second .entry)) (now (link .entry)) (now (table .entry))) r (now (out .exit)) ⌝ }
 {
-    if 10 < limit {
+    let limit = Limit(limit);
+    if !limit.is_allowed() {
         return Simplified::Refused(Refusal::BadLimit);
     }
     let job = read_job(list, values, tag, first, second, link, table);
@@ -233,7 +234,7 @@ fn simplify_texts(
             counts,
         } => {
             let built = simplification::simplify(
-                Limit(limit),
+                limit,
                 tag,
                 first,
                 second,

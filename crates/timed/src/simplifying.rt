@@ -6,7 +6,7 @@ ghost use Rattle.timed.specs.Promises.{SimplifiesNode, SimplifiesTexts};
 use super::packing::counted;
 use super::packing::packed_added;
 use super::packing::packed_simplified;
-use simplification::limit::Limit;
+use tasks::limit::Limit;
 use simplification::simplify;
 
 #[no_mangle]
