@@ -2,6 +2,7 @@
 ghost use mathlib.Core.Path.{_≡_};
 ghost use Prim.Native.Nat.{_≤_};
 ghost use lib.ListN.{length};
+ghost use Rattle.memory.specs.Layout.{tableWords};
 ghost use Rattle.store.specs.Memory.{memory};
 ghost use Rattle.calls.specs.Lent.{work, zeroed};
 ghost use Rattle.calls.specs.Frame.{ReadsJob, sheetAdded, WritesAnswer};
@@ -26,7 +27,7 @@ pub fn read_job(
     link: &mut [u64],
     table: &mut [u64],
 ) -> Job
-    requires { ⌜ 8192 ≤ length (now table) ⌝ }
+    requires { ⌜ tableWords ≤ length (now table) ⌝ }
     ensures { λ r. ⌜ ReadsJob (now (list .entry)) (now (values .entry)) r (memory (now (tag .entry)) (now (first .entry)) (now (second .entry)) (now (link .entry))) (memory (now (tag .exit)) (now (first .exit)) (now (second .exit)) (now (link .exit))) (now (table .exit)) ⌝ }
 {
     let listed = read_listing(list, false, tag, first, second, link, table);
@@ -62,7 +63,7 @@ pub fn write_answer(
     out: &mut [u8],
     built: Added,
 ) -> Written
-    requires { ⌜ 8192 ≤ length (now table) ⌝ }
+    requires { ⌜ tableWords ≤ length (now table) ⌝ }
     ensures { λ r. ⌜ WritesAnswer (now (tag .entry)) (now (first .entry)) (now (second .entry)) built r (now (out .entry)) (now (out .exit)) ⌝ }
 {
     match built {

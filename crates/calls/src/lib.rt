@@ -4,6 +4,7 @@
 ghost use mathlib.Core.Path.{_≡_};
 ghost use Prim.Native.Nat.{_≤_};
 ghost use lib.ListN.{length};
+ghost use Rattle.memory.specs.Layout.{tableWords};
 ghost use Rattle.store.specs.Memory.{memory};
 ghost use Rattle.calls.specs.Lent.{work, capacity};
 ghost use Rattle.calls.specs.Calls.{evaluated, evaluateCall, toRealCall, withCalls};
@@ -17,6 +18,7 @@ use frame::read_job;
 use frame::write_answer;
 use listing::Listing;
 use listing::read_listing;
+use memory::layout::TABLE_WORDS;
 use sheet::Counts;
 use store::Added;
 use substitution::substitute_variables;
@@ -67,7 +69,7 @@ fn evaluate_texts(
     link: &mut [u64],
     table: &mut [u64],
 ) -> Evaluated
-    requires { ⌜ 8192 ≤ length (now table) ⌝ }
+    requires { ⌜ tableWords ≤ length (now table) ⌝ }
     ensures { λ r. ⌜ r ≡ evaluateCall (capacity (work (now (tag .entry)) (now (first .entry)) (now (second .entry)) (now (link .entry)) (now (table .entry)))) (now (list .entry)) (now (values .entry)) ⌝ }
 {
     let job = read_job(list, values, tag, first, second, link, table);
@@ -89,7 +91,7 @@ pub fn evaluate(
     first: &mut [u64],
     second: &mut [u64],
     link: &mut [u64],
-    table: &mut [u64; 8192],
+    table: &mut [u64; TABLE_WORDS],
 ) -> Evaluated
     ensures { λ r. ⌜ Evaluates (now (list .entry)) (now (values .entry)) (work (now (tag .entry)) (now (first .entry)) (now (second .entry)) (now (link .entry)) (now (table .entry))) r (work (now (tag .exit)) (now (first .exit)) (now (second .exit)) (now (link .exit)) (now (table .exit))) ⌝ }
 {
@@ -107,7 +109,7 @@ fn substitute_texts(
     table: &mut [u64],
     out: &mut [u8],
 ) -> Written
-    requires { ⌜ 8192 ≤ length (now table) ⌝ }
+    requires { ⌜ tableWords ≤ length (now table) ⌝ }
     ensures { λ r. ⌜ SubstitutesTexts (now (list .entry)) (now (out .entry)) (work (now (tag .entry)) (now (first .entry)) (now (second .entry)) (now (link .entry)) (now (table .entry))) r (now (out .exit)) ⌝ }
 {
     let listed = read_listing(list, true, tag, first, second, link, table);
@@ -138,7 +140,7 @@ pub fn substitute(
     first: &mut [u64],
     second: &mut [u64],
     link: &mut [u64],
-    table: &mut [u64; 8192],
+    table: &mut [u64; TABLE_WORDS],
     out: &mut [u8],
 ) -> Written
     ensures { λ r. ⌜ Substitutes (now (list .entry)) (now (out .entry)) (work (now (tag .entry)) (now (first .entry)) (now (second .entry)) (now (link .entry)) (now (table .entry))) r (now (out .exit)) (work (now (tag .exit)) (now (first .exit)) (now (second .exit)) (now (link .exit)) (now (table .exit))) ⌝ }
@@ -156,7 +158,7 @@ fn real_of_text(
     link: &mut [u64],
     table: &mut [u64],
 ) -> Real
-    requires { ⌜ 8192 ≤ length (now table) ⌝ }
+    requires { ⌜ tableWords ≤ length (now table) ⌝ }
     ensures { λ r. ⌜ r ≡ toRealCall (capacity (work (now (tag .entry)) (now (first .entry)) (now (second .entry)) (now (link .entry)) (now (table .entry)))) (now (list .entry)) ⌝ }
 {
     let listed = read_listing(list, false, tag, first, second, link, table);
@@ -177,7 +179,7 @@ pub fn to_real(
     first: &mut [u64],
     second: &mut [u64],
     link: &mut [u64],
-    table: &mut [u64; 8192],
+    table: &mut [u64; TABLE_WORDS],
 ) -> Real
     ensures { λ r. ⌜ ReadsReal (now (list .entry)) (work (now (tag .entry)) (now (first .entry)) (now (second .entry)) (now (link .entry)) (now (table .entry))) r (work (now (tag .exit)) (now (first .exit)) (now (second .exit)) (now (link .exit)) (now (table .exit))) ⌝ }
 {
@@ -219,7 +221,7 @@ fn simplify_texts(
     table: &mut [u64],
     out: &mut [u8],
 ) -> Simplified
-    requires { ⌜ 8192 ≤ length (now table) ⌝ }
+    requires { ⌜ tableWords ≤ length (now table) ⌝ }
     ensures { λ r. ⌜ SimplifiesTexts limit (now (list .entry)) (now (values .entry)) (now (out .entry)) (work (now (tag .entry)) (now (first .entry)) (now (second .entry)) (now (link .entry)) (now (table .entry))) r (now (out .exit)) ⌝ }
 {
     let limit = Limit(limit);
@@ -261,7 +263,7 @@ pub fn simplify(
     first: &mut [u64],
     second: &mut [u64],
     link: &mut [u64],
-    table: &mut [u64; 8192],
+    table: &mut [u64; TABLE_WORDS],
     out: &mut [u8],
 ) -> Simplified
     ensures { λ r. ⌜ Simplifies limit (now (list .entry)) (now (values .entry)) (now (out .entry)) (work (now (tag .entry)) (now (first .entry)) (now (second .entry)) (now (link .entry)) (now (table .entry))) r (now (out .exit)) (work (now (tag .exit)) (now (first .exit)) (now (second .exit)) (now (link .exit)) (now (table .exit))) ⌝ }

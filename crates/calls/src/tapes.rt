@@ -2,6 +2,7 @@
 ghost use mathlib.Core.Path.{_≡_};
 ghost use Prim.Native.Nat.{_≤_};
 ghost use lib.ListN.{length};
+ghost use Rattle.memory.specs.Layout.{tableWords};
 ghost use Rattle.tape.specs.declared.Checked.{Checked};
 ghost use Rattle.tape.specs.Tapes as Tapes;
 ghost use Rattle.calls.specs.Lent.{work};
@@ -13,6 +14,7 @@ use super::frame::clear_work;
 use expression::refusal::Refusal;
 use listing::Listing;
 use listing::read_listing;
+use memory::layout::TABLE_WORDS;
 use memory::zero;
 use sheet::Sheet;
 use sheet::read_sheet;
@@ -29,7 +31,7 @@ fn compile_text(
     table: &mut [u64],
     out: &mut [u8],
 ) -> Written
-    requires { ⌜ 8192 ≤ length (now table) ⌝ }
+    requires { ⌜ tableWords ≤ length (now table) ⌝ }
     ensures { λ r. ⌜ CompilesText (now (list .entry)) (now (out .entry)) (work (now (tag .entry)) (now (first .entry)) (now (second .entry)) (now (link .entry)) (now (table .entry))) r (now (out .exit)) ⌝ }
 {
     let listed = read_listing(list, false, tag, first, second, link, table);
@@ -50,7 +52,7 @@ pub fn compile(
     first: &mut [u64],
     second: &mut [u64],
     link: &mut [u64],
-    table: &mut [u64; 8192],
+    table: &mut [u64; TABLE_WORDS],
     out: &mut [u8],
 ) -> Written
     ensures { λ r. ⌜ Compiles (now (list .entry)) (now (out .entry)) (work (now (tag .entry)) (now (first .entry)) (now (second .entry)) (now (link .entry)) (now (table .entry))) r (now (out .exit)) (work (now (tag .exit)) (now (first .exit)) (now (second .exit)) (now (link .exit)) (now (table .exit))) ⌝ }
@@ -72,7 +74,7 @@ fn play_sheet(tape: &[u8], table: &[u64], found: Sheet) -> Evaluated
 }
 
 fn play_texts(tape: &[u8], values: &[u8], table: &mut [u64]) -> Evaluated
-    requires { ⌜ 8192 ≤ length (now table) ⌝ }
+    requires { ⌜ tableWords ≤ length (now table) ⌝ }
     ensures { λ r. ⌜ r ≡ playCall (now (tape .entry)) (now (values .entry)) ⌝ }
 {
     let checked = check(tape);
@@ -86,7 +88,7 @@ fn play_texts(tape: &[u8], values: &[u8], table: &mut [u64]) -> Evaluated
 }
 
 // What a tape plays under a sheet: no store, and the table alone as work memory.
-pub fn play(tape: &[u8], values: &[u8], table: &mut [u64; 8192]) -> Evaluated
+pub fn play(tape: &[u8], values: &[u8], table: &mut [u64; TABLE_WORDS]) -> Evaluated
     ensures { λ r. ⌜ Plays (now (tape .entry)) (now (values .entry)) (now (table .entry)) r (now (table .exit)) ⌝ }
 {
     let answer = play_texts(tape, values, table);

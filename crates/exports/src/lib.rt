@@ -14,6 +14,7 @@ use calls::substitute;
 use calls::tapes::compile;
 use calls::tapes::play;
 use calls::to_real;
+use memory::layout::TABLE_WORDS;
 use tape::Picked;
 use tape::check;
 use tape::which;
@@ -28,7 +29,7 @@ pub extern "C" fn findavoreb_evaluate(
     first: &mut [u64],
     second: &mut [u64],
     link: &mut [u64],
-    table: &mut [u64; 8192],
+    table: &mut [u64; TABLE_WORDS],
     answer: &mut [u64; 6],
 ) -> u64
     ensures { λ r. ⌜ Evaluates (now (list .entry)) (now (values .entry)) (work (now (tag .entry)) (now (first .entry)) (now (second .entry)) (now (link .entry)) (now (table .entry))) r (now (answer .exit)) (work (now (tag .exit)) (now (first .exit)) (now (second .exit)) (now (link .exit)) (now (table .exit))) ⌝ }
@@ -46,7 +47,7 @@ pub extern "C" fn findavoreb_substitute(
     first: &mut [u64],
     second: &mut [u64],
     link: &mut [u64],
-    table: &mut [u64; 8192],
+    table: &mut [u64; TABLE_WORDS],
     out: &mut [u8],
     answer: &mut [u64; 6],
 ) -> u64
@@ -65,7 +66,7 @@ pub extern "C" fn findavoreb_to_real(
     first: &mut [u64],
     second: &mut [u64],
     link: &mut [u64],
-    table: &mut [u64; 8192],
+    table: &mut [u64; TABLE_WORDS],
     answer: &mut [u64; 6],
 ) -> u64
     ensures { λ r. ⌜ ReadsReal (now (list .entry)) (work (now (tag .entry)) (now (first .entry)) (now (second .entry)) (now (link .entry)) (now (table .entry))) r (now (answer .exit)) (work (now (tag .exit)) (now (first .exit)) (now (second .exit)) (now (link .exit)) (now (table .exit))) ⌝ }
@@ -82,7 +83,7 @@ pub extern "C" fn findavoreb_simplify(
     first: &mut [u64],
     second: &mut [u64],
     link: &mut [u64],
-    table: &mut [u64; 8192],
+    table: &mut [u64; TABLE_WORDS],
     out: &mut [u8],
     answer: &mut [u64; 6],
 ) -> u64
@@ -101,7 +102,7 @@ pub extern "C" fn findavoreb_compile(
     first: &mut [u64],
     second: &mut [u64],
     link: &mut [u64],
-    table: &mut [u64; 8192],
+    table: &mut [u64; TABLE_WORDS],
     out: &mut [u8],
     answer: &mut [u64; 6],
 ) -> u64
@@ -114,7 +115,7 @@ pub extern "C" fn findavoreb_compile(
 pub extern "C" fn findavoreb_play(
     tape: &[u8],
     values: &[u8],
-    table: &mut [u64; 8192],
+    table: &mut [u64; TABLE_WORDS],
     answer: &mut [u64; 6],
 ) -> u64
     ensures { λ r. ⌜ Plays (now (tape .entry)) (now (values .entry)) (now (table .entry)) r (now (answer .exit)) (now (table .exit)) ⌝ }

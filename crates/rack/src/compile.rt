@@ -1,6 +1,7 @@
 // The command `compile`: the tape of the listing's expression, a line a step.
 use super::say;
 use console::input::part;
+use memory::layout::TABLE_WORDS;
 use writing::Written;
 
 // As many bytes as the longest tape has.
@@ -12,7 +13,7 @@ pub fn run(
     first: &mut [u64],
     second: &mut [u64],
     link: &mut [u64],
-    table: &mut [u64; 8192],
+    table: &mut [u64; TABLE_WORDS],
 ) {
     let mut out = [0u8; ROOM];
     let answer = calls::tapes::compile(text, tag, first, second, link, table, &mut out);

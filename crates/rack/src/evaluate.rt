@@ -3,6 +3,7 @@ use super::say;
 use calls::Evaluated;
 use console::input::listing_length;
 use console::input::sheet_of;
+use memory::layout::TABLE_WORDS;
 
 pub fn run(
     text: &[u8],
@@ -10,7 +11,7 @@ pub fn run(
     first: &mut [u64],
     second: &mut [u64],
     link: &mut [u64],
-    table: &mut [u64; 8192],
+    table: &mut [u64; TABLE_WORDS],
 ) {
     let n = listing_length(text);
     let sheet = sheet_of(&text[n..]);

@@ -5,6 +5,7 @@ use command::Given;
 use command::given_command;
 use console::input;
 use console::input::Input;
+use memory::layout::TABLE_WORDS;
 
 mod command;
 mod compile;
@@ -29,7 +30,7 @@ fn obey(
     first: &mut [u64],
     second: &mut [u64],
     link: &mut [u64],
-    table: &mut [u64; 8192],
+    table: &mut [u64; TABLE_WORDS],
 ) {
     match command {
         Command::Evaluate => evaluate::run(text, tag, first, second, link, table),
@@ -47,7 +48,7 @@ fn run(command: Command, text: &[u8]) {
     let mut first = [0; 4096];
     let mut second = [0; 4096];
     let mut link = [0; 4096];
-    let mut table = [0; 8192];
+    let mut table = [0; TABLE_WORDS];
     obey(
         command,
         text,

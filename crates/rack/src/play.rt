@@ -5,8 +5,9 @@ use console::input::listing_length;
 use console::input::sheet_of;
 use console::tape::ROOM;
 use console::tape::read_tape;
+use memory::layout::TABLE_WORDS;
 
-pub fn run(text: &[u8], table: &mut [u64; 8192]) {
+pub fn run(text: &[u8], table: &mut [u64; TABLE_WORDS]) {
     let n = listing_length(text);
     let sheet = sheet_of(&text[n..]);
     let mut tape = [0u8; ROOM];

@@ -1,6 +1,7 @@
 // The command `real`: the real number that the listing's expression is, if it is a number or pi.
 use super::say;
 use evaluation::real::Real;
+use memory::layout::TABLE_WORDS;
 
 pub fn run(
     text: &[u8],
@@ -8,7 +9,7 @@ pub fn run(
     first: &mut [u64],
     second: &mut [u64],
     link: &mut [u64],
-    table: &mut [u64; 8192],
+    table: &mut [u64; TABLE_WORDS],
 ) {
     let answer = calls::to_real(text, tag, first, second, link, table);
     match answer {

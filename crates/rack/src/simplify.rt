@@ -5,6 +5,7 @@ use super::say;
 use calls::Simplified;
 use console::input::listing_length;
 use console::input::sheet_of;
+use memory::layout::TABLE_WORDS;
 
 pub fn run(
     text: &[u8],
@@ -13,7 +14,7 @@ pub fn run(
     first: &mut [u64],
     second: &mut [u64],
     link: &mut [u64],
-    table: &mut [u64; 8192],
+    table: &mut [u64; TABLE_WORDS],
 ) {
     let n = listing_length(text);
     let sheet = sheet_of(&text[n..]);

@@ -1,5 +1,6 @@
 // The command `substitute`: the listing of the expression with the nodes of the s lines in the places of their variables.
 use super::say;
+use memory::layout::TABLE_WORDS;
 use writing::Written;
 
 pub fn run(
@@ -8,7 +9,7 @@ pub fn run(
     first: &mut [u64],
     second: &mut [u64],
     link: &mut [u64],
-    table: &mut [u64; 8192],
+    table: &mut [u64; TABLE_WORDS],
 ) {
     // More than 1024 lines of the longest form take.
     let mut out = io::large_buffer();

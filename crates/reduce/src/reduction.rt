@@ -11,6 +11,7 @@ use console::input::part;
 use console::input::sheet_of;
 use console::line::write_refusal;
 use console::line::write_refused;
+use memory::layout::TABLE_WORDS;
 
 // The longest input.
 const MOST: usize = 65_536;
@@ -23,7 +24,7 @@ fn simplify_text(
     first: &mut [u64],
     second: &mut [u64],
     link: &mut [u64],
-    table: &mut [u64; 8192],
+    table: &mut [u64; TABLE_WORDS],
     out: &mut [u8],
 ) -> Simplified
     ensures { λ r. ⌜ SimplifiesText (now (text .entry)) (work (now (tag .entry)) (now (first .entry)) (now (second .entry)) (now (link .entry)) (now (table .entry))) (now (out .entry)) r (now (out .exit)) ⌝ }
@@ -49,7 +50,7 @@ fn reduce_with(
     first: &mut [u64],
     second: &mut [u64],
     link: &mut [u64],
-    table: &mut [u64; 8192],
+    table: &mut [u64; TABLE_WORDS],
     out: &mut [u8],
 ) -> usize
     requires { ⌜ 96 ≤ length (now out) ⌝ }
@@ -82,7 +83,7 @@ pub fn reduce(text: &[u8], out: &mut [u8]) -> usize
     let mut first = slice_of_the_store();
     let mut second = slice_of_the_store();
     let mut link = slice_of_the_store();
-    let mut table = [0; 8192];
+    let mut table = [0; TABLE_WORDS];
     reduce_with(
         text,
         &mut tag,

@@ -5,6 +5,7 @@ ghost use Rattle.timed.specs.Promises.{EvaluatesNode, EvaluatesTexts};
 use super::packing::counted;
 use super::packing::put_evaluated;
 use calls::answer_of;
+use memory::layout::TABLE_WORDS;
 
 // The words of `value` are the bits of the value's parts.
 #[no_mangle]
@@ -38,7 +39,7 @@ pub extern "C" fn timed_evaluate_texts(
     first: &mut [u64],
     second: &mut [u64],
     link: &mut [u64],
-    table: &mut [u64; 8192],
+    table: &mut [u64; TABLE_WORDS],
     value: &mut [u64],
 ) -> u64
     ensures { λ r. ⌜ EvaluatesTexts (now (list .entry)) (now (values .entry)) (work (now (tag .entry)) (now (first .entry)) (now (second .entry)) (now (link .entry)) (now (table .entry))) r (now (value .entry)) (now (value .exit)) (work (now (tag .exit)) (now (first .exit)) (now (second .exit)) (now (link .exit)) (now (table .exit))) ⌝ }

@@ -1,6 +1,7 @@
 // Reading: a listing, its lines alone, a sheet, and a job, which is a listing and a sheet.
 ghost use Prim.Native.Nat.{_≤_};
 ghost use lib.ListN.{length};
+ghost use Rattle.memory.specs.Layout.{tableWords};
 ghost use Rattle.store.specs.Memory.{memory};
 ghost use Rattle.timed.specs.Promises.{ReadsListing, ReadsSheet, ReadsTexts};
 use super::packing::packed_job;
@@ -26,7 +27,7 @@ pub extern "C" fn timed_read_listing(
     link: &mut [u64],
     table: &mut [u64],
 ) -> u64
-    requires { ⌜ 8192 ≤ length (now table) ⌝ }
+    requires { ⌜ tableWords ≤ length (now table) ⌝ }
     ensures { λ r. ⌜ ReadsListing (now (text .entry)) r (memory (now (tag .entry)) (now (first .entry)) (now (second .entry)) (now (link .entry))) (memory (now (tag .exit)) (now (first .exit)) (now (second .exit)) (now (link .exit))) (now (table .exit)) ⌝ }
 {
     packed_listing(read_listing(text, false, tag, first, second, link, table))
@@ -64,7 +65,7 @@ pub extern "C" fn timed_read_lines(text: &[u8], table: &mut [u64]) -> u64 {
 
 #[no_mangle]
 pub extern "C" fn timed_read_sheet(text: &[u8], table: &mut [u64]) -> u64
-    requires { ⌜ 8192 ≤ length (now table) ⌝ }
+    requires { ⌜ tableWords ≤ length (now table) ⌝ }
     ensures { λ r. ⌜ ReadsSheet (now (text .entry)) r (now (table .exit)) ⌝ }
 {
     packed_sheet(read_sheet(text, table))
@@ -80,7 +81,7 @@ pub extern "C" fn timed_read_job(
     link: &mut [u64],
     table: &mut [u64],
 ) -> u64
-    requires { ⌜ 8192 ≤ length (now table) ⌝ }
+    requires { ⌜ tableWords ≤ length (now table) ⌝ }
     ensures { λ r. ⌜ ReadsTexts (now (list .entry)) (now (values .entry)) r (memory (now (tag .entry)) (now (first .entry)) (now (second .entry)) (now (link .entry))) (memory (now (tag .exit)) (now (first .exit)) (now (second .exit)) (now (link .exit))) (now (table .exit)) ⌝ }
 {
     packed_job(read_job(list, values, tag, first, second, link, table))

@@ -1,6 +1,7 @@
 // Writing a node as a listing.
 ghost use Prim.Native.Nat.{_≤_};
 ghost use lib.ListN.{length};
+ghost use Rattle.memory.specs.Layout.{tableWords};
 ghost use Rattle.timed.specs.Promises.{WritesListing, WritesNode};
 use super::packing::packed_written;
 use calls::frame::write_answer;
@@ -16,7 +17,7 @@ pub extern "C" fn timed_write_listing(
     table: &mut [u64],
     out: &mut [u8],
 ) -> u64
-    requires { ⌜ 8192 ≤ length (now table) ⌝ }
+    requires { ⌜ tableWords ≤ length (now table) ⌝ }
     ensures { λ r. ⌜ WritesListing (now (tag .entry)) (now (first .entry)) (now (second .entry)) root r (now (out .entry)) (now (out .exit)) ⌝ }
 {
     packed_written(write_listing(tag, first, second, root, table, out))
@@ -33,7 +34,7 @@ pub extern "C" fn timed_write_node(
     node: usize,
     nodes: usize,
 ) -> u64
-    requires { ⌜ 8192 ≤ length (now table) ⌝ }
+    requires { ⌜ tableWords ≤ length (now table) ⌝ }
     ensures { λ r. ⌜ WritesNode (now (tag .entry)) (now (first .entry)) (now (second .entry)) node nodes r (now (out .entry)) (now (out .exit)) ⌝ }
 {
     let built = Added::Node {

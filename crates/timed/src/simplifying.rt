@@ -6,8 +6,9 @@ ghost use Rattle.timed.specs.Promises.{SimplifiesNode, SimplifiesTexts};
 use super::packing::counted;
 use super::packing::packed_added;
 use super::packing::packed_simplified;
-use tasks::limit::Limit;
+use memory::layout::TABLE_WORDS;
 use simplification::simplify;
+use tasks::limit::Limit;
 
 #[no_mangle]
 pub extern "C" fn timed_simplify(
@@ -50,7 +51,7 @@ pub extern "C" fn timed_simplify_texts(
     first: &mut [u64],
     second: &mut [u64],
     link: &mut [u64],
-    table: &mut [u64; 8192],
+    table: &mut [u64; TABLE_WORDS],
     out: &mut [u8],
 ) -> u64
     ensures { λ r. ⌜ SimplifiesTexts limit (now (list .entry)) (now (values .entry)) (now (out .entry)) (work (now (tag .entry)) (now (first .entry)) (now (second .entry)) (now (link .entry)) (now (table .entry))) r (now (out .exit)) (work (now (tag .exit)) (now (first .exit)) (now (second .exit)) (now (link .exit)) (now (table .exit))) ⌝ }

@@ -9,6 +9,7 @@ use super::packing::packed_checked;
 use super::packing::packed_written;
 use super::packing::put_evaluated;
 use calls::answer_of;
+use memory::layout::TABLE_WORDS;
 use tape::Checked;
 use tape::check;
 use tape::compile::compile;
@@ -76,7 +77,7 @@ pub extern "C" fn timed_check_and_play(
 pub extern "C" fn timed_play_bytes(
     tape: &[u8],
     values: &[u8],
-    table: &mut [u64; 8192],
+    table: &mut [u64; TABLE_WORDS],
     value: &mut [u64],
 ) -> u64
     ensures { λ r. ⌜ PlaysBytes (now (tape .entry)) (now (values .entry)) (now (table .entry)) r (now (value .entry)) (now (value .exit)) (now (table .exit)) ⌝ }

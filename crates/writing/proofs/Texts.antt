@@ -29,7 +29,7 @@ use Rattle.text.proofs.Putting.{put-then}
 use Rattle.writing.specs.declared.Written.{Written}
 use Rattle.writing.specs.Order.{order, lineFields, text, textOf, written}
 use Rattle.writing.specs.Ordering.{AllIn, empty, Listed, visited, Visited, noChild, textFields, lineText, lineAt, linesText}
-use Rattle.memory.specs.Layout.{placesFrom}
+use Rattle.memory.specs.Layout.{tableWords, placesFrom}
 use Rattle.listing.specs.Tables.{movedTo, moved, entryAt, lineTrees}
 use Rattle.listing.proofs.Taking.{entry-is}
 use Rattle.writing.proofs.Orders.{laid-all, all-is, true-not-false}
@@ -127,7 +127,7 @@ module _ {m : Memory} {n : ℕ} (h : Holds m n) {table : List ℕ} {count : ℕ}
 
 -- ---- the answer
 
-pub none-listed : (m : Memory) (n : ℕ) (table : List ℕ) → 8192 ≤ length table → Listed m n table 0
+pub none-listed : (m : Memory) (n : ℕ) (table : List ℕ) → tableWords ≤ length table → Listed m n table 0
 unfolding upTo
 none-listed m n table h = record { long = h; nodes = λ k o. absurd (omega arith); laid = empty; marks = λ k o. absurd (omega arith) }
 
