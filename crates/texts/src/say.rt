@@ -2,8 +2,8 @@
 use complex::bits::to_bits;
 use expression::refusal::Refusal;
 use libc::STDOUT_FILENO;
+use sheet::Counts;
 use sheet::Found;
-use sheet::Rows;
 
 pub fn word(text: &[u8]) {
     io::write_all(STDOUT_FILENO, text);
@@ -37,11 +37,11 @@ pub fn read_listing(nodes: usize, swaps: usize) {
     end();
 }
 
-pub fn read_sheet(rows: Rows) {
+pub fn read_sheet(counts: Counts) {
     word(b"read");
-    decimal(rows.variables as u64);
-    decimal(rows.cells as u64);
-    decimal(rows.functions as u64);
+    decimal(counts.variables as u64);
+    decimal(counts.cells as u64);
+    decimal(counts.functions as u64);
     end();
 }
 

@@ -5,8 +5,8 @@ use super::say;
 use complex::Complex;
 use complex::bits::from_bits;
 use expression::refusal::Operation;
+use sheet::Counts;
 use sheet::Found;
-use sheet::Rows;
 use sheet::Sheet;
 use sheet::cell;
 use sheet::function_value;
@@ -15,36 +15,36 @@ use sheet::variable;
 
 pub fn run(list: i32, line: Line, text: &[u8], table: &mut [u64; 8192]) {
     match read_sheet(text, table) {
-        Sheet::Read(rows) => {
-            say::read_sheet(rows);
-            look_up(list, line.d, table, rows);
+        Sheet::Read(counts) => {
+            say::read_sheet(counts);
+            look_up(list, line.d, table, counts);
         }
         Sheet::Refused(why) => say::refused_text(why),
     }
 }
 
 // Answers the lines that ask for values.
-fn look_up(list: i32, asked: u64, table: &[u64], rows: Rows) {
+fn look_up(list: i32, asked: u64, table: &[u64], counts: Counts) {
     let mut i = 0;
     while i < asked {
-        say::found(found(table, rows, next_line(list)));
+        say::found(found(table, counts, next_line(list)));
         i += 1;
     }
 }
 
-fn found(table: &[u64], rows: Rows, line: Line) -> Found {
+fn found(table: &[u64], counts: Counts, line: Line) -> Found {
     let mark = line.mark;
     match mark {
-        b'v' => variable(table, rows, (line.a % 65536) as u16),
+        b'v' => variable(table, counts, (line.a % 65536) as u16),
         b'm' => cell(
             table,
-            rows,
+            counts,
             (line.a % 65536) as u16,
             (line.b % 4294967296) as u32,
         ),
         _ => function_value(
             table,
-            rows,
+            counts,
             operation_of(mark),
             Complex {
                 re: from_bits(line.a),
