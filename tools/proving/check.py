@@ -1,15 +1,18 @@
 """What the tools ask of the toolchain's check: the walks of a crate's functions, and the proof files that it prints."""
 import hashlib
+import io
+import itertools
 import os
 import pickle
 import re
 import shutil
 import subprocess
-import sys
+import tarfile
 import tempfile
 from pathlib import Path
 
 from proving import source
+from proving.parts import Trouble
 from proving.walk import Walk
 
 
@@ -29,19 +32,29 @@ def walks(root, crate):
         library, found = f'Rattle.{crate}.proofs', {}
         for file in sorted(Path(made, library).rglob('Lts*.antt')):
             way = file.relative_to(Path(made, library)).with_suffix('').parts
-            found['.'.join([library, *way])] = walked(file.read_text(), root / 'crates' / crate / 'src', way[1:])
+            walk = walked('.'.join([library, *way]), file.read_text(), root / 'crates' / crate / 'src')
+            found[walk.module] = walk
     if not found:
-        sys.exit(f'{said}\nproof: the check made no walk of {crate}')
+        raise Trouble(f'the check made no walk of {crate}:\n{said}')
     kept.parent.mkdir(parents=True, exist_ok=True)
     kept.write_bytes(key + pickle.dumps(found))
     return found
 
 
-def walked(text, src, way):
+def walks_at(root, crate, revision):
+    """The walks as they were with the crate's code of another commit, by a check of a copy."""
+    with tempfile.TemporaryDirectory() as folder:
+        copy, src = copy_of(root, crate, Path(folder).resolve()), f'crates/{crate}/src'
+        code = subprocess.run(['git', 'archive', revision, src], cwd=root, check=True, capture_output=True).stdout
+        shutil.rmtree(copy / src)
+        tarfile.open(fileobj=io.BytesIO(code)).extractall(copy)
+        return walks(copy, crate)
+
+
+def walked(module, text, src):
     """The walk of a function, with words for what its source says."""
-    walk = Walk(text)
-    function = [*way[:-2], way[-1][len('Lts-'):]] if way[-1].startswith('Lts-') else way[:-1]
-    walk.words = source.words(source.body(src, function), {place.thing for place in walk.places.values()})
+    walk = Walk(module, text)
+    walk.words = source.words(source.body(src, walk.function()), {place.thing for place in walk.places.values()})
     return walk
 
 
@@ -64,19 +77,13 @@ def written(root, crate):
 
 
 def printed(said):
-    """The proof files that a check printed: from the path to the text."""
-    lines, out = iter(said.split('\n') + ['']), {}
-    line = next(lines)
-    for line in lines:
+    """The proof files that a check printed: from each path to the text."""
+    lines, out = said.split('\n'), {}
+    for i, line in enumerate(lines):
         head = re.match(r'help: write (\S+/Proof\.antt) with these lines', line)
-        while head:
-            text = []
-            for line in lines:
-                if line.strip() and not line.startswith('    '):
-                    break
-                text.append(line[4:])
-            out[Path(head.group(1))] = '\n'.join(text).rstrip() + '\n'
-            head = re.match(r'help: write (\S+/Proof\.antt) with these lines', line)
+        if head:
+            text = itertools.takewhile(lambda line: line.startswith('    ') or not line.strip(), lines[i + 1:])
+            out[Path(head.group(1))] = '\n'.join(line[4:] for line in text).rstrip() + '\n'
     return out
 
 

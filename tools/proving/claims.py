@@ -7,26 +7,34 @@ import re
 from proving.parts import SPEC, arguments
 
 
-def renewed(text, alias, module, walk):
+def listed(text):
+    """The claims of a tuple, (a, b, c)."""
+    return [claim.strip() for claim in text[1:-1].split(',') if claim.strip()]
+
+
+def written(claims):
+    """The tuple of these claims as a pattern, however its lines are broken."""
+    return r'\(\s*' + r',\s*'.join(re.escape(claim) for claim in claims) + r',?\s*\)'
+
+
+def renewed(text, alias, walk):
     """The text with the claims that the member's calls ask for now, and what is to be said of that."""
     spec = next((m for m in SPEC.finditer(text) if m.group(1) == alias), None)
-    if '.+' not in module or not spec:
+    if '.+' not in walk.module or not spec:
         return text, []
     start, end = arguments(text, spec.end(), len(text))[0]
     named = re.match(r'\(([\w-]+) t\)$', text[start:end])
     stands = re.search(rf'^{named.group(1)} t =\s*(\([^()]*\))', text, re.M).group(1) if named else text[start:end]
-    old = [claim.strip() for claim in stands[1:-1].split(',') if claim.strip()]
-    new, lines = asked(text, module, walk)
-    if old == new:
+    new, lines = asked(text, walk)
+    if listed(stands) == new:
         return text, []
-    everywhere = r'\(\s*' + r',\s*'.join(re.escape(claim) for claim in old) + r',?\s*\)'
-    text = re.sub(everywhere, f'({", ".join(new)})', text)
-    return imported(text, module, new, lines), [f'{alias}: the claims are {", ".join(new)} now']
+    text = re.sub(written(listed(stands)), f'({", ".join(new)})', text)
+    return imported(text, walk.module, new, lines), [f'{alias}: the claims are {", ".join(new)} now']
 
 
-def asked(text, module, walk):
+def asked(text, walk):
     """The claims in the order in which the member calls, and the `use` lines that they lack."""
-    home, _, cycle = module.rpartition('.')[0].rpartition('.')
+    home, _, cycle = walk.module.rpartition('.')[0].rpartition('.')
     library, _, folder = home.partition('.proofs')
     names = {used: alias for used, alias in re.findall(r'^use (\S+)\.Reads as (\S+)$', text, re.M)}
     claims, lines = [], []

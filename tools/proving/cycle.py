@@ -1,19 +1,49 @@
 """The proof of a cycle of calls as a file for each member, made from the one long file that a check prints for it."""
 import re
 
-from proving.parts import arguments, items
+from proving.claims import listed, written
+from proving.parts import Trouble, arguments, items
 
-MEASURES = '-- The measures of the cycle, what each member is given at a measure t, and what a call of it asks below t. Assumes nothing.'
-KNOT = '-- The proof of a cycle of calls: a file for each member below Proof/. Assumes nothing.'
+MEASURES = '''-- The measures of the cycle, what each member is given at a measure t, and what a call of it asks below t. Assumes nothing.
+use Prim.Native.Nat.{ℕ, _<_, _+_, _*_}
+use borrow.Fn.Kinds.{In}
+use borrow.Fn.PlainCycle.{Measures, is, falls, and}
+'''
+MEMBER = '''-- `FUNCTION` meets its contract. Assumes nothing.
+use Prim.Native.Nat.{ℕ}
+use native.Mathlib.Omega.{arith}
+use borrow.Author.Needs.{needs}
+'''
+KNOT = '-- The proof of a cycle of calls: a file for each member below Proof/. Assumes nothing.\n'
+WORD = re.compile(r"(?<![\w.'·-])[\w'·-]+")
 
 
-def camel(name):
-    return ''.join(word.capitalize() for word in re.split('[-_]', name))
+class Cycle:
+    """The long file in its parts."""
 
+    def __init__(self, text):
+        self.home = re.search(r'^use (\S+)\.\{statement\}$', text, re.M).group(1)
+        self.modules = {alias: module for module, alias in re.findall(r'^use (\S+) as (\S+)$', text, re.M)}
+        self.declared = items(text)
+        self.members = [name[2:] for name in self.declared if name.startswith('μ-')]
+        self.name = next(name for name in self.declared if name.startswith('+'))
+        measured = {name for m in self.members for name in self.measured(m)}
+        other = [name for name in self.declared if name not in measured | {self.name} and not any(name in self.own(m) for m in self.members)]
+        if other:
+            raise Trouble(f'what is not of the form that a check prints goes elsewhere first: {" ".join(other)}')
 
-def uses(text):
-    """From each name that the text gives to a module to the module."""
-    return {alias: module for module, alias in re.findall(r'^use (\S+) as (\S+)$', text, re.M)}
+    def measured(self, m):
+        return f'μ-{m}', f'{m}-at', f'{m}-below'
+
+    def own(self, m):
+        """What is declared for a member: invariants and measures of its loops, and answers."""
+        return {name: item for name, item in self.declared.items() if name.startswith(f'{m}-') and f' {m}-lts.' in item}
+
+    def given(self, m):
+        """What the member's `spec` is given: its claims, two more readings, and what is declared for it."""
+        knot = self.declared[self.name]
+        spec = re.compile(rf'(?<![\w-]){re.escape(m)}-lts\.spec').search(knot)
+        return [knot[start:end] for start, end in arguments(knot, spec.end(), len(knot))]
 
 
 def is_long(text):
@@ -22,77 +52,70 @@ def is_long(text):
 
 
 def split(folder, text):
-    """Writes Proof.antt, Proof/Measures.antt and Proof/MEMBER.antt from the long file. A member's file that is there stays, under the cycle's
-    present name, and so do the measures that are there. Gives the files that it wrote."""
-    home = re.search(r'^use (\S+)\.\{statement\}$', text, re.M).group(1)
-    known, declared = uses(text), items(text)
-    members = [name[2:] for name in declared if name.startswith('μ-')]
-    files = {f'Proof/{camel(m)}.antt': member(m, home, known, declared) for m in members}
-    files['Proof/Measures.antt'] = measures(members, known, declared)
-    files = {name: renewed((folder / name).read_text(), home, made) if (folder / name).exists() else made for name, made in files.items()}
-    files['Proof.antt'] = knot(members, home, declared)
-    changed = [name for name, made in files.items() if not (folder / name).exists() or (folder / name).read_text() != made]
+    """Writes Proof.antt, Proof/Measures.antt and Proof/MEMBER.antt from the long file. What stands there of a member or of the measures stays, under
+    the cycle's present name. Gives the files that it wrote."""
+    cycle = Cycle(text)
+    files = {f'Proof/{camel(m)}.antt': member(cycle, m) for m in cycle.members}
+    files['Proof/Measures.antt'] = measures(cycle)
+    files = {name: renewed((folder / name).read_text(), cycle, made) if (folder / name).exists() else made for name, made in files.items()}
+    files['Proof.antt'] = knot(cycle)
     (folder / 'Proof').mkdir(exist_ok=True)
-    for name in changed:
+    wrote = [name for name, made in files.items() if not (folder / name).exists() or (folder / name).read_text() != made]
+    for name in wrote:
         (folder / name).write_text(files[name])
-    return changed
+    return wrote
 
 
-def renewed(text, home, made):
-    """A file of the cycle as it stands, with the cycle's present name, and with what only the new one declares (of a member: nothing)."""
-    folder, _, name = home.rpartition('.')
-    text = re.sub(rf'{re.escape(folder)}\.\+[^.\s]+', lambda m: f'{folder}.{name}', text)
-    missing = [item for declared, item in items(made).items() if declared not in items(text) and re.match(r'μ-|\S+-(at|below)$', declared)]
-    lines = [line for line in re.findall(r'^use \S+ as \S+$', made, re.M) if line not in text] if missing else []
-    last = list(re.finditer(r'^use .*\n', text, re.M))[-1].end()
-    return text[:last] + ''.join(line + '\n' for line in lines) + text[last:] + ''.join(f'\n{item}\n' for item in missing)
+def camel(name):
+    return ''.join(word.capitalize() for word in re.split('[-_]', name))
 
 
-def measures(members, known, declared):
-    lines = [MEASURES, 'use Prim.Native.Nat.{ℕ, _<_, _+_, _*_}', 'use borrow.Fn.Kinds.{In}', 'use borrow.Fn.PlainCycle.{Measures, is, falls, and}']
-    for m in members:
-        lines += [f'use {known[m]} as {m}', f'use {known[m + "-kinds"]} as {m}-kinds']
-    for name in (name for m in members for name in (f'μ-{m}', f'{m}-at', f'{m}-below')):
-        signature, body = re.split(rf'\n(?={re.escape(name)} )', declared[name])
-        lines += ['', signature.replace('abbrev ', 'abbrev pub '), re.sub(r'\s+', ' ', body)]
-    return '\n'.join(lines) + '\n'
+def measures(cycle):
+    out = MEASURES + ''.join(f'use {cycle.modules[name]} as {name}\n' for m in cycle.members for name in (m, f'{m}-kinds'))
+    for name in (name for m in cycle.members for name in cycle.measured(m)):
+        signature, body = re.split(rf'\n(?={re.escape(name)} )', cycle.declared[name])
+        out += '\n' + signature.replace('abbrev ', 'abbrev pub ') + '\n' + re.sub(r'\s+', ' ', body) + '\n'
+    return out
 
 
-def member(m, home, known, declared):
-    """The file of a member: its invariants and measures of loops, an answer to each need, and what `close` takes."""
-    own = {name: item for name, item in declared.items() if f'{m}-lts.' in item.split('=')[0] and name.startswith(f'{m}-')}
-    knotted = declared[next(name for name in declared if name.startswith('+'))]
-    spec = re.compile(rf'(?<![\w-]){re.escape(m)}-lts\.spec').search(knotted)
-    given = [re.sub(r'\s+', ' ', knotted[a:b]) for a, b in arguments(knotted, spec.end(), len(knotted))]
-    claims = re.sub(r',? \)$', ')', given[0].replace('( ', '('))
-    asked = dict.fromkeys(re.findall(r'([\w-]+)\.(?:Asked|Post)', claims))
-    below = dict.fromkeys(re.findall(r'([\w-]+-below) t', claims))
-    lines = [f'-- `{m.replace("-", "_")}` meets its contract. Assumes nothing.', 'use borrow.Author.Needs.{needs}', 'use native.Mathlib.Omega.{arith}']
-    lines += ['use Prim.Native.Nat.{ℕ}'] + [f'use {known[a]} as {a}' for a in dict.fromkeys([*asked, m])]
-    lines += [f'use {known[m + "-lts"]} as lts', f'use {home}.Proof.Measures.{{{", ".join([m + "-at", *below])}}}']
-    lines += ['', 'abbrev claims : ℕ → lts.Claims', f'claims t = {claims}']
-    short = {name: name[len(m) + 1:] for name in own}
-    for item in own.values():
-        item = re.sub(rf'(?<![\w-]){re.escape(m)}-lts\.', 'lts.', re.sub(r'\(\s[^()]*\)|\([^()]*(?:-below t|\.Asked),[^()]*\)', '(claims t)', item))
-        item = re.sub(r"(?<![\w.'·-])[\w'·-]+", lambda w: short.get(w.group(0), w.group(0)), item)
-        lines += ['', answered(item)]
-    lines += ['', f'pub part : {{M : Type 1}} (t : ℕ) → lts.Closed (claims t) ({m}-at t) {m}.Post M', 'part t =', f'    lts.spec (claims t) ({m}-at t) {m}.Post']
-    return '\n'.join(lines + [f'    {re.sub(re.escape(m) + "-", "", a, count=1)}' for a in given[3:]]) + '\n'
+def member(cycle, m):
+    """The file of a member, with its claims said once and its names without the member's."""
+    given, short = cycle.given(m), {name: name[len(m) + 1:] for name in cycle.own(m)}
+    claims = listed(given[0])
+    readings = dict.fromkeys([claim.split('.')[0] for claim in claims if '.' in claim] + [m])
+    below = dict.fromkeys(claim.split()[0] for claim in claims if claim.endswith(' t'))
+    out = MEMBER.replace('FUNCTION', m.replace('-', '_')) + ''.join(f'use {cycle.modules[name]} as {name}\n' for name in readings)
+    out += f'use {cycle.modules[m + "-lts"]} as lts\nuse {cycle.home}.Proof.Measures.{{{", ".join([m + "-at", *below])}}}\n'
+    out += f'\nabbrev claims : ℕ → lts.Claims\nclaims t = ({", ".join(claims)})\n'
+    for item in cycle.own(m).values():
+        item = re.sub(written(claims), '(claims t)', item).replace(f' {m}-lts.', ' lts.')
+        out += '\n' + first_answer(WORD.sub(lambda word: short.get(word.group(0), word.group(0)), item)) + '\n'
+    out += f'\npub part : {{M : Type 1}} (t : ℕ) → lts.Closed (claims t) ({m}-at t) {m}.Post M\npart t =\n    lts.spec (claims t) ({m}-at t) {m}.Post\n'
+    return out + ''.join(f'    {WORD.sub(lambda word: short.get(word.group(0), word.group(0)), answer)}\n' for answer in given[3:])
 
 
-def answered(item):
-    """A need's declaration with a first answer: a hole at what a return, a loop or a measure asks, and the search at every other need."""
-    signature, _, body = item.partition('\n')
-    name = signature.split(' :')[0]
-    if re.match(r'abbrev|returns|loop', name):
+def first_answer(item):
+    """A declaration with the search, or what calls kept, in the place of a hole, but for invariants, measures and what a return or a loop asks."""
+    if re.match(r'abbrev|returns|loop', item):
         return item
-    return item.replace(' = ?', ' = @Kept' if name.startswith('same-length') else ' = search needs')
+    return re.sub(r' = \?$', ' = @Kept' if item.startswith('same-length') else ' = search needs', item)
 
 
-def knot(members, home, declared):
-    name = next(name for name in declared if name.startswith('+'))
-    lines = [KNOT, 'mod Measures'] + [f'mod {camel(m)}' for m in members]
-    lines += [f'use {home}.{{statement}}', f'use {home}.Tie.{{close}}', f'use Measures.{{{", ".join("μ-" + m for m in members)}}}']
-    lines += [f'use {camel(m)}.{{part as {m}-part}}' for m in members]
-    measured, closed = ' '.join('μ-' + m for m in members), ' '.join(f'{m}-part' for m in members)
-    return '\n'.join([*lines, '', f'pub {name} : {{M : Type 1}} → statement M', f'{name} = close {measured} {closed}']) + '\n'
+def knot(cycle):
+    of_members = [f'mod {camel(m)}\n' for m in cycle.members], [f'use {camel(m)}.{{part as {m}-part}}\n' for m in cycle.members]
+    measured = [f'μ-{m}' for m in cycle.members]
+    out = KNOT + 'mod Measures\n' + ''.join(of_members[0]) + f'use {cycle.home}.{{statement}}\nuse {cycle.home}.Tie.{{close}}\n'
+    out += f'use Measures.{{{", ".join(measured)}}}\n' + ''.join(of_members[1])
+    closed = ' '.join(measured + [f'{m}-part' for m in cycle.members])
+    return out + f'\npub {cycle.name} : {{M : Type 1}} → statement M\n{cycle.name} = close {closed}\n'
+
+
+def renewed(text, cycle, made):
+    """A file that stands there, with the cycle's present name in it and, of the measures, with those of members that are new."""
+    folder = re.escape(cycle.home.rpartition('.')[0])
+    text = re.sub(rf'{folder}\.\+[^.\s]+', lambda m: cycle.home, text)
+    measured = {name for m in cycle.members for name in cycle.measured(m)}
+    missing = [item for name, item in items(made).items() if name in measured and name not in items(text)]
+    lines = [line for line in re.findall(r'^use \S+ as \S+\n', made, re.M) if missing and line not in text]
+    last = list(re.finditer(r'^use .*\n', text, re.M))[-1].end()
+    return text[:last] + ''.join(lines) + text[last:] + ''.join(f'\n{item}\n' for item in missing)

@@ -14,7 +14,7 @@ ATOM = re.compile(r'[^\s(){}]+')
 
 
 class Trouble(Exception):
-    """What keeps a file from being folded or filled; the file stays as it is."""
+    """What keeps the tools from their work; what they could not work on stays as it is."""
 
 
 class Part:

@@ -5,37 +5,41 @@ it finds the things and the needs of that walk in the new one, renumbers names a
 """
 import re
 
+from proving import claims
 from proving.moved import Moved
 from proving.parts import Trouble, answers, parts
 
 PATH = re.compile(r"(?<![\w.'·@-])c(?![\w'·-])(?! :)((?: \.before)*)(?: \.([\w'·-]+))?")
 SHORT = re.compile(r"@([\w'·-]+)(?: \.([\w'·-]+))?")
-INLINE = re.compile(r'\(λ c(?: κs)?\.')
+INLINE = re.compile(r"\(λ c(?: [\w'·]+)*\.")
 FOLDED = re.compile(r'^-- walk of (\S+) when folded: (.*)\n', re.M)
 
 
 class Paths:
-    """Of one proof file. walks: from the name under which it uses a generated module to the function's walk."""
+    """Of one proof file. walks: from the name under which it uses a generated module to the function's walk. Folding and filling give the new
+    text, and what there is to say of it."""
 
     def __init__(self, text, walks):
         self.text, self.walks, self.said = text, walks, []
 
     def fold(self):
         if FOLDED.search(self.text):
-            return self.text
+            return self.text, []
         new = []
         for part in parts(self.text, self.walks):
             walk = self.walks[part.alias]
             if part.kind == 'spec':
                 given, _ = answers(self.text, part, walk.needs, len(walk.loops))
-                new += [(start, end, self._folded(walk, need, walk.needs[need], self.text[start:end])) for need, (start, end) in zip(walk.needs, given)]
+                for (need, place), (start, end) in zip(walk.needs.items(), given):
+                    new.append((start, end, self._folded(walk, need, place, self.text[start:end])))
                 continue
             at = Moved(walk, None).place(part)
             if not at:
                 raise Trouble(f'the code has no {part.kind} {part.about}')
             new.append((part.start, part.end, self._folded(walk, *at, self.text[part.start:part.end])))
-        walked = {part.alias: self.walks[part.alias] for part in parts(self.text, self.walks)}
-        return replaced(self.text, new) + ''.join(f'-- walk of {alias} when folded: {" ".join(walk.events())}\n' for alias, walk in walked.items())
+        walked = {part.alias: ' '.join(self.walks[part.alias].events()) for part in parts(self.text, self.walks)}
+        out = replaced(self.text, new) + ''.join(f'-- walk of {alias} when folded: {events}\n' for alias, events in walked.items())
+        return out, self.said
 
     def _folded(self, walk, about, place, text):
         inline = INLINE.match(text)
@@ -80,9 +84,11 @@ class Paths:
                 declared[part.declared] = part.declared[:-len(part.about)] + at[0]
         self.text = renamed(replaced(self.text, new), moved, declared)
         for name, module in (('needs', 'borrow.Author.Needs'), ('_∙_', 'mathlib.Core.Path')):
-            self.text = imported(self.text, name, module)
-        self.said += [line for alias, walk in self.walks.items() for line in loops(self.text, alias, walk)]
-        return self.text
+            self.text = with_use(self.text, name, module)
+        for alias, walk in self.walks.items():
+            self.text, said = claims.renewed(self.text, alias, walk)
+            self.said += [*said, *loops(self.text, alias, walk)]
+        return self.text, self.said
 
     def _filled_spec(self, part, move):
         """The answers in the order of the needs as they are now: those that stand there, and new ones."""
@@ -144,7 +150,7 @@ def unasked(walk, need):
     return f'(λ c. {walk.kept(need) or "search needs"})'
 
 
-def imported(text, name, module):
+def with_use(text, name, module):
     """The text with a `use` line for a name that new answers may need, if it stands there and has none."""
     word = name.strip('_')
     used = re.search(rf'(?<![\w.]){re.escape(word)}(?![\w-])', re.sub(r'^(use|--) .*', '', text, flags=re.M))

@@ -3,8 +3,9 @@ import textwrap
 
 
 def told(at):
-    """A thing and what it tells; of a call the lent parameters' last values only where it was lent some."""
-    fields = [f for f in at.tells if at.lends or f not in ('last', 'kept', 'ok')]
+    """A thing and what it tells; of a call what it left and kept of its parameters only where one is lent as `&mut`."""
+    lent = any(kind.startswith('pMut') for kind in at.kinds)
+    fields = [f for f in at.tells if lent or f not in ('last', 'kept', 'ok')]
     return ' '.join(['@' + at.thing, *('.' + f for f in fields)])
 
 

@@ -14,51 +14,64 @@ class Place:
     def __init__(self, name, before, thing):
         self.name, self.before, self.thing = name, before, thing
         self.tells = []    # the fields of the thing
-        self.lends = []    # of a call, the parameters that are lent to it as `&mut`, by number
+        self.kinds = []    # of a call, the kinds of its parameters, by the logic's names
+
+    def slices(self):
+        """The parameters, by number, that are `&mut` slices."""
+        return [number for number, kind in enumerate(self.kinds) if kind == 'pMutS']
 
 
 class Walk:
-    """Made from the text of a function's generated module, its `Lts`."""
+    """Made from a function's generated module `Lts`: its name and its text."""
 
-    def __init__(self, text):
+    def __init__(self, module, text):
+        self.module = module
         self.places = {}        # a place by its name
         self.needs = {}         # a need's name to its place's, in the order in which `spec` takes the answers
         self.slices = {}        # of a need of a slice's length, the number of the parameter that is the slice
         self.parameters = []
         self.order = []         # places and needs in the order of the code
         self.words = {}         # of a call or a test, a word for what the source says there
-        self.loops = {name: shape.count('→') for name, shape in re.findall(r'^((?:Inv|Measure)T-\S+) =((?:\n    .*)+)', text, re.M)}
+        self.loops = {name: shape.count('→') for name, shape in re.findall(r'^((?:Inv|Measure)T-\S+) =(.*(?:\n    .*)*)', text, re.M)}
         self.callees = list(dict.fromkeys(re.findall(r'Syntax\.call\s+"([^"]+)"', text)))
-        told = {}
+        told, kinds = {}, {}
         for block in text.split('\n\n'):
-            self._read(block, told)
-        for name, (tells, lends) in told.items():
+            self._read(block, told, kinds)
+        for name, (tells, parameters) in told.items():
             if name in self.places:
-                self.places[name].tells, self.places[name].lends = tells, lends
+                self.places[name].tells, self.places[name].kinds = tells, kinds.get(parameters, [])
 
-    def _read(self, block, told):
-        """One declaration of the module: a need, what a call tells, what another thing tells, a place, or none of these."""
+    def _read(self, block, told, kinds):
+        """One declaration of the module: a callee's parameters, a need, what a call or another thing tells, a place, or none of these."""
+        parameters = re.match(r'abbrev pub (ps·\d+) :', block)
         need = re.search(r'abbrev pub Need-(\S+) : Type 0\n\s+Need-\S+ =\s+\(c : (\S+?)\)(.*)', block, re.S)
-        called = re.search(r'abbrev pub (\S+)·own : Type 0\n\s+\S+ =\s+Called\.Called\s.*?\sT\d+\s+(.*)', block, re.S)
+        called = re.search(r'abbrev pub (\S+)·own : Type 0\n\s+\S+ =\s+Called\.Called\s+(\S+)', block)
         record = re.search(r'pub record (\S+) : Type 0 where\n(.*)', block, re.S)
-        if need:
+        if parameters:
+            kinds[parameters.group(1)] = re.findall(r"[\w']+\.(p[A-Z]\w*)", block)
+        elif need:
             name, place, asks = need.groups()
             self.needs[name] = place
             self.order.append(name)
             if name.startswith('same-length'):
                 self.slices[name] = int(re.search(r'Row\.get (\d+)', asks).group(1)) - 1
         elif called:
-            told[called.group(1)] = (CALL, lent(called.group(2)))
+            told[called.group(1)] = (CALL, called.group(2))
         elif record:
             name, fields = record.groups()
             names = re.findall(r'^\s+pub (\S+) :', fields, re.M)
             if name.endswith('·own'):
-                told[name[:-len('·own')]] = (names, [])
+                told[name[:-len('·own')]] = (names, None)
             elif names[0] == 'before':
                 self.places[name] = Place(name, re.search(r'pub before : (\S+)', fields).group(1), names[1])
                 self.order.append(name)
             elif name == 'Args':
                 self.parameters = names
+
+    def function(self):
+        """The way to the function in its crate: modules and name."""
+        _, _, *way, last = self.module.split('.')
+        return [*way[:-1], last[len('Lts-'):]] if last.startswith('Lts-') else way
 
     def events(self):
         """The walk in words, in the order of the code: `PLACE.THING` for a place and the need's name for a need, each with the word of its
@@ -104,19 +117,16 @@ class Walk:
         for back, at in enumerate(way):
             if slice_ in at.tells:
                 return None
-            came = home(way[:back])
-            if len(came) == len(at.lends):
-                parts += [f'c{" .before" * back} .{at.thing} .kept{" .1" * j} .0' for j, v in zip(at.lends, came) if v == slice_]
+            for number, came in zip(at.slices(), home(way[:back])):
+                if re.fullmatch(rf'{re.escape(slice_)}\d*', came):
+                    parts.append(f'c{" .before" * back} .{at.thing} .kept{" .1" * number} .0')
         return ' ∙ '.join(parts) or None
 
 
 def home(after):
-    """The slices that come home after a call, given the places after it, the last first: each is followed by what is known of it."""
-    out, after = [], list(reversed(after))
-    while len(after) > 1 and after[0].tells == ['given'] and re.match(r'slice-known\d*$', after[1].thing):
-        out.append(re.sub(r'\d+$', '', after[0].thing))
-        after = after[2:]
-    return out
+    """The slices that come home after a call, in the order of its parameters, given the places after it, the last first. Each is followed by what is
+    known of it."""
+    return [came.thing for came, known in zip(after[::-2], after[-2::-2]) if re.match(r'slice-known\d*$', known.thing)]
 
 
 def closing(text, at):
@@ -127,17 +137,3 @@ def closing(text, at):
         if depth == 0:
             return i + 1
     raise ValueError('a bracket is not closed')
-
-
-def lent(text):
-    """Which arguments are lent as `&mut`, of a call's as the module writes them: (a, (b, (c, tt)))."""
-    out, number = [], 0
-    text = text[:closing(text, 0)] if text.startswith('(') else ''
-    while text.startswith('('):
-        inner, i = text[1:-1].strip(), 0
-        while i < len(inner) and inner[i] != ',':
-            i = closing(inner, i) if inner[i] in '({' else i + 1
-        if re.search(r'tyRef\s+\S+\s+Syntax\.mut', inner[:i]):
-            out.append(number)
-        text, number = inner[i + 1:].strip().rstrip(','), number + 1
-    return out
