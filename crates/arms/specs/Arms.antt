@@ -24,7 +24,7 @@ pub data Plan : Type 0 where
   lesser : Plan → Plan → Plan  -- min
   affine : (a x b : Tree) → Plan  -- S(S(S(a)*x)+S(b)), for new trees a and b; S(a) and S(b) first
 
--- an arm, or else the arms after it
+-- an arm if its test holds, or else the arms after it
 unfoldable pub armIf : Bool → (arm rest : Plan) → Plan
 armIf true arm rest = arm
 armIf false arm rest = rest

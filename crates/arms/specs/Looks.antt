@@ -10,11 +10,12 @@ use Rattle.expression.specs.Codes.{infixCode}
 use Rattle.expression.specs.Trees.{Tree, number, pi, variable, cell, leaf, functionCall, prefixed, infixed}
 use Rattle.expression.specs.Alike.{equal}
 
--- both tests hold, and at least one does
+-- both tests hold
 unfoldable pub bothHold : Bool → Bool → Bool
 bothHold true b = b
 bothHold false b = false
 
+-- at least one of the tests does
 unfoldable pub eitherHolds : Bool → Bool → Bool
 eitherHolds true b = true
 eitherHolds false b = b

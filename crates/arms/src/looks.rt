@@ -158,13 +158,14 @@ pub fn right_in(e: Expression) -> usize
     }
 }
 
-// Both tests hold, and at least one does.
+// Both tests hold.
 pub fn both_hold(a: bool, b: bool) -> bool
     ensures { λ r. ⌜ r ≡ bothHold a b ⌝ }
 {
     if a { b } else { false }
 }
 
+// At least one of the tests does.
 pub fn either_holds(a: bool, b: bool) -> bool
     ensures { λ r. ⌜ r ≡ eitherHolds a b ⌝ }
 {

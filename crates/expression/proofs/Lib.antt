@@ -3,4 +3,5 @@ pub mod Numbering
 pub mod Likeness
 pub mod Sizes
 pub mod Carrying
+pub mod Under
 mod Examples

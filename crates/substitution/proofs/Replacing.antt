@@ -18,6 +18,7 @@ use Rattle.store.specs.Memory.{Memory, fieldsAt, treeAt, treeOf, stateOf}
 use Rattle.store.specs.Held.{Step, Built}
 use Rattle.store.proofs.Building.{older, named, turned, stays, then-node, then-refused}
 use Rattle.memory.proofs.Values.{upTo-alike}
+use Rattle.expression.proofs.Under.{IsNothing, IsOne, IsTwo, nothing-under, one-under, two-under, within-one, within-two}
 use Rattle.memory.specs.Layout.{swapsFrom}
 use Rattle.listing.specs.Listings as Listings
 use Rattle.listing.specs.Listings.{swap, names, nothing, swapFor}
@@ -26,35 +27,6 @@ use Rattle.expression.specs.declared.node.Operands.{Operands}
 use Rattle.substitution.specs.Substituting.{putIn, putInLeaf, substitute}
 use Rattle.substitution.specs.Run.{Rebuilds}
 use Rattle.store.proofs.Stored.{within-node, tree-of-node}
-
--- ---- which operands a node has
-
-unfoldable pub IsNothing : Operands → Type 0
-IsNothing Operands.Nothing = Unit {0}
-IsNothing (Operands.One a) = ⊥
-IsNothing (Operands.Two a b) = ⊥
-
-unfoldable pub IsOne : ℕ → Operands → Type 0
-IsOne a Operands.Nothing = ⊥
-IsOne a (Operands.One b) = b ≡ a
-IsOne a (Operands.Two b c) = ⊥
-
-unfoldable pub IsTwo : ℕ → ℕ → Operands → Type 0
-IsTwo a b Operands.Nothing = ⊥
-IsTwo a b (Operands.One c) = ⊥
-IsTwo a b (Operands.Two c d) = (c ≡ a) × (d ≡ b)
-
-pub nothing-under : (e : Expression) → operandsOf e ≡ Operands.Nothing → IsNothing (operandsOf e)
-unfolding IsNothing
-nothing-under e q = subst IsNothing (sym q) tt
-
-pub one-under : (e : Expression) (a : ℕ) → operandsOf e ≡ Operands.One a → IsOne a (operandsOf e)
-unfolding IsOne
-one-under e a q = subst (IsOne a) (sym q) refl
-
-pub two-under : (e : Expression) (a b : ℕ) → operandsOf e ≡ Operands.Two a b → IsTwo a b (operandsOf e)
-unfolding IsTwo
-two-under e a b q = subst (IsTwo a b) (sym q) (refl, refl)
 
 -- ---- the tree of an operation on other operands
 
@@ -128,28 +100,6 @@ within-rebuilt (Expression.Prefix o a) m k left last t l q = q
 within-rebuilt (Expression.Infix o a b) m k left last t l q = (l .0, q)
 
 -- ---- what the definition does at an operation
-
-pub within-one : (node : ℕ) (e : Expression) (a : ℕ) → operandsOf e ≡ Operands.One a → Within node e → a < node
-unfolding operandsOf IsOne
-within-one node (Expression.Number z) a q w = absurd (one-under (Expression.Number z) a q)
-within-one node Expression.PiConstant a q w = absurd (one-under Expression.PiConstant a q)
-within-one node (Expression.Variable v) a q w = absurd (one-under (Expression.Variable v) a q)
-within-one node (Expression.Address region index) a q w = absurd (one-under (Expression.Address region index) a q)
-within-one node (Expression.FunctionCall f b) a q w = rw (← one-under (Expression.FunctionCall f b) a q) w
-within-one node (Expression.Prefix o b) a q w = rw (← one-under (Expression.Prefix o b) a q) w
-within-one node (Expression.Infix o b c) a q w = absurd (one-under (Expression.Infix o b c) a q)
-
-pub within-two : (node : ℕ) (e : Expression) (a b : ℕ) → operandsOf e ≡ Operands.Two a b → Within node e → (a < node) × (b < node)
-unfolding operandsOf IsTwo
-within-two node (Expression.Number z) a b q w = absurd (two-under (Expression.Number z) a b q)
-within-two node Expression.PiConstant a b q w = absurd (two-under Expression.PiConstant a b q)
-within-two node (Expression.Variable v) a b q w = absurd (two-under (Expression.Variable v) a b q)
-within-two node (Expression.Address region index) a b q w = absurd (two-under (Expression.Address region index) a b q)
-within-two node (Expression.FunctionCall f c) a b q w = absurd (two-under (Expression.FunctionCall f c) a b q)
-within-two node (Expression.Prefix o c) a b q w = absurd (two-under (Expression.Prefix o c) a b q)
-within-two node (Expression.Infix o c d) a b q w =
-    let i = two-under (Expression.Infix o c d) a b q in
-    (rw (← i .0) (w .0), rw (← i .1) (w .1))
 
 module _ (swaps : List Listings.Swap) (m : Memory) (s : State) where
   from-one : Expression → Tree → Tree → State → Answer

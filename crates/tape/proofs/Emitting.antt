@@ -19,7 +19,7 @@ use Rattle.text.specs.Writing.{Put}
 use Rattle.text.proofs.Putting.{put-then, put-length}
 use Rattle.writing.specs.declared.Written.{Written}
 use Rattle.expression.specs.declared.node.Operands.{Operands}
-use Rattle.substitution.proofs.Replacing.{nothing-under, one-under, two-under, within-one, within-two, IsNothing, IsOne, IsTwo}
+use Rattle.expression.proofs.Under.{nothing-under, one-under, two-under, within-one, within-two, IsNothing, IsOne, IsTwo}
 use Rattle.steps.specs.declared.Step.{Step}
 use Rattle.steps.specs.Steps.{encoded, tapeOf}
 use Rattle.steps.proofs.Writing.{step-size, tape-size}

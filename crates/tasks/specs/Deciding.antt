@@ -32,8 +32,8 @@ Rests (Task.FunctionCall f a) = ⊥
 Rests (Task.Infix o a b) = ⊥
 Rests (Task.Prefix o a) = ⊥
 
--- the task of node `node`, which is e: as one on trees, and over n nodes; and at limit 0 no operation runs, so that the cycle ends whatever
--- the slices hold
+-- the task of `node`, which is e. Read as trees it is the definition's; its nodes are among the first n if `node` and the operands are; and at
+-- limit 0 it is no operation, whatever the slices hold: by that the cycle ends
 pub record Decides (limit node : ℕ) (e : Expression) (task : Task) : Type 0 where
   pub wants : (tree : ℕ → Tree) → tree node ≡ grown tree e → taskOf tree task ≡ taskAt limit (grown tree e)
   pub inside : (n : ℕ) → node < n → Within n e → TaskIn n task

@@ -19,9 +19,9 @@ oneMore calls = cond (ltb calls 18446744073709551615) (suc calls) calls
 
 -- what is done at a tree for which nothing is kept
 pub data Task : Type 0 where
-  number-of-pi : Task
-  itself : Tree → Task
-  calling : ExpressionFunction → Tree → Task
+  number-of-pi : Task  -- pi's number is given
+  itself : Tree → Task  -- this tree is given as it is
+  calling : ExpressionFunction → Tree → Task  -- the operation runs on these operands
   prefixing : PrefixOperator → Tree → Task
   infixing : InfixOperator → Tree → Tree → Task
 

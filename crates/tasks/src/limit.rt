@@ -26,7 +26,7 @@ impl Limit {
         self.0 == 0
     }
 
-    // Not so: "5 BAD_LIMIT: limit above 10".
+    // "5 BAD_LIMIT: limit above 10".
     pub fn is_allowed(self) -> bool
         ensures { λ r. ⌜ r ≡ isAllowed (self .0) ⌝ }
     {
