@@ -9,11 +9,7 @@ use Prim.Native.Nat.{ℕ, _<_, _+_, _*_}
 use borrow.Fn.Kinds.{In}
 use borrow.Fn.PlainCycle.{Measures, is, falls, and}
 '''
-MEMBER = '''-- `FUNCTION` meets its contract. Assumes nothing.
-use Prim.Native.Nat.{ℕ}
-use native.Mathlib.Omega.{arith}
-use borrow.Author.Needs.{needs}
-'''
+MEMBER = {'Prim.Native.Nat': ['ℕ'], 'native.Mathlib.Omega': ['arith'], 'borrow.Author.Needs': ['needs']}
 KNOT = '-- The proof of a cycle of calls: a file for each member below Proof/. Assumes nothing.\n'
 WORD = re.compile(r"(?<![\w.'·-])[\w'·-]+")
 
@@ -24,6 +20,7 @@ class Cycle:
     def __init__(self, text):
         self.home = re.search(r'^use (\S+)\.\{statement\}$', text, re.M).group(1)
         self.modules = {alias: module for module, alias in re.findall(r'^use (\S+) as (\S+)$', text, re.M)}
+        self.names = {module: names.split(', ') for module, names in re.findall(r'^use (\S+)\.\{(.*)\}$', text, re.M)}
         self.declared = items(text)
         self.members = [name[2:] for name in self.declared if name.startswith('μ-')]
         self.name = next(name for name in self.declared if name.startswith('+'))
@@ -82,16 +79,29 @@ def member(cycle, m):
     """The file of a member, with its claims said once and its names without the member's."""
     given, short = cycle.given(m), {name: name[len(m) + 1:] for name in cycle.own(m)}
     claims = listed(given[0])
-    readings = dict.fromkeys([claim.split('.')[0] for claim in claims if '.' in claim] + [m])
+    cited = dict.fromkeys([claim.split('.')[0] for claim in claims if '.' in claim] + [m])
     below = dict.fromkeys(claim.split()[0] for claim in claims if claim.endswith(' t'))
-    out = MEMBER.replace('FUNCTION', m.replace('-', '_')) + ''.join(f'use {cycle.modules[name]} as {name}\n' for name in readings)
+    out = ''.join(f'use {cycle.modules[name]} as {name}\n' for name in cited)
     out += f'use {cycle.modules[m + "-lts"]} as lts\nuse {cycle.home}.Proof.Measures.{{{", ".join([m + "-at", *below])}}}\n'
     out += f'\nabbrev claims : ℕ → lts.Claims\nclaims t = ({", ".join(claims)})\n'
     for item in cycle.own(m).values():
         item = re.sub(written(claims), '(claims t)', item).replace(f' {m}-lts.', ' lts.')
         out += '\n' + first_answer(WORD.sub(lambda word: short.get(word.group(0), word.group(0)), item)) + '\n'
-    out += f'\npub part : {{M : Type 1}} (t : ℕ) → lts.Closed (claims t) ({m}-at t) {m}.Post M\npart t =\n    lts.spec (claims t) ({m}-at t) {m}.Post\n'
-    return out + ''.join(f'    {WORD.sub(lambda word: short.get(word.group(0), word.group(0)), answer)}\n' for answer in given[3:])
+    readings = f'(claims t) ({m}-at t) {m}.Post'
+    out += f'\npub part : {{M : Type 1}} (t : ℕ) → lts.Closed {readings} M\npart t =\n    lts.spec {readings}\n'
+    out += ''.join(f'    {WORD.sub(lambda word: short.get(word.group(0), word.group(0)), answer)}\n' for answer in given[3:])
+    return f'-- `{m.replace("-", "_")}` meets its contract. Assumes nothing.\n' + brought(cycle, out) + out
+
+
+def brought(cycle, text):
+    """The `use` lines for what a member's file may need, and for what it names of that which the long file uses."""
+    out = ''
+    for module in dict.fromkeys([*cycle.names, *MEMBER]):
+        names = [name for name in cycle.names.get(module, []) if re.search(rf"(?<![\w'·-]){re.escape(name.split()[-1].strip('_'))}(?![\w'·-])", text)]
+        names = list(dict.fromkeys(MEMBER.get(module, []) + names))
+        if names and not module.startswith((cycle.home, 'borrow.Fn.')):
+            out += f'use {module}.{{{", ".join(names)}}}\n'
+    return out
 
 
 def first_answer(item):
