@@ -33,6 +33,11 @@ numbered Refusal.NotANumber = (omega arith, omega arith)
 numbered Refusal.OutRoom = (omega arith, omega arith)
 numbered Refusal.LongTape = (omega arith, omega arith)
 numbered (Refusal.BadTape step) = (omega arith, omega arith)
+numbered (Refusal.BadNames line) = (omega arith, omega arith)
+numbered (Refusal.UnknownName line) = (omega arith, omega arith)
+numbered Refusal.BadBook = (omega arith, omega arith)
+numbered (Refusal.Many listing) = (omega arith, omega arith)
+numbered Refusal.NoText = (omega arith, omega arith)
 
 pub refusal-told : (why : Refusal) → told (refusedOf why) ≡ numberOf why
 refusal-told why = let (_, small) = numbered why in omega arith
