@@ -1,6 +1,6 @@
-// The memory that a case lends: filled with its word before a call, and zero after it; and the paper of an output.
+// The memory that a case lends: how much of each work slice, whether all of it is zero after a call, and the paper of an
+// output.
 use super::say;
-use super::slices::fill;
 use super::slices::is_all;
 use super::slices::is_same;
 use super::slices::is_zero;
@@ -9,56 +9,54 @@ use super::slices::part_of_bytes;
 // What the paper of an output has everywhere before something is written there.
 pub const BLANK: u8 = 0xa5;
 
-pub fn prepare(
-    word: u64,
-    tag: &mut [u64],
-    first: &mut [u64],
-    second: &mut [u64],
-    link: &mut [u64],
-    table: &mut [u64],
-) {
-    fill(tag, word);
-    fill(first, word);
-    fill(second, word);
-    fill(link, word);
-    fill(table, word);
+// How much of each work slice is lent, from its start.
+pub struct Lent {
+    pub tag: usize,
+    pub first: usize,
+    pub second: usize,
+    pub link: usize,
 }
 
-fn is_clear(tag: &[u64], first: &[u64], second: &[u64], link: &[u64], table: &[u64]) -> bool {
-    if !is_zero(tag) {
-        return false;
+impl Lent {
+    // The four lengths of a field, each of four digits.
+    pub fn of(field: u64) -> Self {
+        Self {
+            tag: (field / 281474976710656) as usize,
+            first: (field / 4294967296 % 65536) as usize,
+            second: (field / 65536 % 65536) as usize,
+            link: (field % 65536) as usize,
+        }
     }
-    if !is_zero(first) {
-        return false;
-    }
-    if !is_zero(second) {
-        return false;
-    }
-    if !is_zero(link) {
-        return false;
-    }
-    is_zero(table)
 }
 
-// Whether all of it is zero; says so if it is not.
-pub fn is_zero_again(
-    tag: &[u64],
-    first: &[u64],
-    second: &[u64],
-    link: &[u64],
-    table: &[u64],
+// Whether all that was lent is zero.
+pub fn is_clear(
+    lent: Lent,
+    tag: &[u64; 4096],
+    first: &[u64; 4096],
+    second: &[u64; 4096],
+    link: &[u64; 4096],
+    table: &[u64; 8192],
 ) -> bool {
-    if is_clear(tag, first, second, link, table) {
-        return true;
+    if !is_zero(tag, lent.tag) {
+        return false;
     }
-    say::fault(b"the port has left something in the work memory");
-    false
+    if !is_zero(first, lent.first) {
+        return false;
+    }
+    if !is_zero(second, lent.second) {
+        return false;
+    }
+    if !is_zero(link, lent.link) {
+        return false;
+    }
+    is_zero(table, 8192)
 }
 
-// Whether the first n bytes of a paper are the wanted ones, and the others blank.
-pub fn is_written(wanted: &[u8], paper: &[u8], n: usize) -> bool {
-    let written = part_of_bytes(paper, n);
-    if !is_same(wanted, &paper[..written]) {
+// Whether a paper begins with the wanted bytes, and the others are blank.
+pub fn is_written(wanted: &[u8], paper: &[u8]) -> bool {
+    let n = part_of_bytes(paper, wanted.len());
+    if !is_same(wanted, &paper[..n]) {
         say::fault(b"the port has written something else");
         return false;
     }

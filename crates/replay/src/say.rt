@@ -1,6 +1,5 @@
-// What is printed: lines for each wrong case, and counts at the end.
+// What is printed: words and numbers, the fields of a line, and what is wrong.
 ghost use Prim.Native.Nat.{_≤_};
-use super::answer::Answer;
 use libc::STDOUT_FILENO;
 
 pub fn word(text: &[u8]) {
@@ -11,28 +10,54 @@ pub fn decimal(n: u64) {
     io::print_decimal(STDOUT_FILENO, n);
 }
 
-fn hex(n: u64) {
+// A decimal number as a field.
+pub fn count(n: u64) {
     word(b"\t");
-    io::print_hex(STDOUT_FILENO, n, 16);
+    decimal(n);
 }
 
-// An answer's number, what it names, and its words.
-pub fn answer(which: &[u8], x: Answer) {
-    word(which);
+// All 16 hex digits of a word as a field.
+pub fn bits(n: u64) {
     word(b"\t");
-    decimal(x.number);
-    word(b"\t");
-    decimal(x.place);
-    hex(x.a);
-    hex(x.b);
-    hex(x.c);
-    hex(x.d);
-    word(b"\n");
+    io::print_hex(STDOUT_FILENO, n, 16);
 }
 
 pub fn fault(what: &[u8]) {
     word(what);
     word(b"\n");
+}
+
+// An answer as six words.
+fn answer(whose: &[u8], words: &[u64; 6]) {
+    word(whose);
+    bits(words[0]);
+    bits(words[1]);
+    bits(words[2]);
+    bits(words[3]);
+    bits(words[4]);
+    bits(words[5]);
+    word(b"\n");
+}
+
+fn is_same_answer(a: &[u64; 6], b: &[u64; 6]) -> bool {
+    let mut i = 0;
+    while i < 6 {
+        if a[i] != b[i] {
+            return false;
+        }
+        i += 1;
+    }
+    true
+}
+
+// Whether an answer is the wanted one; prints both if it is not. `whose` is the one that it was wanted from.
+pub fn is_right(whose: &[u8], wanted: &[u64; 6], got: &[u64; 6]) -> bool {
+    if is_same_answer(wanted, got) {
+        return true;
+    }
+    answer(whose, wanted);
+    answer(b"the port", got);
+    false
 }
 
 // Names the case if it is wrong, and answers 1 then and 0 otherwise.
@@ -46,14 +71,4 @@ pub fn count_wrong(case: u64, is_right: bool) -> u64
     decimal(case);
     word(b"\n");
     1
-}
-
-// Whether an answer is the wanted one. `whose` is the one that it was wanted from.
-pub fn is_right(whose: &[u8], wanted: Answer, got: Answer) -> bool {
-    if wanted.is_same(got) {
-        return true;
-    }
-    answer(whose, wanted);
-    answer(b"the port", got);
-    false
 }

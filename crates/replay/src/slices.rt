@@ -1,37 +1,37 @@
-// Slices as the cases need them: filled, lent in part, and compared.
+// Slices as the cases need them: lent in part, and compared.
 ghost use Rattle.io.specs.Counts.{Counts};
 
-pub fn fill(s: &mut [u64], word: u64) {
-    let mut i = 0;
-    while i < s.len() {
-        s[i] = word;
-        i += 1;
-    }
+// How many bytes of s are lent: n, at most all.
+pub fn part_of_bytes(s: &[u8], n: usize) -> usize
+    ensures { λ r. ⌜ Counts r (now (s .entry)) ⌝ }
+{
+    if n < s.len() { n } else { s.len() }
 }
 
-pub fn is_zero(s: &[u64]) -> bool {
+fn part_of_words(s: &[u64], n: usize) -> usize
+    ensures { λ r. ⌜ Counts r (now (s .entry)) ⌝ }
+{
+    if n < s.len() { n } else { s.len() }
+}
+
+// The same of a work slice.
+pub fn part(s: &[u64; 4096], n: usize) -> usize
+    ensures { λ r. ⌜ Counts r (now (s .entry)) ⌝ }
+{
+    part_of_words(s, n)
+}
+
+// Whether the first n words are zero.
+pub fn is_zero(s: &[u64], n: usize) -> bool {
+    let most = part_of_words(s, n);
     let mut i = 0;
-    while i < s.len() {
+    while i < most {
         if s[i] != 0 {
             return false;
         }
         i += 1;
     }
     true
-}
-
-// As much of s as is lent: n, at most its length.
-pub fn part(s: &[u64], n: usize) -> usize
-    ensures { λ r. ⌜ Counts r (now (s .entry)) ⌝ }
-{
-    if n < s.len() { n } else { s.len() }
-}
-
-// The same of bytes.
-pub fn part_of_bytes(s: &[u8], n: usize) -> usize
-    ensures { λ r. ⌜ Counts r (now (s .entry)) ⌝ }
-{
-    if n < s.len() { n } else { s.len() }
 }
 
 // Whether all bytes from a place on are this one.

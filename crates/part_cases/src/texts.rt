@@ -1,0 +1,91 @@
+// Listings and sheets: a case is a line, its text, and the lines that ask for something. Writes what each gives.
+ghost use Rattle.io.specs.Counts.{Counts};
+use super::listings;
+use super::sheets;
+use replay::line::Line;
+use replay::line::next_line;
+use replay::line::read_text;
+use replay::lists::MOST;
+use replay::memory::Lent;
+use replay::say::count;
+use replay::say::word;
+use replay::slices::part;
+
+// With its line feed.
+const LINE: usize = 71;
+
+// The next line of the list that begins a case or asks for something.
+pub fn next(list: i32) -> Line {
+    next_line(list, LINE)
+}
+
+// Puts the text of a case at the start of a slice, and answers how long it is.
+pub fn read(list: i32, line: Line, text: &mut [u8]) -> usize
+    ensures { λ r. ⌜ Counts r (now (text .exit)) ⌝ }
+{
+    read_text(list, text, (line.fields[3] / 4294967296) as usize)
+}
+
+// A line that asks for something begins no case; where one stands in a case's place, the text before it was to be accepted.
+fn run_case(
+    list: i32,
+    line: Line,
+    tag: &mut [u64],
+    first: &mut [u64],
+    second: &mut [u64],
+    link: &mut [u64],
+    table: &mut [u64; 8192],
+) {
+    let kind = line.kind;
+    match kind {
+        b'a' => word(b"no case\n"),
+        b'v' => sheets::run(list, line, table),
+        _ => listings::run(list, line, tag, first, second, link, table),
+    }
+}
+
+fn say_case(number: u64) {
+    word(b"case");
+    count(number);
+    word(b"\n");
+}
+
+// The work slices and the table hold the word of a line that is marked, or what the case before left there.
+pub fn run(list: i32) {
+    let mut tag = [0; 4096];
+    let mut first = [0; 4096];
+    let mut second = [0; 4096];
+    let mut link = [0; 4096];
+    let mut table = [0; 8192];
+    let mut cases = 0;
+    while cases < MOST {
+        let line = next(list);
+        if line.is_none() {
+            break;
+        }
+        say_case(cases);
+        if line.mark == b'1' {
+            let junk = line.fields[1];
+            tag = [junk; 4096];
+            first = [junk; 4096];
+            second = [junk; 4096];
+            link = [junk; 4096];
+            table = [junk; 8192];
+        }
+        let lent = Lent::of(line.fields[2]);
+        let a = part(&tag, lent.tag);
+        let b = part(&first, lent.first);
+        let c = part(&second, lent.second);
+        let d = part(&link, lent.link);
+        run_case(
+            list,
+            line,
+            &mut tag[..a],
+            &mut first[..b],
+            &mut second[..c],
+            &mut link[..d],
+            &mut table,
+        );
+        cases += 1;
+    }
+}
