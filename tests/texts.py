@@ -1,8 +1,4 @@
-#!/usr/bin/env python3
-"""Makes the texts that the program texts reads, good and damaged, and what it has to write, by the model of texts_model.py.
-
-    python3 tests/texts.py            writes crates/texts/data/cases and crates/texts/stdout anew
-    python3 tests/texts.py --check    only says whether they are what it would write
+"""Makes listings and sheets, good and damaged, and what has to be written of each, by the model of texts_model.py.
 
 A case is a line, the bytes of its text, and lines that ask for something. A line is two letters and four fields of 16 hex digits:
     p   a listing; s one that may have s lines; v a value sheet. With 1 as the second letter the work slices and the table are filled
@@ -16,10 +12,8 @@ v, m and t rows. Then what was asked for, a written listing or a value's bits, o
 written as, and `same` where that reads back and is written as the same bytes. A written listing is followed by `wrote` and its
 length, or it is `refused` with number and place; and then by `kept` if all other bytes of the output are as they were.
 """
-import os
 import random
 import re
-import sys
 
 from texts_model import (
     DEEPEST, INF, LARGEST, NAN, NODE_LINES, OPERATIONS, SIGN, Refused, read_listing, read_sheet, written)
@@ -645,26 +639,9 @@ GROUPS = (
     operands, look_ups, random_sheets)
 
 
-def settle(path, content):
-    """Writes a file, or only looks whether it is there as it should be."""
-    if sys.argv[1:] != ['--check']:
-        with open(path, 'wb') as f:
-            f.write(content)
-        return
-    with open(path, 'rb') as f:
-        if f.read() != content:
-            sys.exit('%s is not what this script makes' % path)
-
-
-def main():
+def made():
+    """The cases, and what the program has to write of each."""
     c = Cases()
     for group in GROUPS:
         group(c)
-    folder = os.path.join(os.path.dirname(os.path.dirname(os.path.abspath(__file__))), 'crates', 'texts')
-    settle(os.path.join(folder, 'data', 'cases'), b''.join(c.data))
-    settle(os.path.join(folder, 'stdout'), b''.join(c.answers))
-    print('%d texts' % len(c.data))
-
-
-if __name__ == '__main__':
-    main()
+    return c.data, c.answers

@@ -1,4 +1,4 @@
-// Stores some hundreds of cases of every outcome with the Rust's answers, in the form that the program rust_cases
+// Stores some hundreds of cases of every outcome with the Rust's answers, in the form that the program call_cases
 // reads, or says whether a file has them. The port is not asked. tests/rust/run builds it.
 #![allow(dead_code)] // what only the comparison uses
 mod arithmetic;

@@ -1,8 +1,4 @@
-#!/usr/bin/env python3
-"""Makes the list that the program complex_vectors runs, with the right answers, worked out in whole numbers: no float enters one.
-
-    python3 tests/complex_vectors.py            writes crates/complex_vectors/stdin and stdout anew
-    python3 tests/complex_vectors.py --check    only says whether they are what it would write
+"""Makes vectors for complex numbers with the right answers, worked out in whole numbers: no float enters one.
 
 A double is its 64 bits. A finite one is a whole number of least subnormals (2^-1074); sums, products and quotients of such
 numbers are exact fractions, which `rounded` takes to the nearest double, ties to even. A line of the list is an operation, four
@@ -15,9 +11,7 @@ operands and the two answers, each of 16 hex digits:
     z         a+bi; whether zero, whether one
     k         the number of a constant; its parts
 """
-import os
 import random
-import sys
 from math import isqrt
 
 SIGN, INF, NAN, ONE = 1 << 63, 0x7FF << 52, 0x7FF8 << 48, 0x3FF << 52
@@ -261,23 +255,10 @@ def vectors():
         yield 'k', k, 0, 0, 0
 
 
-def main():
+def made():
+    """The lines of the list, and what the program has to write of it."""
     lines = []
     for op, a, b, c, d in vectors():
         x, y = answer(op, a, b, c, d)
-        lines.append('%s\t%016X\t%016X\t%016X\t%016X\t%016X\t%016X\n' % (op, a, b, c, d, x, y))
-    folder = os.path.join(os.path.dirname(os.path.dirname(os.path.abspath(__file__))), 'crates', 'complex_vectors')
-    files = {'stdin': ''.join(lines), 'stdout': '%d vectors, 0 wrong\n' % len(lines)}
-    for name, text in files.items():
-        path = os.path.join(folder, name)
-        if sys.argv[1:] == ['--check']:
-            with open(path) as f:
-                if f.read() != text:
-                    sys.exit('%s is not what this script makes' % path)
-        else:
-            with open(path, 'w') as f:
-                f.write(text)
-    print('%d vectors' % len(lines))
-
-
-main()
+        lines.append(b'%c\t%016X\t%016X\t%016X\t%016X\t%016X\t%016X\n' % (op.encode(), a, b, c, d, x, y))
+    return lines, [b'vectors: %d cases, 0 wrong\n' % len(lines)]

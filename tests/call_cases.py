@@ -1,13 +1,13 @@
 #!/usr/bin/env python3
-"""Makes the cases that the program tape_cases replays, with the right answers, by the model of tape_model.py.
+"""Makes lists of cases that the program call_cases replays, with the right answers, by the model of tape_model.py.
 
-    python3 tests/tape_cases.py            writes crates/tape_cases/data, args and stdout anew
-    python3 tests/tape_cases.py --check    only says whether they are what it would write
+    python3 tests/call_cases.py            writes these lists of crates/call_cases/data anew, and args and stdout
+    python3 tests/call_cases.py --check    only says whether they are what it would write
 
-Both also play, by the model, what is stored of the Rust's evaluations for the program rust_cases, and say whether each value is the
-Rust's and whether that program's stdout has the right numbers of tapes.
+Both also play, by the model, the evaluations in the list `rust`, which tests/rust/run stores: whether each value is the Rust's, and how
+many tapes the program has to play.
 
-A file of data is a list of cases: `sound` and `damaged` tapes, `picks` between two of them, `listings` to compile, `plays` of a tape with
+A list of cases is a file of data: `sound` and `damaged` tapes, `picks` between two of them, `listings` to compile, `plays` of a tape with
 a sheet. A case is a line and then its texts and tapes. The line is a letter, a 1 and eleven fields of 16 hex digits, each after a tab:
     k       check a tape; p pick one of two tapes; c compile a listing; y play a tape with a sheet
     1       the word that the work slices and the table are filled with before
@@ -24,6 +24,7 @@ import os
 import random
 import sys
 
+from stored import CRATES, hold_program
 from tape_model import (
     FUNCTION, FUNCTIONS, INFIX, MEMORY, NUMBER, OPERATORS, PI, PREFIX, SIGNS, STACK, STEP, STEPS, VARIABLE, Need, bad_step, compiled,
     picked, played, step)
@@ -582,11 +583,11 @@ def any_plays(c):
     c.play(left, b'')
 
 
-# ---- the evaluations that the Rust answered, which the program rust_cases compiles and plays too
+# ---- the list that tests/rust/run stores, whose evaluations the program also compiles and plays
 
-def rust_evaluations(path):
-    """The listing, the sheet, the room for nodes and the stored answer of each; tests/rust/README.md has the form."""
-    with open(path, 'rb') as f:
+def stored_cases():
+    """The letter, the listing, the sheet, the room for nodes and the stored answer of each; tests/rust/README.md has the form."""
+    with open(os.path.join(CRATES, 'call_cases', 'data', 'rust'), 'rb') as f:
         data = f.read()
     at = 0
     while at < len(data):
@@ -594,9 +595,8 @@ def rust_evaluations(path):
         texts, outputs = int(texts, 16), int(outputs, 16)
         middle = at + 190 + (texts >> 32)
         end = middle + texts % (1 << 32)
-        if kind[:1] == b'e':
-            nodes = min(int(lent[4 * k:4 * k + 4], 16) for k in range(4))
-            yield data[at + 190:middle], data[middle:end], nodes, tuple(int(x, 16) for x in answer[:6])
+        nodes = min(int(lent[4 * k:4 * k + 4], 16) for k in range(4))
+        yield kind[:1], data[at + 190:middle], data[middle:end], nodes, tuple(int(x, 16) for x in answer[:6])
         at = end + outputs % (1 << 32)
 
 
@@ -604,10 +604,12 @@ def one_zero(answer):
     return tuple(0 if x == SIGN and answer[0] == 0 else x for x in (*answer, 0, 0, 0, 0)[:6])
 
 
-def rust_tapes(path):
-    """What rust_cases has to say of the tapes, where the model's answers are the Rust's, zeros of either sign as one."""
-    counts = {0: 0, 14: 0, 8: 0}
-    for listing, sheet, nodes, wanted in rust_evaluations(path):
+def rust_said():
+    """What has to be said of the list, where the model's answers are the Rust's, zeros of either sign as one."""
+    cases, counts = list(stored_cases()), {0: 0, 14: 0, 8: 0}
+    for kind, listing, sheet, nodes, wanted in cases:
+        if kind != b'e':
+            continue
         try:
             got = answer_of(compiled(listing, nodes, TAPE), sheet)
             counts[0] += 1
@@ -616,39 +618,20 @@ def rust_tapes(path):
             counts[14 if why.number == 14 else 8] += 1
         if one_zero(got) != one_zero(wanted):
             sys.exit('the model answers %s where the Rust answers %s to\n%s' % (got, wanted, listing.decode()))
-    return '%d compiled and played, %d too long for a tape, %d refused\n' % tuple(counts.values())
-
-
-def hold(path, content, is_check):
-    """Writes a file, or stops where it is not this."""
-    if is_check:
-        with open(path, 'rb') as f:
-            if f.read() != content:
-                sys.exit('%s is not what this script makes' % path)
-    else:
-        with open(path, 'wb') as f:
-            f.write(content)
+    tapes = '%d compiled and played, %d too long for a tape, %d refused\n' % tuple(counts.values())
+    return 'rust: %d cases, 0 wrong\n' % len(cases) + tapes
 
 
 def main():
-    c, is_check = Cases(), sys.argv[1:] == ['--check']
+    c = Cases()
     for cases in (
             unused_fields, unused_bytes, codes, nans, cuts, lengths, heights, pops, counts, several, all_steps, all_numbers, picks,
             small_listings, other_listings, long_listings, refused_listings, arithmetic, functions, lacks, refused_plays, any_plays):
         cases(c)
-    crates = os.path.join(os.path.dirname(os.path.dirname(os.path.abspath(__file__))), 'crates')
-    folder = os.path.join(crates, 'tape_cases')
-    said = ''.join('%s: %d cases, 0 wrong\n' % (name, len(cases)) for name, cases in c.lists.items())
-    for name, cases in c.lists.items():
-        hold(os.path.join(folder, 'data', name), b''.join(cases), is_check)
-    hold(os.path.join(folder, 'args'), ''.join(name + '\n' for name in c.lists).encode(), is_check)
-    hold(os.path.join(folder, 'stdout'), said.encode(), is_check)
+    said = rust_said() + ''.join('%s: %d cases, 0 wrong\n' % (name, len(cases)) for name, cases in c.lists.items())
+    lists = {name: b''.join(cases) for name, cases in c.lists.items()}
+    hold_program('call_cases', lists, ['rust', *lists], said.encode())
     print(said, end='')
-    tapes, path = rust_tapes(os.path.join(crates, 'rust_cases', 'data', 'cases')), os.path.join(crates, 'rust_cases', 'stdout')
-    with open(path) as f:
-        if tapes not in f:
-            sys.exit('%s does not say: %s' % (path, tapes))
-    print('from the Rust: ' + tapes, end='')
 
 
 main()

@@ -1,8 +1,4 @@
-#!/usr/bin/env python3
-"""Makes the commands that the program store_cases obeys, and what it has to write, by a model that knows trees and no store.
-
-    python3 tests/store_cases.py            writes crates/store_cases/stdin and stdout anew
-    python3 tests/store_cases.py --check    only says whether they are what it would write
+"""Makes commands for a store, and what each has to give, by a model that knows trees and no store.
 
 A line of the commands is a letter, a digit and two fields of 16 hex digits:
     j   fill the four arrays with a word
@@ -16,9 +12,7 @@ What an add is to answer: `node`, its number, the count of nodes, the number of 
 simplify calls), size, depth, class and the node itself; or `refused` with number and place.
 """
 import hashlib
-import os
 import random
-import sys
 
 WHOLE, LARGEST, DEEPEST = 4096, 1000000, 64
 SIGN, INF, NAN, ONE, TWO = 1 << 63, 0x7FF << 52, 0x7FF8 << 48, 0x3FF << 52, 1 << 62
@@ -395,22 +389,9 @@ def mixed(m):
         m.clear()
 
 
-def main():
+def made():
+    """The commands, and what the program has to write of each."""
     m = Model()
     for case in (capacities, again, zeros, largest, deepest, together, full, mixed):
         case(m)
-    folder = os.path.join(os.path.dirname(os.path.dirname(os.path.abspath(__file__))), 'crates', 'store_cases')
-    files = {'stdin': ''.join(m.commands), 'stdout': ''.join(m.answers)}
-    for name, text in files.items():
-        path = os.path.join(folder, name)
-        if sys.argv[1:] == ['--check']:
-            with open(path) as f:
-                if f.read() != text:
-                    sys.exit('%s is not what this script makes' % path)
-        else:
-            with open(path, 'w') as f:
-                f.write(text)
-    print('%d commands' % len(m.commands))
-
-
-main()
+    return [line.encode() for line in m.commands], [line.encode() for line in m.answers]
