@@ -6,6 +6,7 @@ use complex::bits::from_bits;
 use expression::ExpressionFunction;
 use expression::InfixOperator;
 use expression::PrefixOperator;
+use expression::node::Expression;
 use replay::line::Line;
 use replay::line::next_line;
 use replay::lists::MOST;
@@ -15,7 +16,6 @@ use replay::say::word;
 use replay::slices::part;
 use store::Added;
 use store::Kept;
-use expression::node::Expression;
 
 // With its line feed.
 const LINE: usize = 38;

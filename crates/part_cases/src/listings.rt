@@ -8,8 +8,6 @@ use listing::Listing;
 use listing::Swap;
 use listing::read_listing;
 use listing::swap_of;
-use writing::Written;
-use writing::write_listing;
 use replay::line::Line;
 use replay::memory::BLANK;
 use replay::say::count;
@@ -17,6 +15,8 @@ use replay::say::word;
 use replay::slices::is_all;
 use replay::slices::is_same;
 use replay::slices::part_of_bytes;
+use writing::Written;
+use writing::write_listing;
 
 // What a table holds before it is used for writing.
 const JUNK: u64 = 0xdead_beef_0001_0001;
