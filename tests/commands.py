@@ -9,7 +9,7 @@ A line of the commands is a letter, a digit and two fields of 16 hex digits:
     k   keep the second node as the result of the first; r recall the result of a node; e compare two nodes
     c   clear the parts that are lent; the answer counts what is not zero in each whole array
 What an add is to answer: `node`, its number, the count of nodes, the number of the command (which an add passes on as the count of
-simplify calls), size, depth, class and the node itself; or `refused` with number and place.
+simplify calls), size, depth, class and the node itself, as a line of a listing; or `refused` with number and place.
 """
 import hashlib
 import random
@@ -95,7 +95,7 @@ class Model:
 
     def number(self, re, im):
         x, y = canonical(re), canonical(im)
-        return self.add('n', 0, re, im, Tree('n', '', [x, y], []), 'n\t%016x\t%016x' % (x, y))
+        return self.add('n', 0, re, im, Tree('n', '', [x, y], []), 'n\t%016X\t%016X' % (x, y))
 
     def pi(self):
         return self.add('p', 0, 0, 0, Tree('p', '', [], []), 'p')

@@ -6,8 +6,9 @@ use exports::findavoreb_play;
 use exports::findavoreb_simplify;
 use exports::findavoreb_substitute;
 use exports::findavoreb_to_real;
-use replay::memory::BLANK;
-use replay::memory::is_clear;
+use memory::layout::TABLE_WORDS;
+use replay::lent::BLANK;
+use replay::lent::is_clear;
 use replay::say;
 use replay::slices::is_zero;
 use replay::slices::part;
@@ -30,7 +31,7 @@ fn call(
     first: &mut [u64],
     second: &mut [u64],
     link: &mut [u64],
-    table: &mut [u64; 8192],
+    table: &mut [u64; TABLE_WORDS],
     out: &mut [u8],
     words: &mut [u64; 6],
 ) {
@@ -63,7 +64,7 @@ pub fn ask(kind: u8, case: Case, text: &[u8], sheet: &[u8], room: usize) -> Told
     let mut first = [junk; 4096];
     let mut second = [junk; 4096];
     let mut link = [junk; 4096];
-    let mut table = [junk; 8192];
+    let mut table = [junk; TABLE_WORDS];
     let mut paper = [BLANK; 32768];
     let mut words = [junk; 6];
     let a = part(&tag, lent.tag);
@@ -92,14 +93,14 @@ pub fn ask(kind: u8, case: Case, text: &[u8], sheet: &[u8], room: usize) -> Told
     }
 }
 
-fn is_table_clear(table: &[u64; 8192]) -> bool {
-    is_zero(table, 8192)
+fn is_table_clear(table: &[u64; TABLE_WORDS]) -> bool {
+    is_zero(table, TABLE_WORDS)
 }
 
 // Playing is lent the table alone.
 pub fn play(case: Case, tape: &[u8], sheet: &[u8]) -> Told {
     let junk = case.junk;
-    let mut table = [junk; 8192];
+    let mut table = [junk; TABLE_WORDS];
     let mut words = [junk; 6];
     findavoreb_play(tape, sheet, &mut table, &mut words);
     let is_clear = is_table_clear(&table);

@@ -1,8 +1,8 @@
 // A case of the public calls as a line of a list has it; tests/call_cases.py and tests/rust/README.md say what each field
 // stands for.
+use replay::lent::Lent;
 use replay::line::Line;
 use replay::line::next_line;
-use replay::memory::Lent;
 
 // With its line feed.
 const LINE: usize = 190;

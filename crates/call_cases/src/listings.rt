@@ -8,8 +8,8 @@ use super::digits::read_tape;
 use super::evaluations;
 use super::evaluations::is_value;
 use super::outcome::Outcome;
+use replay::lent::is_written;
 use replay::line::read_text;
-use replay::memory::is_written;
 use replay::say;
 
 // What has to be written follows in the list: a tape in digits, or a listing as it is.

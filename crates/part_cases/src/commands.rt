@@ -1,16 +1,16 @@
 // Commands for a store, which is built in parts of four arrays: each is obeyed, and a line says what it gives.
 use super::nodes;
-use super::say::refused;
+use super::say::refused_text;
 use complex::Complex;
 use complex::bits::from_bits;
 use expression::ExpressionFunction;
 use expression::InfixOperator;
 use expression::PrefixOperator;
 use expression::node::Expression;
+use replay::lent::Lent;
 use replay::line::Line;
 use replay::line::next_line;
 use replay::lists::MOST;
-use replay::memory::Lent;
 use replay::say::count;
 use replay::say::word;
 use replay::slices::part;
@@ -74,7 +74,7 @@ fn say_added(
             nodes
         }
         Added::Refused(why) => {
-            refused(why);
+            refused_text(why);
             before
         }
     }
@@ -137,27 +137,19 @@ fn say_compared(is_equal: bool) {
     }
 }
 
-// How many nodes there are after a command.
-fn nodes_after(kind: u8, given: Given, before: usize) -> usize {
-    if let Given::Nodes(nodes) = given {
-        return nodes;
-    }
-    match kind {
-        b's' | b'c' => 0,
-        _ => before,
-    }
-}
-
 // Says what a command has given, and answers how many nodes there are then.
-fn say_given(kind: u8, given: Given, nodes: usize) -> usize {
+fn say_given(kind: u8, given: Given, before: usize) -> usize {
     match given {
+        Given::Nodes(nodes) => return nodes,
         Given::Nothing => say_obeyed(kind),
-        Given::Nodes(_) => (),
         Given::Recalled(answer) => say_recalled(answer),
         Given::Compared(is_equal) => say_compared(is_equal),
     }
     word(b"\n");
-    nodes_after(kind, given, nodes)
+    match kind {
+        b's' | b'c' => 0,
+        _ => before,
+    }
 }
 
 // How many elements are not zero.

@@ -8,8 +8,9 @@ use listing::Listing;
 use listing::Swap;
 use listing::read_listing;
 use listing::swap_of;
+use memory::layout::TABLE_WORDS;
+use replay::lent::BLANK;
 use replay::line::Line;
-use replay::memory::BLANK;
 use replay::say::count;
 use replay::say::word;
 use replay::slices::is_all;
@@ -77,7 +78,7 @@ fn write(
     first: &[u64],
     second: &[u64],
     at: usize,
-    table: &mut [u64; 8192],
+    table: &mut [u64; TABLE_WORDS],
     paper: &mut [u8],
     room: usize,
 ) -> usize {
@@ -89,7 +90,7 @@ fn write(
 
 // Writes a node with a table of its own, so that the s lines stay where they are.
 fn write_apart(tag: &[u64], first: &[u64], second: &[u64], at: usize, room: usize) {
-    let mut table = [JUNK; 8192];
+    let mut table = [JUNK; TABLE_WORDS];
     let mut paper = [BLANK; 40960];
     write(tag, first, second, at, &mut table, &mut paper, room);
 }
@@ -155,7 +156,7 @@ fn say_same(
     tag: &[u64],
     first: &[u64],
     second: &[u64],
-    table: &mut [u64; 8192],
+    table: &mut [u64; TABLE_WORDS],
 ) {
     let mut paper = [BLANK; 40960];
     match answer {
@@ -180,7 +181,7 @@ fn write_back(
     first: &mut [u64],
     second: &mut [u64],
     link: &mut [u64],
-    table: &mut [u64; 8192],
+    table: &mut [u64; TABLE_WORDS],
 ) {
     if NONE <= root {
         return;
@@ -201,7 +202,7 @@ pub fn run(
     first: &mut [u64],
     second: &mut [u64],
     link: &mut [u64],
-    table: &mut [u64; 8192],
+    table: &mut [u64; TABLE_WORDS],
 ) {
     let mut text = [0u8; 81920];
     let n = texts::read(list, line, &mut text);

@@ -6,6 +6,7 @@ use super::texts::next;
 use complex::Complex;
 use complex::bits::from_bits;
 use expression::refusal::Operation;
+use memory::layout::TABLE_WORDS;
 use replay::line::Line;
 use replay::say::count;
 use replay::say::word;
@@ -17,7 +18,7 @@ use sheet::function_value;
 use sheet::read_sheet;
 use sheet::variable;
 
-pub fn run(list: i32, line: Line, table: &mut [u64; 8192]) {
+pub fn run(list: i32, line: Line, table: &mut [u64; TABLE_WORDS]) {
     let mut text = [0u8; 81920];
     let n = texts::read(list, line, &mut text);
     match read_sheet(&text[..n], table) {

@@ -2,11 +2,12 @@
 ghost use Rattle.io.specs.Counts.{Counts};
 use super::listings;
 use super::sheets;
+use memory::layout::TABLE_WORDS;
+use replay::lent::Lent;
 use replay::line::Line;
 use replay::line::next_line;
 use replay::line::read_text;
 use replay::lists::MOST;
-use replay::memory::Lent;
 use replay::say::count;
 use replay::say::word;
 use replay::slices::part;
@@ -34,7 +35,7 @@ fn run_case(
     first: &mut [u64],
     second: &mut [u64],
     link: &mut [u64],
-    table: &mut [u64; 8192],
+    table: &mut [u64; TABLE_WORDS],
 ) {
     let kind = line.kind;
     match kind {
@@ -56,7 +57,7 @@ pub fn run(list: i32) {
     let mut first = [0; 4096];
     let mut second = [0; 4096];
     let mut link = [0; 4096];
-    let mut table = [0; 8192];
+    let mut table = [0; TABLE_WORDS];
     let mut cases = 0;
     while cases < MOST {
         let line = next(list);
@@ -70,7 +71,7 @@ pub fn run(list: i32) {
             first = [junk; 4096];
             second = [junk; 4096];
             link = [junk; 4096];
-            table = [junk; 8192];
+            table = [junk; TABLE_WORDS];
         }
         let lent = Lent::of(line.fields[2]);
         let a = part(&tag, lent.tag);

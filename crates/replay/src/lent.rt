@@ -5,6 +5,7 @@ use super::slices::is_all;
 use super::slices::is_same;
 use super::slices::is_zero;
 use super::slices::part_of_bytes;
+use memory::layout::TABLE_WORDS;
 
 // What the paper of an output has everywhere before something is written there.
 pub const BLANK: u8 = 0xa5;
@@ -36,7 +37,7 @@ pub fn is_clear(
     first: &[u64; 4096],
     second: &[u64; 4096],
     link: &[u64; 4096],
-    table: &[u64; 8192],
+    table: &[u64; TABLE_WORDS],
 ) -> bool {
     if !is_zero(tag, lent.tag) {
         return false;
@@ -50,7 +51,7 @@ pub fn is_clear(
     if !is_zero(link, lent.link) {
         return false;
     }
-    is_zero(table, 8192)
+    is_zero(table, TABLE_WORDS)
 }
 
 // Whether a paper begins with the wanted bytes, and the others are blank.
