@@ -1,6 +1,10 @@
 // Times simplifying by the crate timed against the Rust's own `into_simplified`, which is at limit 10 (the library of
 // tests/rust/oracle), on the same trees. bench/run builds it; an argument asks for more rounds.
-use common::{Random, line, listing, now, packed, quartiles, rows};
+use common::{
+    Random,
+    lent::{Store, TABLE},
+    line, listing, now, packed, quartiles, rows,
+};
 use oracle::{
     expression::{Expression, ExpressionFunction, InfixOperator, PrefixOperator, simplified},
     nodes::{Node, number_of, trees},
@@ -11,7 +15,6 @@ use std::{collections::HashMap, hint::black_box};
 mod common;
 
 const LIMIT: u64 = 10;
-const TABLE: usize = 8192;
 const ROOM: usize = 4096;
 const OUT: usize = 1 << 16; // more bytes than a listing of 1024 lines has
 const SIZES: [usize; 6] = [5, 20, 60, 200, 500, 1000];
@@ -23,23 +26,20 @@ const SEED: u64 = 0xA076_1D64_78BD_642F;
 
 unsafe extern "C" {
     fn timed_read_job(
-        list: *const u8, list_len: usize, values: *const u8, values_len: usize, tag: *mut u64, tag_len: usize,
-        first: *mut u64, first_len: usize, second: *mut u64, second_len: usize, link: *mut u64, link_len: usize,
-        table: *mut u64, table_len: usize,
+        list: *const u8, list_len: usize, values: *const u8, values_len: usize, store: *mut [u64; 4], rows: usize,
+        desk: *mut u64, table: *mut u64, table_len: usize,
     ) -> u64;
     fn timed_simplify(
-        limit: u64, tag: *mut u64, tag_len: usize, first: *mut u64, first_len: usize, second: *mut u64,
-        second_len: usize, link: *mut u64, link_len: usize, table: *const u64, table_len: usize, variables: usize,
-        cells: usize, functions: usize, node: usize, nodes: usize,
+        limit: u64, store: *mut [u64; 4], rows: usize, desk: *mut u64, table: *const u64, table_len: usize,
+        variables: usize, cells: usize, functions: usize, node: usize,
     ) -> u64;
     fn timed_write_node(
-        tag: *const u64, tag_len: usize, first: *const u64, first_len: usize, second: *const u64, second_len: usize,
-        table: *mut u64, table_len: usize, out: *mut u8, out_len: usize, node: usize, nodes: usize,
+        store: *mut [u64; 4], rows: usize, desk: *const u64, table: *mut u64, table_len: usize, out: *mut u8,
+        out_len: usize, node: usize,
     ) -> u64;
     fn timed_simplify_texts(
-        list: *const u8, list_len: usize, values: *const u8, values_len: usize, limit: u64, tag: *mut u64,
-        tag_len: usize, first: *mut u64, first_len: usize, second: *mut u64, second_len: usize, link: *mut u64,
-        link_len: usize, table: *mut u64, out: *mut u8, out_len: usize,
+        list: *const u8, list_len: usize, values: *const u8, values_len: usize, limit: u64, store: *mut [u64; 4],
+        rows: usize, desk: *mut u64, table: *mut u64, out: *mut u8, out_len: usize,
     ) -> u64;
 }
 
@@ -166,20 +166,6 @@ impl Paper {
 
 // ---- here
 
-// The slices that are lent. What they hold at first does not matter.
-#[derive(Clone)]
-struct Store([Vec<u64>; 4]);
-
-impl Store {
-    fn new(room: usize) -> Store {
-        Store([1, 2, 3, 4].map(|k| vec![u64::MAX / k; room]))
-    }
-
-    fn copy_from(&mut self, other: &Store) {
-        self.0.iter_mut().zip(&other.0).for_each(|(to, from)| to.copy_from_slice(from));
-    }
-}
-
 // The sheet of some trees, as it was read.
 struct Sheet {
     text: Vec<u8>,
@@ -211,51 +197,48 @@ impl Sheet {
         Sheet { text: rows(asked).into_bytes(), table: vec![u64::MAX; TABLE], rows: [0; 3] }
     }
 
-    // Reads a listing and the sheet: the root and the count of nodes.
-    fn read(&mut self, list: &[u8], store: &mut Store) -> [usize; 2] {
-        let [tag, first, second, link] = &mut store.0;
+    // Reads a listing and the sheet: the node of the root.
+    fn read(&mut self, list: &[u8], Store { rows, desk }: &mut Store) -> usize {
         let read = unsafe {
             timed_read_job(
-                list.as_ptr(), list.len(), self.text.as_ptr(), self.text.len(), tag.as_mut_ptr(), tag.len(),
-                first.as_mut_ptr(), first.len(), second.as_mut_ptr(), second.len(), link.as_mut_ptr(), link.len(),
-                self.table.as_mut_ptr(), TABLE,
+                list.as_ptr(), list.len(), self.text.as_ptr(), self.text.len(), rows.as_mut_ptr(), rows.len(),
+                desk.as_mut_ptr(), self.table.as_mut_ptr(), TABLE,
             )
         };
         assert_eq!(packed::refused(read), 0, "what is drawn here is read");
         self.rows = packed::rows(read);
-        [packed::node(read), packed::nodes(read)]
+        packed::node(read)
     }
 
     #[inline(never)]
-    fn simplify(&self, store: &mut Store, [root, nodes]: [usize; 2]) -> u64 {
-        let ([tag, first, second, link], [variables, cells, functions]) = (&mut store.0, self.rows);
+    fn simplify(&self, Store { rows, desk }: &mut Store, root: usize) -> u64 {
+        let [variables, cells, functions] = self.rows;
         unsafe {
             timed_simplify(
-                LIMIT, tag.as_mut_ptr(), tag.len(), first.as_mut_ptr(), first.len(), second.as_mut_ptr(), second.len(),
-                link.as_mut_ptr(), link.len(), self.table.as_ptr(), TABLE, variables, cells, functions, root, nodes,
+                LIMIT, rows.as_mut_ptr(), rows.len(), desk.as_mut_ptr(), self.table.as_ptr(), TABLE, variables, cells,
+                functions, root,
             )
         }
     }
 
     // The whole call, into an output.
-    fn simplify_texts(&self, list: &[u8], Store([tag, first, second, link]): &mut Store, table: &mut [u64], out: &mut [u8]) -> Answer {
+    fn simplify_texts(&self, list: &[u8], Store { rows, desk }: &mut Store, table: &mut [u64], out: &mut [u8]) -> Answer {
         assert_eq!(table.len(), TABLE);
         Answer::bytes(unsafe {
             timed_simplify_texts(
-                list.as_ptr(), list.len(), self.text.as_ptr(), self.text.len(), LIMIT, tag.as_mut_ptr(), tag.len(),
-                first.as_mut_ptr(), first.len(), second.as_mut_ptr(), second.len(), link.as_mut_ptr(), link.len(),
-                table.as_mut_ptr(), out.as_mut_ptr(), out.len(),
+                list.as_ptr(), list.len(), self.text.as_ptr(), self.text.len(), LIMIT, rows.as_mut_ptr(), rows.len(),
+                desk.as_mut_ptr(), table.as_mut_ptr(), out.as_mut_ptr(), out.len(),
             )
         })
     }
 }
 
-fn written(Store([tag, first, second, _]): &Store, answer: Answer) -> Vec<u8> {
+// Writing uses the links of the rows up.
+fn written(Store { mut rows, desk }: Store, answer: Answer) -> Vec<u8> {
     let (mut table, mut out) = (vec![u64::MAX; TABLE], vec![0; OUT]);
     let word = unsafe {
         timed_write_node(
-            tag.as_ptr(), tag.len(), first.as_ptr(), first.len(), second.as_ptr(), second.len(), table.as_mut_ptr(),
-            TABLE, out.as_mut_ptr(), OUT, answer.at, answer.nodes,
+            rows.as_mut_ptr(), rows.len(), desk.as_ptr(), table.as_mut_ptr(), TABLE, out.as_mut_ptr(), OUT, answer.at,
         )
     };
     assert_eq!(packed::refused(word), 0);
@@ -271,7 +254,7 @@ struct Tree {
     list: Vec<u8>,
     read: Store, // as it was read; each run has a copy of it
     work: Store,
-    root: [usize; 2],
+    root: usize,
     answer: Answer,
 }
 
@@ -345,7 +328,7 @@ impl Sheet {
         let mut out = vec![0; OUT];
         let whole = self.simplify_texts(&list, &mut all, &mut vec![u64::MAX; TABLE], &mut out);
         out.truncate(whole.at);
-        for bytes in [out, written(&work, answer)] {
+        for bytes in [out, written(work.clone(), answer)] {
             assert!(bytes == paper.text.as_bytes(), "{} is not\n{}", String::from_utf8_lossy(&bytes), paper.text);
         }
         assert_eq!((whole.refused, whole.calls), (0, calls));
@@ -460,7 +443,7 @@ fn store_rows(size: usize, rounds: usize) {
             }
         };
         for (k, (sheet, mut tree)) in job.into_iter().enumerate() {
-            before[k] += tree.root[1] as f64 / rounds as f64;
+            before[k] += tree.read.nodes() as f64 / rounds as f64;
             let mut time = || {
                 tree.work.copy_from(&tree.read);
                 let start = now();
@@ -494,13 +477,12 @@ fn fill(tree: &[Node], filled: &[Node], roots: &[usize]) -> Option<Vec<(Sheet, T
         let mut tree = trees.pop().expect("a tree");
         for root in roots {
             // lines that come first have the same nodes in a store of their own
-            let [node, _] = Sheet::new(&[]).read(&listing(&filled[..=*root]), &mut Store::new(ROOM));
-            let answer = Answer::node(sheet.simplify(&mut tree.read, [node, tree.root[1]]));
-            if answer.refused != 0 {
+            let node = Sheet::new(&[]).read(&listing(&filled[..=*root]), &mut Store::new(ROOM));
+            if packed::refused(sheet.simplify(&mut tree.read, node)) != 0 {
                 return None;
             }
-            tree.root[1] = answer.nodes;
         }
+        tree.read.forget_calls();
         tree.work.copy_from(&tree.read);
         let answer = Answer::node(sheet.simplify(&mut tree.work, tree.root));
         if answer.refused != 0 {

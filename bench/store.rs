@@ -3,6 +3,8 @@
 // here is. bench/run builds it; an argument asks for more rounds.
 use std::{collections::HashSet, f64::consts::PI, hint::black_box, time::Instant};
 
+#[path = "common/lent.rs"]
+mod lent;
 #[path = "common/packed.rs"]
 mod packed;
 
@@ -16,12 +18,9 @@ const FILLS: usize = 32; // of each side at each size in a round
 const FINDS: usize = 8192; // likewise
 
 unsafe extern "C" {
-    fn timed_start(link: *mut u64, link_len: usize);
-    fn timed_add(
-        tag: *mut u64, tag_len: usize, first: *mut u64, first_len: usize, second: *mut u64, second_len: usize,
-        link: *mut u64, link_len: usize, n: usize, code: u64, a: u64, b: u64,
-    ) -> u64;
-    fn timed_class(link: *const u64, link_len: usize, i: usize) -> u64;
+    fn timed_start(desk: *mut u64);
+    fn timed_add(store: *mut [u64; 4], rows: usize, desk: *mut u64, code: u64, a: u64, b: u64) -> u64;
+    fn timed_class(store: *const [u64; 4], rows: usize, i: usize) -> u64;
 }
 
 // A node by its fields: the number of its kind with eight times that of its operator; and the bits of a number's
@@ -40,35 +39,22 @@ trait Store {
     fn class(&self, i: usize) -> u64;
 }
 
-struct Here([Vec<u64>; 4]);
-
-impl Here {
-    // What the slices hold before the first start does not matter.
-    fn new(room: usize) -> Here {
-        Here([1, 2, 3, 4].map(|k| vec![u64::MAX / k; room]))
-    }
-}
+type Here = lent::Store;
 
 impl Store for Here {
     fn start(&mut self) {
-        let link = &mut self.0[3];
-        unsafe { timed_start(link.as_mut_ptr(), link.len()) }
+        unsafe { timed_start(self.desk.as_mut_ptr()) }
     }
 
+    // How many nodes stand is on the desk.
     #[inline(always)]
-    fn add(&mut self, n: usize, node: Node) -> u64 {
-        let [tag, first, second, link] = &mut self.0;
+    fn add(&mut self, _: usize, node: Node) -> u64 {
         let Node { code, a, b } = node;
-        unsafe {
-            timed_add(
-                tag.as_mut_ptr(), tag.len(), first.as_mut_ptr(), first.len(), second.as_mut_ptr(), second.len(),
-                link.as_mut_ptr(), link.len(), n, code, a, b,
-            )
-        }
+        unsafe { timed_add(self.rows.as_mut_ptr(), self.rows.len(), self.desk.as_mut_ptr(), code, a, b) }
     }
 
     fn class(&self, i: usize) -> u64 {
-        unsafe { timed_class(self.0[3].as_ptr(), self.0[3].len(), i) }
+        unsafe { timed_class(self.rows.as_ptr(), self.rows.len(), i) }
     }
 }
 

@@ -1,7 +1,8 @@
 // Times tapes by the crate timed against the Rust's own `evaluate` (the library of tests/rust/oracle) and against
 // evaluating here, on the same trees and values: playing a tape, checking, compiling. bench/run builds it; an argument
 // asks for more rounds.
-use jobs::{FEW, Job, MIXES, Mix, SIZES, TABLE, Tree, Work, call_row, evaluated, median, ratio, rounds, rust, rust_again, time, times};
+use common::lent::TABLE;
+use jobs::{FEW, Job, MIXES, Mix, SIZES, Tree, Work, call_row, evaluated, median, ratio, rounds, rust, rust_again, time, times};
 use std::hint::black_box;
 
 mod common;
@@ -22,8 +23,7 @@ unsafe extern "C" {
         functions: usize, value: *mut u64, value_len: usize,
     ) -> u64;
     fn timed_compile(
-        tag: *const u64, tag_len: usize, first: *const u64, first_len: usize, second: *const u64, second_len: usize,
-        node: usize, below: usize, out: *mut u8, out_len: usize,
+        store: *const [u64; 4], rows: usize, node: usize, below: usize, out: *mut u8, out_len: usize,
     ) -> u64;
     fn timed_play_bytes(
         tape: *const u8, tape_len: usize, values: *const u8, values_len: usize, table: *mut u64, value: *mut u64,
@@ -63,12 +63,9 @@ fn checked(tape: &[u8]) -> u64 {
 // How many bytes of the tape there are.
 #[inline(never)]
 fn compiled(tree: &Tree, out: &mut [u8]) -> usize {
-    let [tag, first, second, _] = &tree.store.0;
+    let rows = &tree.store.rows;
     let bytes = unsafe {
-        timed_compile(
-            tag.as_ptr(), tag.len(), first.as_ptr(), first.len(), second.as_ptr(), second.len(), tree.root, tree.below,
-            out.as_mut_ptr(), out.len(),
-        )
+        timed_compile(rows.as_ptr(), rows.len(), tree.root, tree.below, out.as_mut_ptr(), out.len())
     };
     bytes as usize
 }

@@ -1,6 +1,8 @@
 // Times the texts of the crate timed against plain Rust (text/plain.rs) on the same bytes: reading a listing of 1024 lines and
 // a sheet of 1536, and writing a listing. bench/run builds it; an argument asks for more rounds.
+use lent::{Store, TABLE};
 use std::{
+    cell::RefCell,
     collections::{BTreeSet, HashSet, VecDeque, hash_map::RandomState},
     f64::consts::PI,
     fmt::Write,
@@ -10,13 +12,14 @@ use std::{
 
 #[path = "text/plain.rs"]
 mod again;
+#[path = "common/lent.rs"]
+mod lent;
 #[path = "common/packed.rs"]
 mod packed;
 #[path = "text/plain.rs"]
 mod rust;
 
 const ROOM: usize = 4096;
-const TABLE: usize = 8192;
 const OUT: usize = 1 << 16; // more bytes than a listing of 1024 lines has
 const LINES: u64 = 1024;
 const LARGEST: u64 = 1_000_000;
@@ -32,14 +35,14 @@ const TEXTS: usize = 16; // of each round
 
 unsafe extern "C" {
     fn timed_read_listing(
-        text: *const u8, text_len: usize, tag: *mut u64, tag_len: usize, first: *mut u64, first_len: usize,
-        second: *mut u64, second_len: usize, link: *mut u64, link_len: usize, table: *mut u64, table_len: usize,
+        text: *const u8, text_len: usize, store: *mut [u64; 4], rows: usize, desk: *mut u64, table: *mut u64,
+        table_len: usize,
     ) -> u64;
     fn timed_read_lines(text: *const u8, text_len: usize, table: *mut u64, table_len: usize) -> u64;
     fn timed_read_sheet(text: *const u8, text_len: usize, table: *mut u64, table_len: usize) -> u64;
     fn timed_write_listing(
-        tag: *const u64, tag_len: usize, first: *const u64, first_len: usize, second: *const u64, second_len: usize,
-        root: usize, table: *mut u64, table_len: usize, out: *mut u8, out_len: usize,
+        store: *mut [u64; 4], rows: usize, root: usize, table: *mut u64, table_len: usize, out: *mut u8,
+        out_len: usize,
     ) -> u64;
     safe fn clock_gettime(clock: i32, seconds_and_nanoseconds: &mut [i64; 2]) -> i32;
 }
@@ -92,8 +95,7 @@ type Plain = rust::Store<RandomState>;
 type PlainAgain = again::Store<RandomState>;
 type PlainQuick = rust::Store<BuildHasherDefault<Quick>>;
 
-// The slices that are lent to the crates here: a store, a table and an output. What they hold at first does not matter.
-struct Store([Vec<u64>; 4]);
+// What is lent to the crates here besides an output: a store and a table. What the table holds at first does not matter.
 struct Table(Vec<u64>);
 struct Here(Store, Table);
 
@@ -101,15 +103,9 @@ fn answer(r: u64) -> Result<u64, Refusal> {
     if packed::refused(r) == 0 { Ok(r) } else { Err((packed::refused(r), packed::place(r))) }
 }
 
-impl Store {
-    fn new() -> Store {
-        Store([1, 2, 3, 4].map(|k| vec![u64::MAX / k; ROOM]))
-    }
-
-    fn node(&self, i: usize) -> Node {
-        let [tag, first, second, _] = &self.0;
-        Node { code: tag[i] % 64, a: first[i], b: second[i] }
-    }
+fn node(store: &Store, i: usize) -> Node {
+    let [tag, a, b, _] = store.rows[i];
+    Node { code: tag % 64, a, b }
 }
 
 impl Table {
@@ -127,13 +123,12 @@ impl Table {
         answer(unsafe { timed_read_sheet(text.as_ptr(), text.len(), self.0.as_mut_ptr(), self.0.len()) })
     }
 
-    // The count of bytes.
-    fn write_listing(&mut self, store: &Store, root: usize, out: &mut [u8]) -> Result<u64, Refusal> {
-        let ([tag, first, second, _], table) = (&store.0, &mut self.0);
+    // The count of bytes. The links of the rows are used up; what they hold does not matter here.
+    fn write_listing(&mut self, store: &mut Store, root: usize, out: &mut [u8]) -> Result<u64, Refusal> {
+        let (rows, table) = (&mut store.rows, &mut self.0);
         answer(unsafe {
             timed_write_listing(
-                tag.as_ptr(), tag.len(), first.as_ptr(), first.len(), second.as_ptr(), second.len(), root,
-                table.as_mut_ptr(), table.len(), out.as_mut_ptr(), out.len(),
+                rows.as_mut_ptr(), rows.len(), root, table.as_mut_ptr(), table.len(), out.as_mut_ptr(), out.len(),
             )
         })
     }
@@ -141,16 +136,16 @@ impl Table {
 
 impl Here {
     fn new() -> Here {
-        Here(Store::new(), Table::new())
+        Here(Store::new(ROOM), Table::new())
     }
 
     // The root's node and the count of nodes, packed.
     fn read_listing(&mut self, text: &[u8]) -> Result<u64, Refusal> {
-        let ([tag, first, second, link], table) = (&mut self.0.0, &mut self.1.0);
+        let (Store { rows, desk }, table) = (&mut self.0, &mut self.1.0);
         answer(unsafe {
             timed_read_listing(
-                text.as_ptr(), text.len(), tag.as_mut_ptr(), tag.len(), first.as_mut_ptr(), first.len(),
-                second.as_mut_ptr(), second.len(), link.as_mut_ptr(), link.len(), table.as_mut_ptr(), table.len(),
+                text.as_ptr(), text.len(), rows.as_mut_ptr(), rows.len(), desk.as_mut_ptr(), table.as_mut_ptr(),
+                table.len(),
             )
         })
     }
@@ -345,14 +340,14 @@ fn agree_on_listing(text: &[u8]) {
     let n = plain.nodes.len();
     assert_eq!(read.map(|root| packed::of_nodes(root, n)), here.read_listing(text));
     if let Ok(root) = read {
-        (0..n).for_each(|i| assert_eq!(plain.nodes[i], here.0.node(i)));
+        (0..n).for_each(|i| assert_eq!(plain.nodes[i], node(&here.0, i)));
         let (mut writer, mut writer_again, mut out) = (rust::Writer::new(), again::Writer::new(), vec![b'#'; OUT]);
         let count = writer.write_listing(&plain.nodes, root);
         assert_eq!((count, &writer.out), (writer_again.write_listing(&plain.nodes, root), &writer_again.out));
-        assert_eq!(count.map(|n| n as u64), here.1.write_listing(&here.0, root, &mut out));
+        assert_eq!(count.map(|n| n as u64), here.1.write_listing(&mut here.0, root, &mut out));
         let count = writer.out.len();
         assert!(writer.out == out[..count] && out[count..].iter().all(|b| *b == b'#'));
-        assert_eq!(here.1.write_listing(&here.0, root, &mut out[..count - 1]), Err((13, 0)));
+        assert_eq!(here.1.write_listing(&mut here.0, root, &mut out[..count - 1]), Err((13, 0)));
     }
     let mut nodes = Vec::new();
     let lines = rust::read_lines(text, &mut nodes).map(|_| nodes.len() as u64);
@@ -412,7 +407,7 @@ fn quartiles(x: impl Iterator<Item = f64>) -> [f64; 3] {
 struct Tree {
     text: Vec<u8>,
     nodes: Vec<Node>,
-    here: Store,
+    here: RefCell<Store>,
     root: usize,
 }
 
@@ -421,7 +416,7 @@ impl Tree {
         let (mut plain, mut here) = (Plain::new(), Here::new());
         let root = plain.read_listing(&text).expect("a listing");
         here.read_listing(&text).expect("a listing");
-        Tree { text, nodes: plain.nodes, here: here.0, root }
+        Tree { text, nodes: plain.nodes, here: RefCell::new(here.0), root }
     }
 }
 
@@ -495,7 +490,7 @@ fn main() {
     let (mut a, mut b, mut out) = (rust::Writer::new(), again::Writer::new(), vec![0; OUT]);
     let (mixed, numbers) = (|r: &mut Random| Tree::new(r.mixed_tree()), |r: &mut Random| Tree::new(r.number_tree()));
     let mut write = |t: &Tree| a.write_listing(&t.nodes, t.root).is_ok();
-    let mut here = |t: &Tree| table.write_listing(&t.here, t.root, &mut out).is_ok();
+    let mut here = |t: &Tree| table.write_listing(&mut t.here.borrow_mut(), t.root, &mut out).is_ok();
     row("null: write mixed", rounds, mixed, |t| &t.text, &mut write, |t| b.write_listing(&t.nodes, t.root).is_ok());
     row("write mixed", rounds, mixed, |t| &t.text, &mut write, &mut here);
     row("write numbers", rounds, numbers, |t| &t.text, &mut write, &mut here);

@@ -10,11 +10,11 @@
  * nothing, so that calls with memory of their own may run at the same time.
  *
  * What C has a caller see to: a pointer is not null and is aligned for what it points to, also where its length is 0; there are as
- * many elements behind it as its length, or the parameter's comment, says; and the lent memory (tag, first, second, link, table,
- * out, answer, picked) overlaps neither itself nor a text nor a tape.
+ * many elements behind it as its length, or the parameter's comment, says; and the lent memory (store, desk, table, out, answer,
+ * picked) overlaps neither itself nor a text nor a tape.
  *
- * What holds at every return, also after a refusal: each word of tag, first, second, link and table is 0. After a refusal, out is as
- * it was; after a success its first bytes are the result, and the rest is as it was. */
+ * What holds at every return, also after a refusal: each word of the store's rows, as many as are lent, of the desk and of the table is
+ * 0. After a refusal, out is as it was; after a success its first bytes are the result, and the rest is as it was. */
 #ifndef FINDAVOREB_H
 #define FINDAVOREB_H
 
@@ -24,6 +24,12 @@
 #ifdef __cplusplus
 extern "C" {
 #endif
+
+/* Which interface this is. In 1 the store was four slices of words, tag, first, second and link, each with a length of its own; now it
+ * is rows, with a desk beside them. So each of the five functions with a store has three parameters in place of eight: a pointer and a
+ * length for four of each, and the desk. The table has 4608 words in place of 8192. All else is as it was: the other parameters and
+ * functions, the answers, what is written to out. */
+#define FINDAVOREB_INTERFACE 2
 
 /* answer[0], which is also what each function returns: 0 for a success, else why the job is refused. The numbers and the names are
  * those of the rules. */
@@ -61,17 +67,39 @@ enum findavoreb_operation {
     FINDAVOREB_POW = 5
 };
 
-/* Sizes. tag, first, second and link together are the store of nodes: as many fit as the shortest of the four has words, and no more
- * than 4096. The table, the answer and what is picked have exactly the size that is given here. No written listing is longer than 1024
- * lines of 36 bytes, no tape longer than 512 steps of 24 bytes. */
+/* Sizes. The store has a row of four words for each node: it holds as many nodes as rows, and no more than 4096. The desk, the table, the
+ * answer and what is picked have exactly the size that is given here. No written listing is longer than 1024 lines of 36 bytes, no tape
+ * longer than 512 steps of 24 bytes. */
 enum {
-    FINDAVOREB_STORE_WORDS = 4096,
-    FINDAVOREB_TABLE_WORDS = 8192,
+    FINDAVOREB_MOST_ROWS = 4096,
+    FINDAVOREB_DESK_WORDS = 272,
+    FINDAVOREB_TABLE_WORDS = 4608,
     FINDAVOREB_ANSWER_WORDS = 6,
     FINDAVOREB_OUT_BYTES = 36864,
     FINDAVOREB_TAPE_BYTES = 12288,
     FINDAVOREB_PICKED_WORDS = 2
 };
+
+/* All the work memory of a call behind one pointer, for those who want that. A function is lent its four parts. */
+struct findavoreb_work {
+    uint64_t (*store)[4];
+    size_t rows;
+    uint64_t desk[FINDAVOREB_DESK_WORDS];
+    uint64_t table[FINDAVOREB_TABLE_WORDS];
+};
+
+/* Work memory with these rows, which stay as they are, and with 0 in each word of the desk and of the table, though no function asks for
+ * that. */
+static inline void findavoreb_init_work(struct findavoreb_work *work, uint64_t (*store)[4], size_t rows)
+{
+    size_t i;
+    work->store = store;
+    work->rows = rows;
+    for (i = 0; i < FINDAVOREB_DESK_WORDS; i++)
+        work->desk[i] = 0;
+    for (i = 0; i < FINDAVOREB_TABLE_WORDS; i++)
+        work->table[i] = 0;
+}
 
 /* The answer's words; those that are not used are 0.
  *
@@ -92,20 +120,16 @@ enum {
 uint64_t findavoreb_evaluate(
     const uint8_t *listing, size_t listing_length,
     const uint8_t *sheet, size_t sheet_length,
-    uint64_t *tag, size_t tag_length,
-    uint64_t *first, size_t first_length,
-    uint64_t *second, size_t second_length,
-    uint64_t *link, size_t link_length,
+    uint64_t (*store)[4], size_t rows,
+    uint64_t *desk,    /* FINDAVOREB_DESK_WORDS words */
     uint64_t *table,   /* FINDAVOREB_TABLE_WORDS words */
     uint64_t *answer); /* FINDAVOREB_ANSWER_WORDS words */
 
 /* The listing's expression with its variables replaced as the listing's s lines say, all at once, written to out as a listing. */
 uint64_t findavoreb_substitute(
     const uint8_t *listing, size_t listing_length,
-    uint64_t *tag, size_t tag_length,
-    uint64_t *first, size_t first_length,
-    uint64_t *second, size_t second_length,
-    uint64_t *link, size_t link_length,
+    uint64_t (*store)[4], size_t rows,
+    uint64_t *desk,    /* FINDAVOREB_DESK_WORDS words */
     uint64_t *table,   /* FINDAVOREB_TABLE_WORDS words */
     uint8_t *out, size_t out_length,
     uint64_t *answer); /* FINDAVOREB_ANSWER_WORDS words */
@@ -113,10 +137,8 @@ uint64_t findavoreb_substitute(
 /* The real number that the listing's expression is, if it is a number or pi; nothing is worked out. */
 uint64_t findavoreb_to_real(
     const uint8_t *listing, size_t listing_length,
-    uint64_t *tag, size_t tag_length,
-    uint64_t *first, size_t first_length,
-    uint64_t *second, size_t second_length,
-    uint64_t *link, size_t link_length,
+    uint64_t (*store)[4], size_t rows,
+    uint64_t *desk,    /* FINDAVOREB_DESK_WORDS words */
     uint64_t *table,   /* FINDAVOREB_TABLE_WORDS words */
     uint64_t *answer); /* FINDAVOREB_ANSWER_WORDS words */
 
@@ -126,10 +148,8 @@ uint64_t findavoreb_simplify(
     const uint8_t *listing, size_t listing_length,
     const uint8_t *sheet, size_t sheet_length,
     uint64_t limit,
-    uint64_t *tag, size_t tag_length,
-    uint64_t *first, size_t first_length,
-    uint64_t *second, size_t second_length,
-    uint64_t *link, size_t link_length,
+    uint64_t (*store)[4], size_t rows,
+    uint64_t *desk,    /* FINDAVOREB_DESK_WORDS words */
     uint64_t *table,   /* FINDAVOREB_TABLE_WORDS words */
     uint8_t *out, size_t out_length,
     uint64_t *answer); /* FINDAVOREB_ANSWER_WORDS words */
@@ -137,10 +157,8 @@ uint64_t findavoreb_simplify(
 /* The listing's expression compiled, written to out as a tape: 24 bytes for each node as often as evaluation visits it. */
 uint64_t findavoreb_compile(
     const uint8_t *listing, size_t listing_length,
-    uint64_t *tag, size_t tag_length,
-    uint64_t *first, size_t first_length,
-    uint64_t *second, size_t second_length,
-    uint64_t *link, size_t link_length,
+    uint64_t (*store)[4], size_t rows,
+    uint64_t *desk,    /* FINDAVOREB_DESK_WORDS words */
     uint64_t *table,   /* FINDAVOREB_TABLE_WORDS words */
     uint8_t *out, size_t out_length,
     uint64_t *answer); /* FINDAVOREB_ANSWER_WORDS words */

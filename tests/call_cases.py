@@ -10,8 +10,8 @@ many tapes the program has to play.
 A list of cases is a file of data: `sound` and `damaged` tapes, `picks` between two of them, `listings` to compile, `plays` of a tape with
 a sheet. A case is a line and then its texts and tapes. The line is a letter, a 1 and eleven fields of 16 hex digits, each after a tab:
     k       check a tape; p pick one of two tapes; c compile a listing; y play a tape with a sheet
-    1       the word that the work slices and the table are filled with before
-    2       the lengths of the four work slices, four digits each
+    1       the word that rows, desk and table are filled with before
+    2       how many rows are lent
     3       eight digits each for the lengths of the first and the second text or tape
     4       eight digits each for the length of the output and of the tape that has to be written there
     5       the number of the refusal, or 0; of a pick 1 for the first, 2 for the second, 0 for neither
@@ -24,13 +24,13 @@ import os
 import random
 import sys
 
-from stored import CRATES, hold_program
+from stored import CRATES, hold_program, pass_over
 from tape_model import (
     FUNCTION, FUNCTIONS, INFIX, MEMORY, NUMBER, OPERATORS, PI, PREFIX, SIGNS, STACK, STEP, STEPS, VARIABLE, Need, bad_step, compiled,
     picked, played, step)
 from texts_model import INF, NAN, NODE_LINES, OPERATIONS, SIGN, Refused
 
-WORK, TEXT, TAPE = 4096, 32768, 16384  # how long the program's work slices, texts and tapes can be
+WORK, TEXT, TAPE = 4096, 32768, 16384  # how many rows the program has, and how long its texts and tapes can be
 ONE, TWO = 0x3FF << 52, 1 << 62
 NANS = [INF + 1, NAN - 1, NAN + 1, NAN + 0xDEADBEEF, SIGN - 1, SIGN + INF + 1, SIGN + NAN, 2 * SIGN - 1]  # all but the one
 DOUBLES = [0, SIGN, 1, SIGN + 1, ONE, ONE + SIGN, TWO, 0x400921FB54442D18, 0x3FB999999999999A, 1 << 52, INF - 1, INF, INF + SIGN, NAN]
@@ -45,12 +45,12 @@ class Cases:
     def __init__(self):
         self.lists, self.seen = {name: [] for name in ('sound', 'damaged', 'picks', 'listings', 'plays')}, set()
 
-    def add(self, name, letter, parts, lengths, answer, room=0, written=b'', lent=(WORK,) * 4):
+    def add(self, name, letter, parts, lengths, answer, room=0, written=b'', rows=WORK):
         """`parts` are texts and tapes as they stand in the file; `lengths` those of their bytes."""
         first, second = (*lengths, 0)[:2]
         assert first <= (TEXT if letter == 'c' else TAPE) and second <= (TAPE if letter == 'p' else TEXT) and room <= TAPE
-        fields = [pick.choice(JUNK + [pick.getrandbits(64)]), int(''.join('%04x' % n for n in lent), 16), (first << 32) + second,
-                  (room << 32) + len(written), *(*answer, 0, 0, 0, 0)[:6], 0]
+        fields = [pick.choice(JUNK + [pick.getrandbits(64)]), rows, (first << 32) + second, (room << 32) + len(written),
+                  *(*answer, 0, 0, 0, 0)[:6], 0]
         head = letter + '1' + ''.join('\t%016x' % x for x in fields) + '\n'
         self.lists[name].append(head.encode() + b''.join(parts) + in_hex(written))
 
@@ -91,9 +91,8 @@ class Cases:
             answer, tape = (0, 0), compiled(listing, nodes, room)
         except Refused as why:
             answer, tape = (why.number, why.place), b''
-        lent = [pick.choice([nodes, min(nodes + 1, WORK), WORK]) for _ in range(4)]
-        lent[pick.randrange(4)] = nodes
-        self.add('listings', 'c', [listing], [len(listing)], answer, room, tape, lent)
+        pass_over(pick)
+        self.add('listings', 'c', [listing], [len(listing)], answer, room, tape, nodes)
 
     def play(self, tape, sheet):
         self.add('plays', 'y', [in_hex(tape), sheet], [len(tape), len(sheet)], answer_of(tape, sheet))
@@ -591,12 +590,11 @@ def stored_cases():
         data = f.read()
     at = 0
     while at < len(data):
-        kind, _, lent, texts, outputs, *answer = data[at:at + 190].split(b'\t')
+        kind, _, rows, texts, outputs, *answer = data[at:at + 190].split(b'\t')
         texts, outputs = int(texts, 16), int(outputs, 16)
         middle = at + 190 + (texts >> 32)
         end = middle + texts % (1 << 32)
-        nodes = min(int(lent[4 * k:4 * k + 4], 16) for k in range(4))
-        yield kind[:1], data[at + 190:middle], data[middle:end], nodes, tuple(int(x, 16) for x in answer[:6])
+        yield kind[:1], data[at + 190:middle], data[middle:end], int(rows, 16), tuple(int(x, 16) for x in answer[:6])
         at = end + outputs % (1 << 32)
 
 

@@ -1,15 +1,15 @@
 """Makes commands for a store, and what each has to give, by a model that knows trees and no store.
 
 A line of the commands is a letter, a digit and two fields of 16 hex digits:
-    j   fill the four arrays with a word
-    s   start a store; four digits of the first field for the length of each part that is lent, as 1000 for 4096
+    j   fill rows and desk with a word
+    s   start a store; the first field says how many of the 4096 rows are lent from then on
     n   add the number with these bits; p pi; v the variable; m the cell of a region and an index
     f   add a call, by its digit 1 sin, 2 cos, 3 exp, 4 sqrt, 5 cis, on a node; u 1 + or 2 - before a node
     b   add 1 +, 2 -, 3 *, 4 / or 5 ^ of two nodes
     k   keep the second node as the result of the first; r recall the result of a node; e compare two nodes
-    c   clear the parts that are lent; the answer counts what is not zero in each whole array
-What an add is to answer: `node`, its number, the count of nodes, the number of the command (which an add passes on as the count of
-simplify calls), size, depth, class and the node itself, as a line of a listing; or `refused` with number and place.
+    c   clear what is lent; the answer says of each of a row's four words in how many of all rows it is not zero, and `desk` if that is not
+What an add is to answer: `node`, its number, the count of nodes, the number of the command (which an add finds on the desk, and leaves
+there, as the count of simplify calls), size, depth, class and the node itself, as a line of a listing; or `refused` with number and place.
 """
 import hashlib
 import random
@@ -49,8 +49,8 @@ class Tree:
 class Model:
     def __init__(self):
         self.commands, self.answers = [], []
-        self.arrays = [[JUNK] * WHOLE for _ in range(4)]  # None: what a store left there
-        self.start((0, 0, 0, 0))
+        self.rows = [JUNK] * WHOLE  # the word that a row has four times; None: what a store left there
+        self.start(0)
         self.commands, self.answers = [], []
 
     def say(self, letter, digit, a, b, answer):
@@ -58,22 +58,20 @@ class Model:
         self.answers.append(answer + '\n')
 
     def fill(self, word):
-        self.arrays = [[word] * WHOLE for _ in range(4)]
+        self.rows = [word] * WHOLE
         self.say('j', 0, word, 0, 'filled')
 
-    def start(self, lengths):
-        self.lengths, self.room = lengths, min(lengths)
+    def start(self, room):
+        self.room = room
         self.stored, self.texts, self.node_of, self.first_of, self.kept = [], [], {}, {}, {}
-        for array, length in zip(self.arrays, lengths):
-            array[:length] = [None] * length
-        self.say('s', 0, int(''.join('%04x' % n for n in lengths), 16), 0, 'started')
+        self.rows[:room] = [None] * room
+        self.say('s', 0, room, 0, 'started')
 
     def clear(self):
-        for array, length in zip(self.arrays, self.lengths):
-            array[:length] = [0] * length
-            assert None not in array, 'a store left there what no model knows'
+        self.rows[:self.room] = [0] * self.room
+        assert None not in self.rows, 'a store left there what no model knows'
         self.stored, self.texts, self.node_of, self.first_of, self.kept = [], [], {}, {}, {}
-        self.say('c', 0, 0, 0, 'cleared' + ''.join('\t%d' % sum(x != 0 for x in array) for array in self.arrays))
+        self.say('c', 0, 0, 0, 'cleared' + '\t%d' % sum(x != 0 for x in self.rows) * 4)
 
     def add(self, letter, digit, a, b, tree, text):
         """The number of the tree's node; None after a refusal."""
@@ -171,13 +169,12 @@ def fates(m):
 
 
 def capacities(m):
-    """Every kind, twice, at each capacity, whichever of the slices is the shortest, and whatever they held."""
+    """Every kind, twice, at each capacity, whatever the rows held."""
     for room in (0, 1, 2, 7, 4096):
-        for shape in range(5):
-            longer = pick.choice([room + 1, room + 100, WHOLE])
-            lengths = [room if shape in (k, 4) else min(longer, WHOLE) for k in range(4)]
+        for _ in range(5):
+            pick.randrange(3)  # nothing uses it: the commands after it stay the stored ones
             m.fill(pick.choice([JUNK, (1 << 64) - 1, 1, 0x0001000100010001, pick.getrandbits(64) | 1]))
-            m.start(lengths)
+            m.start(room)
             every_kind(m)
             every_kind(m)
             fates(m)
@@ -187,13 +184,13 @@ def capacities(m):
 
 
 def again(m):
-    """A start forgets all of the store before, which stands in the slices."""
-    for lengths in ((40, 40, 40, 40), (40, 40, 40, 40), (60, 50, 45, 70), (7, 7, 7, 7), (WHOLE,) * 4, (2, 9, 9, 9)):
-        m.start(lengths)
+    """A start forgets all of the store before, which stands in the rows."""
+    for room in (40, 40, 45, 7, WHOLE, 2):
+        m.start(room)
         every_kind(m)
         fates(m)
     m.fill(0)
-    m.start((5, 6, 7, 8))
+    m.start(5)
     every_kind(m)
     m.clear()
 
@@ -201,7 +198,7 @@ def again(m):
 def zeros(m):
     """Nodes that are equal and not identical: their children differ in the sign of a zero, at any depth."""
     m.fill((1 << 64) - 1)
-    m.start((300, 300, 300, 300))
+    m.start(300)
     leaves = [m.number(re, im) for re, im in ZEROS]
     ones = [m.number(ONE, 0), m.number(ONE, SIGN), m.number(ONE + SIGN, 0)]
     sines = [m.call('sin', x) for x in leaves + ones]
@@ -242,7 +239,7 @@ def sized(m, size):
 def largest(m):
     """1,000,000 and one more, by every kind of parent."""
     m.fill(JUNK)
-    m.start((100, 100, 100, 100))
+    m.start(100)
     most = sized(m, LARGEST)
     m.prefix('-', most)
     m.call('sin', most)
@@ -270,7 +267,7 @@ def chain(m, start, depth):
 def deepest(m):
     """Depth 64 and one more, on either side of an infix."""
     m.fill(1)
-    m.start((80, 90, 85, 80))
+    m.start(80)
     at = chain(m, m.pi(), DEEPEST)
     m.prefix('+', at)
     m.call('sqrt', at)
@@ -287,7 +284,7 @@ def deepest(m):
 def tower(m, room):
     """A store of this room with a node that is large and of depth 64; the count of nodes in it."""
     m.fill(JUNK)
-    m.start((room,) * 4)
+    m.start(room)
     return chain(m, sized(m, 500000), DEEPEST), len(m.stored)
 
 
@@ -330,7 +327,7 @@ def node_at(m, k):
 def full(m):
     """4096 different nodes, more that have no room, and all of them again in another order."""
     m.fill((1 << 64) - 1)
-    m.start((WHOLE,) * 4)
+    m.start(WHOLE)
     k = 0
     while len(m.stored) < WHOLE:
         node_at(m, k)
@@ -381,9 +378,8 @@ def mixed(m):
     """Commands at random, with few leaves, so that much is equal or stored already."""
     for room in (3, 16, 17, 64, 150, 4095):
         m.fill(pick.getrandbits(64) | 1)
-        lengths = [room] * 4
-        lengths[pick.randrange(4)] = WHOLE
-        m.start(lengths)
+        pick.randrange(4)  # nothing uses it: the commands after it stay the stored ones
+        m.start(room)
         for _ in range(5 * min(room, 60)):
             any_command(m)
         m.clear()

@@ -1,10 +1,9 @@
 """Makes listings and sheets, good and damaged, and what has to be written of each, by the model of texts_model.py.
 
 A case is a line, the bytes of its text, and lines that ask for something. A line is two letters and four fields of 16 hex digits:
-    p   a listing; s one that may have s lines; v a value sheet. With 1 as the second letter the work slices and the table are filled
-        with the first field before; with 0 they stay as the case before left them. The second field has the lengths of the four work
-        slices, four digits each; the third eight digits for the length of the text and eight for that of the output; the fourth says
-        how many lines ask
+    p   a listing; s one that may have s lines; v a value sheet. With 1 as the second letter rows, desk and table are filled with the
+        first field before; with 0 they stay as the case before left them. The second field says how many rows are lent; the third has
+        eight digits for the length of the text and eight for that of the output; the fourth says how many lines ask
     as  asks for the node that is put in for a variable; av for the value of a variable; am for that of a region and an index;
         a1 to a5 for sin, cos, exp, sqrt and pow of two operands of two fields each
 What is to be written of a case, after its number: `refused`, number and place; or `read` and counts: different nodes and s lines, or
@@ -15,10 +14,11 @@ length, or it is `refused` with number and place; and then by `kept` if all othe
 import random
 import re
 
+from stored import pass_over
 from texts_model import (
     DEEPEST, INF, LARGEST, NAN, NODE_LINES, OPERATIONS, SIGN, Refused, read_listing, read_sheet, written)
 
-WORK, PAPER, TEXT = 4096, 40960, 81920  # how long the program's work slices, output and text can be
+WORK, PAPER, TEXT = 4096, 40960, 81920  # how many rows the program has, and how long its output and text can be
 ONE = 0x3FF << 52
 NANS = [NAN, INF + 1, SIGN - 1, NAN + SIGN, INF + SIGN + 1, NAN + 0xDEADBEEF, 2 * SIGN - 1, NAN - 1]
 DOUBLES = [0, SIGN, 1, SIGN + 1, ONE, ONE + SIGN, ONE + 1, 1 << 62, 0x400921FB54442D18, 1 << 52, INF - 1, INF, INF + SIGN] + NANS
@@ -35,38 +35,38 @@ class Cases:
     def __init__(self):
         self.data, self.answers = [], []
 
-    def case(self, letter, text, lengths, paper, asks, answer):
+    def case(self, letter, text, rows, paper, asks, answer):
         assert len(text) <= TEXT and paper <= PAPER
         letters, word = letter + pick.choice('110'), pick.choice(JUNK + [pick.getrandbits(64)])
-        lent = int(''.join('%04x' % n for n in lengths), 16)
         self.answers.append(b'case\t%d\n' % len(self.data) + answer)
-        self.data.append(frame(letters, word, lent, (len(text) << 32) + paper, len(asks)) + text + b''.join(asks))
+        self.data.append(frame(letters, word, rows, (len(text) << 32) + paper, len(asks)) + text + b''.join(asks))
 
     def listing(self, text, substituting=False, room=WORK, spare=None):
         """`spare` is how much longer the output is than what is written of the root."""
-        letter, lengths = 'ps'[substituting], lengths_for(room)
+        letter = 'ps'[substituting]
+        pass_over(pick)
         try:
             root, nodes, swaps = read_listing(text, substituting, room)
         except Refused as why:
-            return self.case(letter, text, lengths, PAPER, [], refusal(why) + b'\n')
+            return self.case(letter, text, room, PAPER, [], refusal(why) + b'\n')
         exact = len(written(root, PAPER))
         paper = exact + (pick.choice([0, 1, PAPER - exact]) if spare is None else spare)
         answer, variables = b'read\t%d\t%d\n' % (nodes, len(swaps)), some_variables(swaps) if substituting else []
         for variable in variables:
             answer += shown(swaps[variable], paper) if variable in swaps else b'nothing\n'
         answer += shown(root, paper) + (b'same\n' if paper >= exact else b'')
-        return self.case(letter, text, lengths, paper, [frame('as', v, 0, 0, 0) for v in variables], answer)
+        return self.case(letter, text, room, paper, [frame('as', v, 0, 0, 0) for v in variables], answer)
 
     def sheet(self, text, keys=()):
         """`keys` are looked up besides some that have rows, and some that are close to these."""
         try:
             counts, values = read_sheet(text)
         except Refused as why:
-            return self.case('v', text, [0] * 4, 0, [], refusal(why) + b'\n')
+            return self.case('v', text, 0, 0, [], refusal(why) + b'\n')
         answer, keys = b'read\t%d\t%d\t%d\n' % tuple(counts), [*keys, *some_keys(values)]
         for key in keys:
             answer += b'value\t%016x\t%016x\n' % values[key] if key in values else b'nothing\n'
-        return self.case('v', text, [0] * 4, 0, [ask_for(*key) for key in keys], answer)
+        return self.case('v', text, 0, 0, [ask_for(*key) for key in keys], answer)
 
     def text(self, letter, text):
         return self.sheet(text) if letter == 'v' else self.listing(text, letter == 's')
@@ -74,13 +74,6 @@ class Cases:
 
 def frame(letters, *fields):
     return b'%s\t%016x\t%016x\t%016x\t%016x\n' % (letters.encode(), *fields)
-
-
-def lengths_for(room):
-    """Lengths of the four work slices, of which the least is this one."""
-    lengths = [pick.choice([room, min(room + 1, WORK), WORK]) for _ in range(4)]
-    lengths[pick.randrange(4)] = room
-    return lengths
 
 
 def refusal(why):

@@ -1,7 +1,11 @@
 // Trees of several kinds under sheets, as the Rust has them and as the crate timed has read them, and times of
 // going through them: what the benchmarks of evaluating and of the tape share.
 #![allow(dead_code)] // what only one of them uses
-use super::common::{self, Random, listing, now, packed, quartiles};
+use super::common::{
+    self, Random,
+    lent::{Store, TABLE},
+    listing, now, packed, quartiles,
+};
 use num_complex::Complex64;
 use oracle::{
     expression::{EvaluationError, Expression, ExpressionFunction, InfixOperator, PrefixOperator},
@@ -10,7 +14,6 @@ use oracle::{
 };
 use std::{collections::HashMap, fmt::Write, hint::black_box};
 
-pub const TABLE: usize = 8192;
 const APART: usize = 512; // words between two tables, so that they do not fall on the same lines of a cache
 pub const SIZES: [usize; 5] = [5, 20, 60, 200, 500];
 const NODES: usize = 4000; // of the trees of a round
@@ -21,19 +24,16 @@ const ROUNDS: usize = 101; // at the least
 
 unsafe extern "C" {
     fn timed_read_job(
-        list: *const u8, list_len: usize, values: *const u8, values_len: usize, tag: *mut u64, tag_len: usize,
-        first: *mut u64, first_len: usize, second: *mut u64, second_len: usize, link: *mut u64, link_len: usize,
-        table: *mut u64, table_len: usize,
+        list: *const u8, list_len: usize, values: *const u8, values_len: usize, store: *mut [u64; 4], rows: usize,
+        desk: *mut u64, table: *mut u64, table_len: usize,
     ) -> u64;
     fn timed_evaluate(
-        tag: *const u64, tag_len: usize, first: *const u64, first_len: usize, second: *const u64, second_len: usize,
-        table: *const u64, table_len: usize, variables: usize, cells: usize, functions: usize, node: usize,
-        below: usize, value: *mut u64, value_len: usize,
+        store: *const [u64; 4], rows: usize, table: *const u64, table_len: usize, variables: usize, cells: usize,
+        functions: usize, node: usize, below: usize, value: *mut u64, value_len: usize,
     ) -> u64;
     fn timed_evaluate_texts(
-        list: *const u8, list_len: usize, values: *const u8, values_len: usize, tag: *mut u64, tag_len: usize,
-        first: *mut u64, first_len: usize, second: *mut u64, second_len: usize, link: *mut u64, link_len: usize,
-        table: *mut u64, value: *mut u64, value_len: usize,
+        list: *const u8, list_len: usize, values: *const u8, values_len: usize, store: *mut [u64; 4], rows: usize,
+        desk: *mut u64, table: *mut u64, value: *mut u64, value_len: usize,
     ) -> u64;
 }
 
@@ -183,15 +183,6 @@ pub fn by_rust(e: &Expression, values: &Values) -> Result<Complex64, EvaluationE
     e.evaluate(&values.variables, &values.memory)
 }
 
-// The slices that are lent to the crates here. What they hold at first does not matter.
-pub struct Store(pub [Vec<u64>; 4]);
-
-impl Store {
-    fn new(room: usize) -> Store {
-        Store([1, 2, 3, 4].map(|k| vec![u64::MAX / k; room]))
-    }
-}
-
 pub struct Tree {
     pub tape: Vec<u8>, // empty unless a benchmark compiles it
     pub rust: Expression,
@@ -243,12 +234,10 @@ impl Job {
 
     fn tree(&mut self, nodes: &[Node], rust: Expression) -> Option<Tree> {
         let (list, mut store) = (listing(nodes), Store::new(nodes.len()));
-        let [tag, first, second, link] = &mut store.0;
         let read = unsafe {
             timed_read_job(
-                list.as_ptr(), list.len(), self.sheet.as_ptr(), self.sheet.len(), tag.as_mut_ptr(), tag.len(),
-                first.as_mut_ptr(), first.len(), second.as_mut_ptr(), second.len(), link.as_mut_ptr(), link.len(),
-                self.table.as_mut_ptr(), TABLE,
+                list.as_ptr(), list.len(), self.sheet.as_ptr(), self.sheet.len(), store.rows.as_mut_ptr(),
+                store.rows.len(), store.desk.as_mut_ptr(), self.table.as_mut_ptr(), TABLE,
             )
         };
         self.rows = packed::rows(read);
@@ -273,12 +262,11 @@ impl Job {
 
     #[inline(never)]
     pub fn here(&self, tree: &Tree) -> (u64, [u64; 2]) {
-        let ([tag, first, second, _], [variables, cells, functions]) = (&tree.store.0, self.rows);
-        let mut value = [0; 2];
+        let ([variables, cells, functions], mut value) = (self.rows, [0; 2]);
         let number = unsafe {
             timed_evaluate(
-                tag.as_ptr(), tag.len(), first.as_ptr(), first.len(), second.as_ptr(), second.len(),
-                self.table.as_ptr(), TABLE, variables, cells, functions, tree.root, tree.below, value.as_mut_ptr(), 2,
+                tree.store.rows.as_ptr(), tree.store.rows.len(), self.table.as_ptr(), TABLE, variables, cells,
+                functions, tree.root, tree.below, value.as_mut_ptr(), 2,
             )
         };
         (number, value)
@@ -294,13 +282,11 @@ impl Work {
     }
 
     pub fn evaluate(&mut self, list: &[u8], sheet: &[u8]) -> (u64, [u64; 2]) {
-        let [tag, first, second, link] = &mut self.0.0;
-        let mut value = [0; 2];
+        let (Work(store, table), mut value) = (self, [0; 2]);
         let number = unsafe {
             timed_evaluate_texts(
-                list.as_ptr(), list.len(), sheet.as_ptr(), sheet.len(), tag.as_mut_ptr(), tag.len(),
-                first.as_mut_ptr(), first.len(), second.as_mut_ptr(), second.len(), link.as_mut_ptr(), link.len(),
-                self.1.as_mut_ptr(), value.as_mut_ptr(), 2,
+                list.as_ptr(), list.len(), sheet.as_ptr(), sheet.len(), store.rows.as_mut_ptr(), store.rows.len(),
+                store.desk.as_mut_ptr(), table.as_mut_ptr(), value.as_mut_ptr(), 2,
             )
         };
         (number, value)

@@ -3,6 +3,7 @@ use num_complex::Complex64;
 use oracle::{nodes::Node, trace::Asked};
 use std::fmt::Write;
 
+pub mod lent;
 pub mod packed;
 
 unsafe extern "C" {

@@ -8,24 +8,28 @@
 
 /* ---- the memory that is lent, with words after it that nothing may touch */
 
-enum { GUARD = 8, TEXT = 1 << 17, PAPER = FINDAVOREB_OUT_BYTES + 4096 };
+enum { GUARD = 8, ROWS = FINDAVOREB_MOST_ROWS + 904, TEXT = 1 << 17, PAPER = FINDAVOREB_OUT_BYTES + 4096 };
 
-static const uint64_t JUNK = 0xDEADBEEF00010001;
+static const uint64_t JUNK[4] = {0xDEADBEEF00010001, UINT64_MAX - 3, 0x0001000100010001, 1};
 static const uint8_t BLANK = 0xA5;
 
-static uint64_t store[4][FINDAVOREB_STORE_WORDS + GUARD];
+static uint64_t junk = 0xDEADBEEF00010001; /* what all words hold before a call; in a row each word has one more than the word before */
+
+static uint64_t store[ROWS + GUARD][4];
+static uint64_t desk[FINDAVOREB_DESK_WORDS + GUARD];
 static uint64_t table[FINDAVOREB_TABLE_WORDS + GUARD];
 static uint64_t answer[FINDAVOREB_ANSWER_WORDS + GUARD];
 static uint64_t picked[FINDAVOREB_PICKED_WORDS + GUARD];
 static uint8_t out[PAPER];
+static struct findavoreb_work work;
 
 /* How much of the memory a call is lent. */
 struct lent {
-    size_t words[4];
+    size_t rows;
     size_t bytes;
 };
 
-static const struct lent ALL = {{4096, 4096, 4096, 4096}, PAPER}, NO_STORE = {{0, 0, 0, 0}, 0};
+static const struct lent ALL = {FINDAVOREB_MOST_ROWS, PAPER};
 
 /* ---- what is counted and said */
 
@@ -63,42 +67,62 @@ static int is_blank_from(size_t from)
 
 static void prepare(void)
 {
-    for (int k = 0; k < 4; k++)
-        fill(store[k], FINDAVOREB_STORE_WORDS + GUARD, JUNK + (uint64_t)k);
-    fill(table, FINDAVOREB_TABLE_WORDS + GUARD, JUNK);
-    fill(answer, FINDAVOREB_ANSWER_WORDS + GUARD, JUNK);
-    fill(picked, FINDAVOREB_PICKED_WORDS + GUARD, JUNK);
+    for (size_t i = 0; i < ROWS + GUARD; i++)
+        for (uint64_t k = 0; k < 4; k++)
+            store[i][k] = junk + k;
+    fill(desk, FINDAVOREB_DESK_WORDS + GUARD, junk);
+    fill(table, FINDAVOREB_TABLE_WORDS + GUARD, junk);
+    fill(answer, FINDAVOREB_ANSWER_WORDS + GUARD, junk);
+    fill(picked, FINDAVOREB_PICKED_WORDS + GUARD, junk);
     memset(out, BLANK, PAPER);
 }
 
-static void check_store(const char *name, struct lent lent)
+/* Rows that were lent are zero, and the others as they were. */
+static void check_rows(const char *name, size_t lent)
 {
-    for (int k = 0; k < 4; k++) {
-        if (!all_are(store[k], 0, lent.words[k], 0))
-            complain(name, "a work slice is not zero");
-        if (!all_are(store[k], lent.words[k], FINDAVOREB_STORE_WORDS + GUARD, JUNK + (uint64_t)k))
-            complain(name, "a word past a work slice was changed");
-    }
+    size_t changed = 0;
+    for (size_t i = 0; i < lent; i++)
+        if (!all_are(store[i], 0, 4, 0)) {
+            complain(name, "a row is not zero");
+            break;
+        }
+    for (size_t i = lent; i < ROWS + GUARD; i++)
+        for (uint64_t k = 0; k < 4; k++)
+            changed += store[i][k] != junk + k;
+    if (changed != 0)
+        complain(name, "a row that is not lent was changed");
 }
 
-/* "Every lent work slice is zero over its whole length", and what was not lent is as it was. */
-static void check_memory(const char *name, struct lent lent)
+/* The same of the desk and the table, each of which is lent whole or not at all. */
+static void check_words(const char *name, const uint64_t *words, size_t count, int is_lent)
 {
-    check_store(name, lent);
-    if (!all_are(table, 0, FINDAVOREB_TABLE_WORDS, 0))
-        complain(name, "the table is not zero");
-    if (!all_are(table, FINDAVOREB_TABLE_WORDS, FINDAVOREB_TABLE_WORDS + GUARD, JUNK))
-        complain(name, "a word past the table was changed");
-    if (!all_are(answer, FINDAVOREB_ANSWER_WORDS, FINDAVOREB_ANSWER_WORDS + GUARD, JUNK))
+    if (!all_are(words, 0, count, is_lent ? 0 : junk))
+        complain(name, is_lent ? "the desk or the table is not zero" : "the desk or the table was changed");
+    if (!all_are(words, count, count + GUARD, junk))
+        complain(name, "a word past the desk or the table was changed");
+}
+
+static void check_answer_end(const char *name)
+{
+    if (!all_are(answer, FINDAVOREB_ANSWER_WORDS, FINDAVOREB_ANSWER_WORDS + GUARD, junk))
         complain(name, "a word past the answer was changed");
 }
 
-/* After a function that is lent no work memory and no output. */
-static void check_untouched(const char *name)
+/* Every lent row, the desk and the table are zero over their whole length, and what was not lent is as it was. */
+static void check_memory(const char *name, struct lent lent)
 {
-    check_store(name, NO_STORE);
-    if (!all_are(table, 0, FINDAVOREB_TABLE_WORDS + GUARD, JUNK))
-        complain(name, "the table was changed");
+    check_rows(name, lent.rows);
+    check_words(name, desk, FINDAVOREB_DESK_WORDS, 1);
+    check_words(name, table, FINDAVOREB_TABLE_WORDS, 1);
+    check_answer_end(name);
+}
+
+/* After a function that is lent neither rows nor a desk nor an output, and the table or not even that. */
+static void check_untouched(const char *name, int is_table_lent)
+{
+    check_rows(name, 0);
+    check_words(name, desk, FINDAVOREB_DESK_WORDS, 0);
+    check_words(name, table, FINDAVOREB_TABLE_WORDS, is_table_lent);
     if (!is_blank_from(0))
         complain(name, "the output was changed");
 }
@@ -126,24 +150,53 @@ static void evaluate_in(const char *name, struct lent lent, const char *listing,
 {
     prepare();
     uint64_t returned = findavoreb_evaluate(
-        bytes(listing), strlen(listing), bytes(sheet), strlen(sheet), store[0], lent.words[0], store[1], lent.words[1], store[2],
-        lent.words[2], store[3], lent.words[3], table, answer);
+        bytes(listing), strlen(listing), bytes(sheet), strlen(sheet), store, lent.rows, desk, table, answer);
     check_answer(name, returned, want);
     check_memory(name, lent);
     if (!is_blank_from(0))
         complain(name, "the output was changed");
 }
 
+/* What work memory has after a call, and at the beginning: the rows that it was given, and no word on the desk or in the table. */
+static void check_work(const char *name, struct lent lent)
+{
+    if (work.store != store || work.rows != lent.rows)
+        complain(name, "the work memory has other rows");
+    if (!all_are(work.desk, 0, FINDAVOREB_DESK_WORDS, 0) || !all_are(work.table, 0, FINDAVOREB_TABLE_WORDS, 0))
+        complain(name, "the desk or the table of the work memory is not zero");
+}
+
+/* With all work memory behind one pointer: as it begins, and then with junk. */
+static void to_real_with(const char *name, struct lent lent, int is_clean, const char *listing, const uint64_t *want)
+{
+    prepare();
+    fill(work.desk, FINDAVOREB_DESK_WORDS, junk);
+    fill(work.table, FINDAVOREB_TABLE_WORDS, junk);
+    findavoreb_init_work(&work, store, lent.rows);
+    check_work(name, lent);
+    check_rows(name, 0);
+    if (!is_clean) {
+        fill(work.desk, FINDAVOREB_DESK_WORDS, junk);
+        fill(work.table, FINDAVOREB_TABLE_WORDS, junk);
+    }
+    uint64_t returned =
+        findavoreb_to_real(bytes(listing), strlen(listing), work.store, work.rows, work.desk, work.table, answer);
+    check_answer(name, returned, want);
+    check_work(name, lent);
+    check_rows(name, lent.rows);
+    check_answer_end(name);
+}
+
 static void to_real_in(const char *name, struct lent lent, const char *listing, const uint64_t *want)
 {
     prepare();
-    uint64_t returned = findavoreb_to_real(
-        bytes(listing), strlen(listing), store[0], lent.words[0], store[1], lent.words[1], store[2], lent.words[2], store[3],
-        lent.words[3], table, answer);
+    uint64_t returned = findavoreb_to_real(bytes(listing), strlen(listing), store, lent.rows, desk, table, answer);
     check_answer(name, returned, want);
     check_memory(name, lent);
     if (!is_blank_from(0))
         complain(name, "the output was changed");
+    to_real_with(name, lent, 0, listing, want);
+    to_real_with(name, lent, 1, listing, want);
 }
 
 /* The output is what is written, and blank from there on; nothing is after a refusal. */
@@ -164,8 +217,7 @@ static void substitute_in(const char *name, struct lent lent, const char *listin
 {
     prepare();
     uint64_t returned = findavoreb_substitute(
-        bytes(listing), strlen(listing), store[0], lent.words[0], store[1], lent.words[1], store[2], lent.words[2], store[3],
-        lent.words[3], table, out, lent.bytes, answer);
+        bytes(listing), strlen(listing), store, lent.rows, desk, table, out, lent.bytes, answer);
     check_answer(name, returned, want);
     check_memory(name, lent);
     check_output(name, written);
@@ -176,8 +228,7 @@ static void simplify_in(
 {
     prepare();
     uint64_t returned = findavoreb_simplify(
-        bytes(listing), strlen(listing), bytes(sheet), strlen(sheet), limit, store[0], lent.words[0], store[1], lent.words[1],
-        store[2], lent.words[2], store[3], lent.words[3], table, out, lent.bytes, answer);
+        bytes(listing), strlen(listing), bytes(sheet), strlen(sheet), limit, store, lent.rows, desk, table, out, lent.bytes, answer);
     check_answer(name, returned, want);
     check_memory(name, lent);
     check_output(name, written);
@@ -229,9 +280,8 @@ static const struct tape EMPTY = {0, {0}};
 static void compile_in(const char *name, struct lent lent, const char *listing, struct tape written, const uint64_t *want)
 {
     prepare();
-    uint64_t returned = findavoreb_compile(
-        bytes(listing), strlen(listing), store[0], lent.words[0], store[1], lent.words[1], store[2], lent.words[2], store[3],
-        lent.words[3], table, out, lent.bytes, answer);
+    uint64_t returned =
+        findavoreb_compile(bytes(listing), strlen(listing), store, lent.rows, desk, table, out, lent.bytes, answer);
     check_answer(name, returned, want);
     check_memory(name, lent);
     check_bytes(name, written.bytes, written.length);
@@ -242,9 +292,8 @@ static void play_all(const char *name, struct tape tape, const char *sheet, cons
     prepare();
     uint64_t returned = findavoreb_play(tape.bytes, tape.length, bytes(sheet), strlen(sheet), table, answer);
     check_answer(name, returned, want);
-    check_memory(name, NO_STORE);
-    if (!is_blank_from(0))
-        complain(name, "the output was changed");
+    check_untouched(name, 1);
+    check_answer_end(name);
 }
 
 static void check_all(const char *name, struct tape tape, const uint64_t *want)
@@ -252,9 +301,8 @@ static void check_all(const char *name, struct tape tape, const uint64_t *want)
     prepare();
     uint64_t returned = findavoreb_check(tape.bytes, tape.length, answer);
     check_answer(name, returned, want);
-    check_untouched(name);
-    if (!all_are(answer, FINDAVOREB_ANSWER_WORDS, FINDAVOREB_ANSWER_WORDS + GUARD, JUNK))
-        complain(name, "a word past the answer was changed");
+    check_untouched(name, 0);
+    check_answer_end(name);
 }
 
 static void pick(const char *name, struct tape first, struct tape second, uint64_t which, size_t length_of_it)
@@ -264,8 +312,8 @@ static void pick(const char *name, struct tape first, struct tape second, uint64
     calls++;
     if (returned != which || picked[0] != which || picked[1] != length_of_it)
         complain(name, "another one is picked");
-    check_untouched(name);
-    if (!all_are(picked, FINDAVOREB_PICKED_WORDS, FINDAVOREB_PICKED_WORDS + GUARD, JUNK))
+    check_untouched(name, 0);
+    if (!all_are(picked, FINDAVOREB_PICKED_WORDS, FINDAVOREB_PICKED_WORDS + GUARD, junk))
         complain(name, "a word past what is picked was changed");
 }
 
@@ -373,13 +421,11 @@ static void same_played(const char *name, const char *listing, const char *sheet
     struct tape tape;
     prepare();
     findavoreb_evaluate(
-        bytes(listing), strlen(listing), bytes(sheet), strlen(sheet), store[0], 4096, store[1], 4096, store[2], 4096, store[3], 4096,
-        table, answer);
+        bytes(listing), strlen(listing), bytes(sheet), strlen(sheet), store, FINDAVOREB_MOST_ROWS, desk, table, answer);
     memcpy(want, answer, sizeof want);
     prepare();
     findavoreb_compile(
-        bytes(listing), strlen(listing), store[0], 4096, store[1], 4096, store[2], 4096, store[3], 4096, table, tape.bytes,
-        FINDAVOREB_TAPE_BYTES, answer);
+        bytes(listing), strlen(listing), store, FINDAVOREB_MOST_ROWS, desk, table, tape.bytes, FINDAVOREB_TAPE_BYTES, answer);
     tape.length = answer[0] == 0 ? (size_t)answer[1] : 0;
     calls += 2;
     sound(name, tape);
@@ -455,6 +501,47 @@ static const char *grown(void)
     for (unsigned i = 301; i < 899; i += 2)
         add("b\t+\t%u\t%u\n", i, i + 1);
     add("s\t0\t899\n", 0, 0);
+    return text;
+}
+
+/* The lines that join these with one operator, in pairs and then again, until one is left. `next` is the number of the next line. */
+static unsigned join(const char *format, unsigned *lines, unsigned count, unsigned next)
+{
+    for (; count > 1; count = (count + 1) / 2) {
+        unsigned odd = lines[count - 1];
+        for (unsigned i = 0; i + 1 < count; i += 2) {
+            add(format, lines[i], lines[i + 1]);
+            lines[i / 2] = next++;
+        }
+        if (count % 2 == 1)
+            lines[count / 2] = odd;
+    }
+    return next;
+}
+
+/* 302 products of one of 20 variables with one of 20 sums of eight others, all multiplied; before them variables that nothing reaches.
+ * Simplifying it at limit 10 takes 4095 nodes and those. */
+static const char *crowd(unsigned unreached)
+{
+    unsigned sums[20], lines[302], next = unreached;
+    begin();
+    for (unsigned i = 0; i < unreached; i++)
+        add("v\t%u\n", 60000 + i, 0);
+    for (unsigned k = 0; k < 20; k++) {
+        for (unsigned i = 0; i < 8; i++) {
+            add("v\t%u\n", 8 * k + i, 0);
+            lines[i] = next++;
+        }
+        next = join(INFIX("+", "%u", "%u"), lines, 8, next);
+        sums[k] = next - 1;
+    }
+    for (unsigned i = 0; i < 20; i++)
+        add("v\t%u\n", 1000 + i, 0);
+    for (unsigned i = 0; i < 302; i++) {
+        add(INFIX("*", "%u", "%u"), next + i % 20, sums[i / 20]);
+        lines[i] = next + 20 + i;
+    }
+    join(INFIX("*", "%u", "%u"), lines, 302, next + 322);
     return text;
 }
 
@@ -632,7 +719,7 @@ static void compile_refusals(void)
     many("v\t0\n", INFIX("+", "%u", "%u"), 8);
     add("u\t-\t8\nu\t-\t9\n", 0, 0);
     not_compiled("a size of 513", text, FINDAVOREB_LONG_TAPE, 0);
-    compile_in("that comes before a short output", (struct lent){{4096, 4096, 4096, 4096}, 0}, text, EMPTY,
+    compile_in("that comes before a short output", (struct lent){FINDAVOREB_MOST_ROWS, 0}, text, EMPTY,
                (uint64_t[]){FINDAVOREB_LONG_TAPE, 0, 0, 0, 0, 0});
 }
 
@@ -641,17 +728,18 @@ static void compile_short_memory(void)
 {
     const uint64_t full[] = {FINDAVOREB_ROOM, 0, 0, 0, 0, 0}, short_of_out[] = {FINDAVOREB_OUT_ROOM, 0, 0, 0, 0, 0};
     const struct tape tape = TAPE(VARIABLE_STEP(0), VARIABLE_STEP(1), INFIX_STEP(2), NUMBER_STEP(TWO_BITS, 0), INFIX_STEP(4));
-    struct lent lent = {{5, 5, 5, 5}, 120};
+    struct lent lent = {5, 120};
     compile_in("just enough to compile", lent, HALF_DIFFERENCE, tape, (uint64_t[]){0, 120, 0, 0, 0, 0});
     lent.bytes = 119;
     compile_in("an output too short", lent, HALF_DIFFERENCE, EMPTY, short_of_out);
     lent.bytes = 0;
     compile_in("an empty output", lent, HALF_DIFFERENCE, EMPTY, short_of_out);
+    lent.rows = 4;
     for (int k = 0; k < 4; k++) {
-        lent.words[k] = 4;
+        junk = JUNK[k];
         compile_in("full before it is compiled", lent, HALF_DIFFERENCE, EMPTY, full);
-        lent.words[k] = 5;
     }
+    junk = JUNK[0];
 }
 
 static void play_values(void)
@@ -800,35 +888,37 @@ static void picks(void)
     pick("neither is there", EMPTY, EMPTY, 0, 0);
 }
 
-/* With each of the four slices as the shortest: room for two nodes, for one, for none. */
-static void short_slices(void)
+/* Room for two nodes, for one, for none, whatever the memory held. */
+static void few_rows(void)
 {
     const uint64_t full[] = {FINDAVOREB_ROOM, 0, 0, 0, 0, 0};
     for (int k = 0; k < 4; k++) {
         struct lent lent = ALL;
-        lent.words[k] = 2;
+        junk = JUNK[k];
+        lent.rows = 2;
         evaluate_in("room for two of three", lent, "p\nv\t0\nv\t1\n", BOUND("1", ONE), full);
         evaluate_in("two of two", lent, "p\np\nu\t+\t1\n", "", (uint64_t[]){0, 0, PI_BITS, 0, 0, 0});
         substitute_in("two of three to replace", lent, "p\nv\t0\nu\t-\t1\ns\t0\t0\n", "", full);
-        lent.words[k] = 1;
+        lent.rows = 1;
         to_real_in("one of one", lent, "p\np\n", (uint64_t[]){0, 0, PI_BITS, 0, 0, 0});
-        lent.words[k] = 0;
+        lent.rows = 0;
         to_real_in("none", lent, "p\n", full);
         substitute_in("none to replace", lent, "v\t0\n", "", full);
         evaluate_in("a bad line before a full store", lent, "p", "", (uint64_t[]){FINDAVOREB_BAD_LIST, 0, 0, 0, 0, 0});
     }
+    junk = JUNK[0];
 }
 
 /* The shift has 7 nodes, and two more are made; its result is of a known length. */
 static void short_memory(void)
 {
-    struct lent lent = {{9, 9, 9, 9}, strlen(SHIFTED)};
+    struct lent lent = {9, strlen(SHIFTED)};
     substitute_in("just enough", lent, SHIFT, SHIFTED, (uint64_t[]){0, strlen(SHIFTED), 0, 0, 0, 0});
     lent.bytes = strlen(SHIFTED) - 1;
     substitute_in("an output too short", lent, SHIFT, "", (uint64_t[]){FINDAVOREB_OUT_ROOM, 0, 0, 0, 0, 0});
     lent.bytes = 0;
     substitute_in("an empty output", lent, SHIFT, "", (uint64_t[]){FINDAVOREB_OUT_ROOM, 0, 0, 0, 0, 0});
-    lent.words[2] = 8;
+    lent.rows = 8;
     substitute_in("full before it is written", lent, SHIFT, "", (uint64_t[]){FINDAVOREB_ROOM, 0, 0, 0, 0, 0});
 }
 
@@ -837,19 +927,62 @@ static void simplify_short_memory(void)
 {
     const uint64_t done[] = {0, 4, 11, 0, 0, 0}, full[] = {FINDAVOREB_ROOM, 0, 0, 0, 0, 0},
                    short_of_out[] = {FINDAVOREB_OUT_ROOM, 0, 0, 0, 0, 0};
-    struct lent lent = {{7, 7, 7, 7}, 4};
+    struct lent lent = {7, 4};
     simplify_in("just enough to simplify", lent, TWICE_LESS, "", 10, "v\t0\n", done);
     lent.bytes = 3;
     simplify_in("an output too short", lent, TWICE_LESS, "", 10, "", short_of_out);
     lent.bytes = 0;
     simplify_in("an empty output", lent, TWICE_LESS, "", 10, "", short_of_out);
     for (int k = 0; k < 4; k++) {
-        lent.words[k] = 6;
+        junk = JUNK[k];
+        lent.rows = 6;
         simplify_in("full before it is simpler", lent, TWICE_LESS, "", 10, "", full);
-        lent.words[k] = 3;
+        lent.rows = 3;
         simplify_in("full while it is read", lent, TWICE_LESS, "", 10, "", full);
-        lent.words[k] = 7;
     }
+    junk = JUNK[0];
+}
+
+/* More rows than a store holds nodes: the answers are the same, and all rows come back zero. */
+static void many_rows(void)
+{
+    const struct lent lent = {ROWS, PAPER};
+    const struct tape tape = TAPE(VARIABLE_STEP(0), VARIABLE_STEP(1), INFIX_STEP(2), NUMBER_STEP(TWO_BITS, 0), INFIX_STEP(4));
+    for (int k = 0; k < 4; k++) {
+        junk = JUNK[k];
+        evaluate_in("a value", lent, HALF_DIFFERENCE, BOUND("0", "3FF4000000000000") BOUND("1", HALF),
+                    (uint64_t[]){0, 0, 0x3FD8000000000000, 0, 0, 0});
+        evaluate_in("no value", lent, HALF_DIFFERENCE, "", (uint64_t[]){FINDAVOREB_INCOMPLETE, 0, 0, 0, 0, 0});
+        evaluate_in("a bad listing", lent, "p\nq\n", "", (uint64_t[]){FINDAVOREB_BAD_LIST, 1, 0, 0, 0, 0});
+        substitute_in("a shift", lent, SHIFT, SHIFTED, (uint64_t[]){0, strlen(SHIFTED), 0, 0, 0, 0});
+        substitute_in("1499 lines of result", lent, grown(), "", (uint64_t[]){FINDAVOREB_LONG_LIST, 0, 0, 0, 0, 0});
+        simplify_in("(a - b) - b", lent, TWICE_LESS, "", 10, "v\t0\n", (uint64_t[]){0, 4, 11, 0, 0, 0});
+        simplify_in("no sine", lent, NUMBER(HALF, ZERO) "f\tsin\t0\n", "", 10, "",
+                    (uint64_t[]){FINDAVOREB_NEED, FINDAVOREB_SIN, HALF_BITS, 0, 0, 0});
+        to_real_in("pi", lent, "p\n", (uint64_t[]){0, 0, PI_BITS, 0, 0, 0});
+        to_real_in("no number", lent, "v\t0\n", (uint64_t[]){FINDAVOREB_NOT_A_NUMBER, 0, 0, 0, 0, 0});
+        compile_in("a tape", lent, HALF_DIFFERENCE, tape, (uint64_t[]){0, 120, 0, 0, 0, 0});
+        compile_in("an empty listing", lent, "", EMPTY, (uint64_t[]){FINDAVOREB_BAD_LIST, 0, 0, 0, 0, 0});
+    }
+    junk = JUNK[0];
+}
+
+/* 4096 nodes fit, in so many rows or in more, and 4097 do not. */
+static void most_nodes(void)
+{
+    static char written[PAPER];
+    const uint64_t done[] = {0, 8933, 6382, 0, 0, 0}, full[] = {FINDAVOREB_ROOM, 0, 0, 0, 0, 0};
+    const struct lent lent = {ROWS, PAPER}, one_less = {FINDAVOREB_MOST_ROWS - 1, PAPER};
+    crowd(1);
+    prepare(); /* what is written is not known from the rules: it has to be the same each time */
+    findavoreb_simplify(bytes(text), length, bytes(""), 0, 10, store, FINDAVOREB_MOST_ROWS, desk, table, out, PAPER, answer);
+    memcpy(written, out, done[1]);
+    simplify_in("4096 nodes", ALL, text, "", 10, written, done);
+    simplify_in("4096 nodes, more rows", lent, text, "", 10, written, done);
+    simplify_in("4096 nodes, a row less", one_less, text, "", 10, "", full);
+    crowd(2);
+    simplify_in("4097 nodes", ALL, text, "", 10, "", full);
+    simplify_in("4097 nodes, more rows", lent, text, "", 10, "", full);
 }
 
 int main(void)
@@ -863,9 +996,11 @@ int main(void)
     simplify_results();
     simplify_refusals();
     to_real_jobs();
-    short_slices();
+    few_rows();
     short_memory();
     simplify_short_memory();
+    many_rows();
+    most_nodes();
     compile_results();
     compile_refusals();
     compile_short_memory();

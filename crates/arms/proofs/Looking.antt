@@ -4,14 +4,12 @@ use mathlib.Core.Bool.{Bool, true, false, not}
 use Prim.Native.Nat.{ℕ, _<_}
 use native.Mathlib.Omega.{arith}
 use lib.Dec.{T}
-use mathlib.Core.List.{List}
 use Rattle.complex.specs.declared.Complex.{Complex}
 use Rattle.expression.specs.Trees.{Tree, number, pi, variable, cell, leaf, functionCall, prefixed, infixed}
 use Rattle.expression.specs.Alike.{equal}
 use Rattle.expression.specs.declared.node.Expression.{Expression}
-use Rattle.store.specs.Nodes.{expressionOf}
 use Rattle.expression.specs.Nodes.{Within}
-use Rattle.store.specs.Memory.{Memory, memory, fieldsAt, treeAt, treeOf}
+use Rattle.store.specs.Memory.{Memory, expressionAt, treeAt, treeOf}
 use Rattle.store.specs.Held.{Holds, Compares}
 use Rattle.store.proofs.Stored.{read-node}
 use Rattle.arms.specs.Looks.{bothHold, eitherHolds, isNumberOf, isNumber, numberIn}
@@ -120,19 +118,18 @@ module _ {m : Memory} {n : ℕ} where
   at-named e a = record { inside = a .inside; tree = a .tree ∙ e }
 
   -- a node that was read
-  pub tree-of : Holds m n → {k : ℕ} {e : Expression} → k < n → e ≡ expressionOf (fieldsAt m k) → treeOf m e ≡ treeAt m k
+  pub tree-of : Holds m n → {k : ℕ} {e : Expression} → k < n → e ≡ expressionAt m k → treeOf m e ≡ treeAt m k
   tree-of h {k} l p = read-node h k l p .1
 
-  pub within-of : Holds m n → {k : ℕ} {e : Expression} → k < n → e ≡ expressionOf (fieldsAt m k) → Within n e
+  pub within-of : Holds m n → {k : ℕ} {e : Expression} → k < n → e ≡ expressionAt m k → Within n e
   within-of h {k} {e} l p = within-more n k e l (read-node h k l p .0)
 
-  pub sits : Holds m n → {k : ℕ} {e : Expression} → k < n → e ≡ expressionOf (fieldsAt m k) → Sits m n k e
+  pub sits : Holds m n → {k : ℕ} {e : Expression} → k < n → e ≡ expressionAt m k → Sits m n k e
   sits h l p = record { at = record { inside = l; tree = sym (tree-of h l p) }; within = within-of h l p }
 
 -- two nodes that were compared
-pub compared : {tag first second link : List ℕ} {n a b : ℕ} {r : Bool} {t u : Tree} → Compares link a b r → Holds (memory tag first second link) n
-    → At (memory tag first second link) n a t → At (memory tag first second link) n b u → r ≡ equal t u
-compared {tag} {first} {second} {link} {n} c h a b = c tag first second n h (a .inside) (b .inside) ∙ (λ i. equal (a .tree i) (b .tree i))
+pub compared : {m : Memory} {n a b : ℕ} {r : Bool} {t u : Tree} → Compares m a b r → Holds m n → At m n a t → At m n b u → r ≡ equal t u
+compared {n = n} c h a b = c n h (a .inside) (b .inside) ∙ (λ i. equal (a .tree i) (b .tree i))
 
 -- a test of two nodes by their numbers, as one of their trees
 pub likened : (test : Tree → Tree → Bool) {m : Memory} {n a b : ℕ} {r : Bool} {t u : Tree} → (a < n → b < n → r ≡ test (treeAt m a) (treeAt m b))

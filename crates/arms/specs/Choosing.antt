@@ -1,7 +1,6 @@
 -- What the functions that choose ensure: an arm on nodes is a plan on trees. Only connecting.
 use mathlib.Core.Path.{_≡_}
 use mathlib.Core.Bool.{Bool, true}
-use mathlib.Core.List.{List}
 use Prim.Native.Nat.{ℕ, _<_}
 use Rattle.complex.specs.Constants.{oneNumber, twoNumber}
 use Rattle.expression.specs.declared.InfixOperator.{InfixOperator}
@@ -9,7 +8,7 @@ use Rattle.expression.specs.Trees.{Tree}
 use Rattle.expression.specs.declared.PrefixOperator.{PrefixOperator}
 use Rattle.expression.specs.declared.node.Expression.{Expression}
 use Rattle.expression.specs.Nodes.{Within}
-use Rattle.store.specs.Memory.{Memory, memory, treeAt, treeOf}
+use Rattle.store.specs.Memory.{Memory, treeAt, treeOf}
 use Rattle.store.specs.Held.{Holds}
 use Rattle.arms.specs.declared.Arm.{Arm}
 use Rattle.arms.specs.declared.Outer.{Outer}
@@ -95,32 +94,21 @@ pub record Sits (m : Memory) (n k : ℕ) (e : Expression) : Type 0 where
   pub at : At m n k (treeOf m e)
   pub within : Within n e
 
--- a test that compares operands; of the slices `link` alone is read
-abbrev pub Likens : (Tree → Tree → Bool) → (link : List ℕ) (a b : Expression) → Bool → Type 0
-Likens test link a b r =
-    (tag first second : List ℕ) (n : ℕ) → Holds (memory tag first second link) n → Within n a → Within n b
-    → r ≡ test (treeOf (memory tag first second link) a) (treeOf (memory tag first second link) b)
-
--- the same of tests that read more than `link`: of nodes that are read already, and by the nodes' numbers
-abbrev pub ComparesParts : (Tree → Tree → Bool) → (m : Memory) (a b : Expression) → Bool → Type 0
-ComparesParts test m a b r = (n : ℕ) → Holds m n → Within n a → Within n b → r ≡ test (treeOf m a) (treeOf m b)
+-- a test that compares operands of nodes that are read already, and by the nodes' numbers
+abbrev pub Likens : (Tree → Tree → Bool) → (m : Memory) (a b : Expression) → Bool → Type 0
+Likens test m a b r = (n : ℕ) → Holds m n → Within n a → Within n b → r ≡ test (treeOf m a) (treeOf m b)
 
 abbrev pub ComparesNodes : (Tree → Tree → Bool) → (m : Memory) (a b : ℕ) → Bool → Type 0
 ComparesNodes test m a b r = (n : ℕ) → Holds m n → a < n → b < n → r ≡ test (treeAt m a) (treeAt m b)
 
 -- a test of a node's operands against another node
-abbrev pub LikensTo : (Tree → Tree → Bool) → (link : List ℕ) (e : Expression) (k : ℕ) → Bool → Type 0
-LikensTo test link e k r =
-    (tag first second : List ℕ) (n : ℕ) (t : Tree) → Holds (memory tag first second link) n → Within n e → At (memory tag first second link) n k t
-    → r ≡ test (treeOf (memory tag first second link) e) t
+abbrev pub LikensTo : (Tree → Tree → Bool) → (m : Memory) (e : Expression) (k : ℕ) → Bool → Type 0
+LikensTo test m e k r = (n : ℕ) (t : Tree) → Holds m n → Within n e → At m n k t → r ≡ test (treeOf m e) t
 
 -- the arm of two simplified operands
-abbrev pub ChoosesIn : (Tree → Tree → Plan) → (m : Memory) (l r : ℕ) (left right : Expression) → Arm → Type 0
-ChoosesIn plan m l r left right arm =
+abbrev pub Chooses : (Tree → Tree → Plan) → (m : Memory) (l r : ℕ) (left right : Expression) → Arm → Type 0
+Chooses plan m l r left right arm =
     (n : ℕ) → Holds m n → Sits m n l left → Sits m n r right → Chosen m n arm (plan (treeOf m left) (treeOf m right))
-
-abbrev pub Chooses : (Tree → Tree → Plan) → (link : List ℕ) (l r : ℕ) (left right : Expression) → Arm → Type 0
-Chooses plan link l r left right arm = (tag first second : List ℕ) → ChoosesIn plan (memory tag first second link) l r left right arm
 
 abbrev pub rightInfix : InfixOperator → Tree → Tree → Bool
 rightInfix op l r = isInfix op r
@@ -128,37 +116,28 @@ rightInfix op l r = isInfix op r
 abbrev pub always : Tree → Tree → Bool
 always l r = true
 
--- the same without a slice, where `given` holds of the operands
+-- the same without the store, where `given` holds of the operands
 abbrev pub ChoosesWhere : (given : Tree → Tree → Bool) → (Tree → Tree → Plan) → (l r : ℕ) (left right : Expression) → Arm → Type 0
 ChoosesWhere given plan l r left right arm =
     (m : Memory) (n : ℕ) → Sits m n l left → Sits m n r right → given (treeOf m left) (treeOf m right) ≡ true
     → Chosen m n arm (plan (treeOf m left) (treeOf m right))
 
--- the arm of two simplified operands, by their numbers; and of one, for which `link` is not read
+-- the arm of two simplified operands, by their numbers; and of one
 abbrev pub ChoosesAt : (Tree → Tree → Plan) → (m : Memory) (l r : ℕ) → Arm → Type 0
 ChoosesAt plan m l r arm = (n : ℕ) → Holds m n → l < n → r < n → Chosen m n arm (plan (treeAt m l) (treeAt m r))
 
-abbrev pub ChoosesOneIn : (Tree → Plan) → (m : Memory) (x : ℕ) → Arm → Type 0
-ChoosesOneIn plan m x arm = (n : ℕ) → Holds m n → x < n → Chosen m n arm (plan (treeAt m x))
+abbrev pub ChoosesOne : (Tree → Plan) → (m : Memory) (x : ℕ) → Arm → Type 0
+ChoosesOne plan m x arm = (n : ℕ) → Holds m n → x < n → Chosen m n arm (plan (treeAt m x))
 
-abbrev pub ChoosesOne : (Tree → Plan) → (tag first second : List ℕ) (x : ℕ) → Arm → Type 0
-ChoosesOne plan tag first second x arm = (link : List ℕ) → ChoosesOneIn plan (memory tag first second link) x arm
+-- one of two nodes, by their trees
+abbrev pub Selects : (Tree → Tree → Tree) → (m : Memory) (a b r : ℕ) → Type 0
+Selects select m a b r = (n : ℕ) → Holds m n → a < n → b < n → At m n r (select (treeAt m a) (treeAt m b))
 
--- one of two nodes, by their trees, for which `tag` alone is read
-abbrev pub SelectsIn : (Tree → Tree → Tree) → (m : Memory) (a b r : ℕ) → Type 0
-SelectsIn select m a b r = (n : ℕ) → Holds m n → a < n → b < n → At m n r (select (treeAt m a) (treeAt m b))
-
-abbrev pub Selects : (Tree → Tree → Tree) → (tag : List ℕ) (a b r : ℕ) → Type 0
-Selects select tag a b r = (first second link : List ℕ) → SelectsIn select (memory tag first second link) a b r
-
--- where `given` holds of the operands, and `link` is read
-abbrev pub ChoosesLinkedIn : (given : Tree → Tree → Bool) → (Tree → Tree → Plan) → (m : Memory) (l r : ℕ) (left right : Expression) → Arm → Type 0
-ChoosesLinkedIn given plan m l r left right arm =
+-- where `given` holds of the operands, and the store is read
+abbrev pub ChoosesLinked : (given : Tree → Tree → Bool) → (Tree → Tree → Plan) → (m : Memory) (l r : ℕ) (left right : Expression) → Arm → Type 0
+ChoosesLinked given plan m l r left right arm =
     (n : ℕ) → Holds m n → Sits m n l left → Sits m n r right → given (treeOf m left) (treeOf m right) ≡ true
     → Chosen m n arm (plan (treeOf m left) (treeOf m right))
-
-abbrev pub ChoosesLinked : (given : Tree → Tree → Bool) → (Tree → Tree → Plan) → (link : List ℕ) (l r : ℕ) (left right : Expression) → Arm → Type 0
-ChoosesLinked given plan link l r left right arm = (tag first second : List ℕ) → ChoosesLinkedIn given plan (memory tag first second link) l r left right arm
 
 -- arm 27: the operands pass its test
 abbrev pub ChoosesShared : (Tree → Tree → Plan) → (m : Memory) (left right : Expression) → Arm → Type 0

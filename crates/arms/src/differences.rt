@@ -1,4 +1,5 @@
 // The arms of -: 3 to 5, 17, 20, 21, 31, 32 and 41.
+ghost use Rattle.store.specs.Memory.{memory};
 ghost use Rattle.arms.specs.Arms.{signedDifference, differencePlan};
 ghost use Rattle.arms.specs.Choosing.{ChoosesWhere, Chooses, always};
 use super::Arm;
@@ -42,13 +43,13 @@ fn choose_signed_difference(l: usize, r: usize, left: Expression, right: Express
 }
 
 pub fn choose_difference(
-    link: &[u64],
+    store: &[[u64; 4]],
     l: usize,
     r: usize,
     left: Expression,
     right: Expression,
 ) -> Arm
-    ensures { λ arm. ⌜ Chooses differencePlan (now (link .entry)) l r left right arm ⌝ }
+    ensures { λ arm. ⌜ Chooses differencePlan (memory (now (store .entry))) l r left right arm ⌝ }
 {
     // 3. 0-r: S(-r)
     if is_zero_number(left) {
@@ -59,7 +60,7 @@ pub fn choose_difference(
         return Arm::Use(l);
     }
     // 5. l-l: 0
-    if equal_at(link, l, r) {
+    if equal_at(store, l, r) {
         return Arm::Build(Expression::Number(zero()));
     }
     // 17. Two numbers: fold

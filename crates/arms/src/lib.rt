@@ -79,49 +79,35 @@ impl Outer {
 }
 
 // The smaller of two nodes, by the sizes of their trees; the first at a tie.
-pub fn smaller(tag: &[u64], a: usize, b: usize) -> usize
-    ensures { λ r. ⌜ Selects smallerTree (now (tag .entry)) a b r ⌝ }
+pub fn smaller(store: &[[u64; 4]], a: usize, b: usize) -> usize
+    ensures { λ r. ⌜ Selects smallerTree (memory (now (store .entry))) a b r ⌝ }
 {
-    if size_at(tag, b) < size_at(tag, a) {
+    if size_at(store, b) < size_at(store, a) {
         b
     } else {
         a
     }
 }
 
-pub fn choose_infix(
-    tag: &[u64],
-    first: &[u64],
-    second: &[u64],
-    link: &[u64],
-    l: usize,
-    operator: InfixOperator,
-    r: usize,
-) -> Arm
-    ensures { λ arm. ⌜ ChoosesAt (infixPlan operator) (memory (now (tag .entry)) (now (first .entry)) (now (second .entry)) (now (link .entry))) l r arm ⌝ }
+pub fn choose_infix(store: &[[u64; 4]], l: usize, operator: InfixOperator, r: usize) -> Arm
+    ensures { λ arm. ⌜ ChoosesAt (infixPlan operator) (memory (now (store .entry))) l r arm ⌝ }
 {
-    let left = expression_at(tag, first, second, l);
-    let right = expression_at(tag, first, second, r);
+    let left = expression_at(store, l);
+    let right = expression_at(store, r);
     match operator {
-        InfixOperator::Plus => choose_sum(tag, first, second, link, l, r, left, right),
-        InfixOperator::Minus => choose_difference(link, l, r, left, right),
-        InfixOperator::Star => choose_product(link, l, r, left, right),
-        InfixOperator::Slash => choose_quotient(link, l, r, left, right),
+        InfixOperator::Plus => choose_sum(store, l, r, left, right),
+        InfixOperator::Minus => choose_difference(store, l, r, left, right),
+        InfixOperator::Star => choose_product(store, l, r, left, right),
+        InfixOperator::Slash => choose_quotient(store, l, r, left, right),
         InfixOperator::Caret => choose_power(l, r, left, right),
     }
 }
 
 // "Function: a number is folded, else rebuilt."
-pub fn choose_function(
-    tag: &[u64],
-    first: &[u64],
-    second: &[u64],
-    function: ExpressionFunction,
-    x: usize,
-) -> Arm
-    ensures { λ arm. ⌜ ChoosesOne (functionPlan function) (now (tag .entry)) (now (first .entry)) (now (second .entry)) x arm ⌝ }
+pub fn choose_function(store: &[[u64; 4]], function: ExpressionFunction, x: usize) -> Arm
+    ensures { λ arm. ⌜ ChoosesOne (functionPlan function) (memory (now (store .entry))) x arm ⌝ }
 {
-    let child = expression_at(tag, first, second, x);
+    let child = expression_at(store, x);
     if is_number(child) {
         return Arm::Call(function, number_in(child));
     }
@@ -129,10 +115,10 @@ pub fn choose_function(
 }
 
 // "Prefix - negates a number, strips an inner -, else rebuilds."
-fn choose_minus(tag: &[u64], first: &[u64], second: &[u64], x: usize) -> Arm
-    ensures { λ arm. ⌜ ChoosesOne (prefixPlan PrefixOperator.Minus) (now (tag .entry)) (now (first .entry)) (now (second .entry)) x arm ⌝ }
+fn choose_minus(store: &[[u64; 4]], x: usize) -> Arm
+    ensures { λ arm. ⌜ ChoosesOne (prefixPlan PrefixOperator.Minus) (memory (now (store .entry))) x arm ⌝ }
 {
-    let child = expression_at(tag, first, second, x);
+    let child = expression_at(store, x);
     if is_number(child) {
         return Arm::Build(Expression::Number(neg(number_in(child))));
     }
@@ -143,17 +129,11 @@ fn choose_minus(tag: &[u64], first: &[u64], second: &[u64], x: usize) -> Arm
 }
 
 // "Prefix + gives the child."
-pub fn choose_prefix(
-    tag: &[u64],
-    first: &[u64],
-    second: &[u64],
-    operator: PrefixOperator,
-    x: usize,
-) -> Arm
-    ensures { λ arm. ⌜ ChoosesOne (prefixPlan operator) (now (tag .entry)) (now (first .entry)) (now (second .entry)) x arm ⌝ }
+pub fn choose_prefix(store: &[[u64; 4]], operator: PrefixOperator, x: usize) -> Arm
+    ensures { λ arm. ⌜ ChoosesOne (prefixPlan operator) (memory (now (store .entry))) x arm ⌝ }
 {
     match operator {
         PrefixOperator::Plus => Arm::Use(x),
-        PrefixOperator::Minus => choose_minus(tag, first, second, x),
+        PrefixOperator::Minus => choose_minus(store, x),
     }
 }

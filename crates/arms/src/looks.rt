@@ -1,7 +1,7 @@
 // What the arms look at in a node. A test needs the node's fields alone; what compares operands reads their classes.
 ghost use mathlib.Core.Path.{_≡_};
 ghost use Prim.Native.Nat.{ℕ};
-ghost use Rattle.store.specs.Memory.{Memory, treeOf};
+ghost use Rattle.store.specs.Memory.{Memory, memory, treeOf};
 ghost use Rattle.arms.specs.Looks.{bothHold, eitherHolds, isNumber, isZeroNumber, isOneNumber, numberIn, isNegation, under, isInfix, left as leftOf, right as rightOf, bothInfix, eitherInfix, beginsWith, endsWith};
 ghost use Rattle.arms.specs.Arms.{bothNumbers};
 ghost use Rattle.arms.specs.Choosing.{Tells, TellsBoth, Parts, LikensTo};
@@ -187,22 +187,22 @@ pub fn has_infix(left: Expression, right: Expression, operator: InfixOperator) -
 }
 
 // e is k op c, for a node equal to k.
-pub fn begins_with(link: &[u64], e: Expression, operator: InfixOperator, k: usize) -> bool
-    ensures { λ r. ⌜ LikensTo (beginsWith operator) (now (link .entry)) e k r ⌝ }
+pub fn begins_with(store: &[[u64; 4]], e: Expression, operator: InfixOperator, k: usize) -> bool
+    ensures { λ r. ⌜ LikensTo (beginsWith operator) (memory (now (store .entry))) e k r ⌝ }
 {
     if is_infix(e, operator) {
-        equal_at(link, left_in(e), k)
+        equal_at(store, left_in(e), k)
     } else {
         false
     }
 }
 
 // e is b op k, for a node equal to k.
-pub fn ends_with(link: &[u64], e: Expression, operator: InfixOperator, k: usize) -> bool
-    ensures { λ r. ⌜ LikensTo (endsWith operator) (now (link .entry)) e k r ⌝ }
+pub fn ends_with(store: &[[u64; 4]], e: Expression, operator: InfixOperator, k: usize) -> bool
+    ensures { λ r. ⌜ LikensTo (endsWith operator) (memory (now (store .entry))) e k r ⌝ }
 {
     if is_infix(e, operator) {
-        equal_at(link, right_in(e), k)
+        equal_at(store, right_in(e), k)
     } else {
         false
     }

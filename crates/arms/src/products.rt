@@ -1,4 +1,5 @@
 // The arms of *: 6 to 8, 17, 22, 25, 26, 30, 32 to 34 and 39 to 41.
+ghost use Rattle.store.specs.Memory.{memory};
 ghost use Rattle.arms.specs.Arms.{eitherNegation, signedProduct, distributed, productPlan};
 ghost use Rattle.arms.specs.Choosing.{ChoosesWhere, Chooses};
 use super::Arm;
@@ -39,8 +40,14 @@ fn choose_signed_product(l: usize, r: usize, left: Expression, right: Expression
 }
 
 // Arms 33, 34 and 39 to 41.
-fn choose_distributed(link: &[u64], l: usize, r: usize, left: Expression, right: Expression) -> Arm
-    ensures { λ arm. ⌜ Chooses distributed (now (link .entry)) l r left right arm ⌝ }
+fn choose_distributed(
+    store: &[[u64; 4]],
+    l: usize,
+    r: usize,
+    left: Expression,
+    right: Expression,
+) -> Arm
+    ensures { λ arm. ⌜ Chooses distributed (memory (now (store .entry))) l r left right arm ⌝ }
 {
     let original = Expression::Infix(InfixOperator::Star, l, r);
     // 33. l*(b+c): min(l*r, S(S(l*b)+S(l*c)))
@@ -60,19 +67,25 @@ fn choose_distributed(link: &[u64], l: usize, r: usize, left: Expression, right:
         );
     }
     // 39. (o/r)*r: o
-    if ends_with(link, left, InfixOperator::Slash, r) {
+    if ends_with(store, left, InfixOperator::Slash, r) {
         return Arm::Use(left_in(left));
     }
     // 40. l*(o/l): o
-    if ends_with(link, right, InfixOperator::Slash, l) {
+    if ends_with(store, right, InfixOperator::Slash, l) {
         return Arm::Use(left_in(right));
     }
     // 41. Rebuild
     Arm::Build(original)
 }
 
-pub fn choose_product(link: &[u64], l: usize, r: usize, left: Expression, right: Expression) -> Arm
-    ensures { λ arm. ⌜ Chooses productPlan (now (link .entry)) l r left right arm ⌝ }
+pub fn choose_product(
+    store: &[[u64; 4]],
+    l: usize,
+    r: usize,
+    left: Expression,
+    right: Expression,
+) -> Arm
+    ensures { λ arm. ⌜ Chooses productPlan (memory (now (store .entry))) l r left right arm ⌝ }
 {
     // 6. 0*r, l*0: 0
     if either_holds(is_zero_number(left), is_zero_number(right)) {
@@ -99,5 +112,5 @@ pub fn choose_product(link: &[u64], l: usize, r: usize, left: Expression, right:
     if has_infix(left, right, InfixOperator::Star) {
         return choose_grouped(InfixOperator::Star, l, r, left, right);
     }
-    choose_distributed(link, l, r, left, right)
+    choose_distributed(store, l, r, left, right)
 }

@@ -1,4 +1,5 @@
 // The arms of /: 9 to 12, 17, 22 to 26, 31, 32, 35 to 38 and 41.
+ghost use Rattle.store.specs.Memory.{memory};
 ghost use Rattle.arms.specs.Arms.{eitherNegation, cancelsNegation, signedQuotient, split, cancelled, quotientPlan};
 ghost use Rattle.arms.specs.Choosing.{LikensTo, Chooses, ChoosesLinked, ChoosesWhere, always};
 use super::Arm;
@@ -28,11 +29,11 @@ use expression::node::Expression;
 use store::equal_at;
 
 // e is -k, for a node equal to k.
-fn negates(link: &[u64], e: Expression, k: usize) -> bool
-    ensures { λ r. ⌜ LikensTo cancelsNegation (now (link .entry)) e k r ⌝ }
+fn negates(store: &[[u64; 4]], e: Expression, k: usize) -> bool
+    ensures { λ r. ⌜ LikensTo cancelsNegation (memory (now (store .entry))) e k r ⌝ }
 {
     if is_negation(e) {
-        equal_at(link, operand_in(e), k)
+        equal_at(store, operand_in(e), k)
     } else {
         false
     }
@@ -40,13 +41,13 @@ fn negates(link: &[u64], e: Expression, k: usize) -> bool
 
 // Arms 22 to 26: l or r is -e.
 fn choose_signed_quotient(
-    link: &[u64],
+    store: &[[u64; 4]],
     l: usize,
     r: usize,
     left: Expression,
     right: Expression,
 ) -> Arm
-    ensures { λ arm. ⌜ ChoosesLinked eitherNegation signedQuotient (now (link .entry)) l r left right arm ⌝ }
+    ensures { λ arm. ⌜ ChoosesLinked eitherNegation signedQuotient (memory (now (store .entry))) l r left right arm ⌝ }
 {
     // 22. (-a)/(-b): S(a/b)
     if both_hold(is_negation(left), is_negation(right)) {
@@ -57,11 +58,11 @@ fn choose_signed_quotient(
         ));
     }
     // 23. l/(-l): -1, the negation of 1, so its imaginary part is -0
-    if negates(link, right, l) {
+    if negates(store, right, l) {
         return Arm::Build(Expression::Number(minus_one()));
     }
     // 24. (-r)/r: the same
-    if negates(link, left, r) {
+    if negates(store, left, r) {
         return Arm::Build(Expression::Number(minus_one()));
     }
     // 25. l/(-e): min(l*r, S(S(-l)/e))
@@ -95,28 +96,40 @@ fn choose_split(l: usize, r: usize, left: Expression, right: Expression) -> Arm
 }
 
 // Arms 35 to 38 and 41.
-fn choose_cancelled(link: &[u64], l: usize, r: usize, left: Expression, right: Expression) -> Arm
-    ensures { λ arm. ⌜ Chooses cancelled (now (link .entry)) l r left right arm ⌝ }
+fn choose_cancelled(
+    store: &[[u64; 4]],
+    l: usize,
+    r: usize,
+    left: Expression,
+    right: Expression,
+) -> Arm
+    ensures { λ arm. ⌜ Chooses cancelled (memory (now (store .entry))) l r left right arm ⌝ }
 {
     // 35. (s*o)/s, (o*s)/s: o
-    if begins_with(link, left, InfixOperator::Star, r) {
+    if begins_with(store, left, InfixOperator::Star, r) {
         return Arm::Use(right_in(left));
     }
-    if ends_with(link, left, InfixOperator::Star, r) {
+    if ends_with(store, left, InfixOperator::Star, r) {
         return Arm::Use(left_in(left));
     }
     // 36. l/(l*o), l/(o*l): S(1/o)
-    if begins_with(link, right, InfixOperator::Star, l) {
+    if begins_with(store, right, InfixOperator::Star, l) {
         return Arm::Inverse(right_in(right));
     }
-    if ends_with(link, right, InfixOperator::Star, l) {
+    if ends_with(store, right, InfixOperator::Star, l) {
         return Arm::Inverse(left_in(right));
     }
     choose_split(l, r, left, right)
 }
 
-pub fn choose_quotient(link: &[u64], l: usize, r: usize, left: Expression, right: Expression) -> Arm
-    ensures { λ arm. ⌜ Chooses quotientPlan (now (link .entry)) l r left right arm ⌝ }
+pub fn choose_quotient(
+    store: &[[u64; 4]],
+    l: usize,
+    r: usize,
+    left: Expression,
+    right: Expression,
+) -> Arm
+    ensures { λ arm. ⌜ Chooses quotientPlan (memory (now (store .entry))) l r left right arm ⌝ }
 {
     // 9. 0/r: 0
     if is_zero_number(left) {
@@ -131,7 +144,7 @@ pub fn choose_quotient(link: &[u64], l: usize, r: usize, left: Expression, right
         return Arm::Use(l);
     }
     // 12. l/l: 1
-    if equal_at(link, l, r) {
+    if equal_at(store, l, r) {
         return Arm::Build(Expression::Number(one()));
     }
     // 17. Two numbers: fold
@@ -140,12 +153,12 @@ pub fn choose_quotient(link: &[u64], l: usize, r: usize, left: Expression, right
     }
     // 22 to 26. Dividend or divisor is -e
     if either_holds(is_negation(left), is_negation(right)) {
-        return choose_signed_quotient(link, l, r, left, right);
+        return choose_signed_quotient(store, l, r, left, right);
     }
     // 31. l/(b/c): min(l/r, S(S(l*c)/b))
     // 32. (a/b)/r: min(l/r, S(a*S(b/r)))
     if has_infix(left, right, InfixOperator::Slash) {
         return choose_grouped(InfixOperator::Slash, l, r, left, right);
     }
-    choose_cancelled(link, l, r, left, right)
+    choose_cancelled(store, l, r, left, right)
 }

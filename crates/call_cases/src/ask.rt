@@ -6,6 +6,7 @@ use exports::findavoreb_play;
 use exports::findavoreb_simplify;
 use exports::findavoreb_substitute;
 use exports::findavoreb_to_real;
+use memory::layout::DESK_WORDS;
 use memory::layout::TABLE_WORDS;
 use replay::lent::BLANK;
 use replay::lent::is_clear;
@@ -27,65 +28,45 @@ fn call(
     text: &[u8],
     sheet: &[u8],
     limit: u64,
-    tag: &mut [u64],
-    first: &mut [u64],
-    second: &mut [u64],
-    link: &mut [u64],
+    store: &mut [[u64; 4]],
+    desk: &mut [u64; DESK_WORDS],
     table: &mut [u64; TABLE_WORDS],
     out: &mut [u8],
     words: &mut [u64; 6],
 ) {
     match kind {
-        b'e' => findavoreb_evaluate(text, sheet, tag, first, second, link, table, words),
-        b'r' => findavoreb_to_real(text, tag, first, second, link, table, words),
-        b's' => findavoreb_substitute(text, tag, first, second, link, table, out, words),
-        b'z' => findavoreb_simplify(
-            text,
-            sheet,
-            limit,
-            tag,
-            first,
-            second,
-            link,
-            table,
-            out,
-            words,
-        ),
-        _ => findavoreb_compile(text, tag, first, second, link, table, out, words),
+        b'e' => findavoreb_evaluate(text, sheet, store, desk, table, words),
+        b'r' => findavoreb_to_real(text, store, desk, table, words),
+        b's' => findavoreb_substitute(text, store, desk, table, out, words),
+        b'z' => findavoreb_simplify(text, sheet, limit, store, desk, table, out, words),
+        _ => findavoreb_compile(text, store, desk, table, out, words),
     }
     ;
 }
 
-// Asks with as much of each work slice as the case lends, and `room` bytes of a paper.
+// Asks with as many rows as the case lends, and `room` bytes of a paper.
 pub fn ask(kind: u8, case: Case, text: &[u8], sheet: &[u8], room: usize) -> Told {
     let junk = case.junk;
-    let lent = case.lent;
-    let mut tag = [junk; 4096];
-    let mut first = [junk; 4096];
-    let mut second = [junk; 4096];
-    let mut link = [junk; 4096];
+    let rows = case.rows;
+    let mut store = [[junk; 4]; 4096];
+    let mut desk = [junk; DESK_WORDS];
     let mut table = [junk; TABLE_WORDS];
     let mut paper = [BLANK; 32768];
     let mut words = [junk; 6];
-    let a = part(&tag, lent.tag);
-    let b = part(&first, lent.first);
-    let c = part(&second, lent.second);
-    let d = part(&link, lent.link);
+    let m = part(&store, rows);
     let n = part_of_bytes(&paper, room);
     call(
         kind,
         text,
         sheet,
         case.limit,
-        &mut tag[..a],
-        &mut first[..b],
-        &mut second[..c],
-        &mut link[..d],
+        &mut store[..m],
+        &mut desk,
         &mut table,
         &mut paper[..n],
         &mut words,
     );
-    let is_clear = is_clear(lent, &tag, &first, &second, &link, &table);
+    let is_clear = is_clear(rows, &store, &desk, &table);
     Told {
         words,
         paper,
@@ -94,7 +75,7 @@ pub fn ask(kind: u8, case: Case, text: &[u8], sheet: &[u8], room: usize) -> Told
 }
 
 fn is_table_clear(table: &[u64; TABLE_WORDS]) -> bool {
-    is_zero(table, TABLE_WORDS)
+    is_zero(table)
 }
 
 // Playing is lent the table alone.

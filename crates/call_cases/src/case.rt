@@ -1,19 +1,18 @@
 // A case of the public calls as a line of a list has it; tests/call_cases.py and tests/rust/README.md say what each field
 // stands for.
-use replay::lent::Lent;
 use replay::line::Line;
 use replay::line::next_line;
 
 // With its line feed.
 const LINE: usize = 190;
 
-// `junk` is what all memory holds before a call, `first` and `second` how long the texts or tapes are that follow the line,
-// `room` how much of the output is lent, and `written` how long what has to be written there is. `wanted` has the six words of
-// the right answer, as `exports` gives them.
+// `junk` is what all memory holds before a call, `rows` how many rows are lent, `first` and `second` how long the texts or
+// tapes are that follow the line, `room` how much of the output is lent, and `written` how long what has to be written there
+// is. `wanted` has the six words of the right answer, as `exports` gives them.
 pub struct Case {
     pub kind: u8,
     pub junk: u64,
-    pub lent: Lent,
+    pub rows: usize,
     pub first: usize,
     pub second: usize,
     pub room: usize,
@@ -56,7 +55,7 @@ pub fn next_case(list: i32) -> Case {
     Case {
         kind: line.kind,
         junk: line.fields[1],
-        lent: Lent::of(line.fields[2]),
+        rows: line.fields[2] as usize,
         first: upper(line.fields[3]),
         second: lower(line.fields[3]),
         room: upper(line.fields[4]),

@@ -44,7 +44,7 @@ storedIn (state room ts kept calls) = ts
 
 GoodIn : Answer → Type 0
 GoodIn (gives t s) = Good t × AllGood (storedIn s)
-GoodIn (Storing.refused why) = Unit {0}
+GoodIn (Storing.refused why s) = Unit {0}
 
 either-way : (b : Bool) (x y : Answer) → (b ≡ true → GoodIn x) → (b ≡ false → GoodIn y) → GoodIn (cond b x y)
 either-way true x y p q = p refl
@@ -136,7 +136,7 @@ line-either false x y p q = q
 stored-good : (k : Known) (rest : List ℕ) (a : Answer) → GoodKnown k → GoodIn a → InLine GoodKnown (stored k rest a)
 unfolding stored GoodIn InLine GoodKnown
 stored-good k rest (gives t s) g x = (good-more (k .nodes) t (g .0) (x .0), x .1)
-stored-good k rest (Storing.refused why) g x = tt
+stored-good k rest (Storing.refused why s) g x = tt
 
 formed-good : (k : Known) (r : Read Tree) → GoodKnown k → Says r → InLine GoodKnown (formed k r)
 unfolding formed InLine Says GoodKnown

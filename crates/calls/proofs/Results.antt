@@ -1,8 +1,8 @@
 -- What a call of `simplify` answers: a count within 01's bound, and a result that is stored, within the limits, and reads back. Assumes nothing.
-use mathlib.Core.Path.{_≡_, refl, sym, ap, subst}
+use mathlib.Core.Path.{_≡_, refl, sym, ap, _∙_, subst}
 use mathlib.Core.Bool.{Bool, true, false, cond, _&&_}
 use mathlib.Core.List.{List, [], _∷_}
-use Prim.Native.Nat.{ℕ, _+_, _≤_}
+use Prim.Native.Nat.{ℕ, _+_, _≤_, _<_}
 use native.Mathlib.Omega.{arith}
 use borrow.Author.Tests.{leb-true}
 use lib.Dec.{ltb, eqb}
@@ -13,11 +13,13 @@ use Rattle.expression.specs.Limits.{Limited, Proper, largest, deepest}
 use Rattle.text.specs.Reading.{Read, is, bad}
 use Rattle.text.specs.Lines as Lines
 use Rattle.text.specs.Lines.{Line, Whole, lines}
-use Rattle.store.specs.declared.Added.{Added}
 use Rattle.store.specs.Storing as Storing
 use Rattle.store.specs.Storing.{nothing, State, state, Answer, gives, among, intern, recall, fresh}
-use Rattle.store.specs.Memory.{Memory, room, trees, treeAt, stateOf}
-use Rattle.store.specs.Held.{Built}
+use Rattle.store.specs.Memory.{room, trees}
+use Rattle.store.specs.Desk as Desk
+use Rattle.store.specs.Desk.{refusedFrom}
+use Rattle.store.specs.Held.{Lent, treeIn, stateIn, Built}
+use Rattle.store.proofs.Building.{seen-node}
 use Rattle.store.proofs.Stored.{stored as stored-in, limited, proper}
 use Rattle.writing.specs.declared.Written.{Written}
 use Rattle.listing.specs.Listings as Listings
@@ -45,7 +47,7 @@ pub record Fresh (s : State) : Type 0 where
 
 FreshIn : Answer → Type 0
 FreshIn (gives t s) = Fresh s
-FreshIn (Storing.refused why) = Unit {0}
+FreshIn (Storing.refused why s) = Unit {0}
 
 either-way : (b : Bool) (x y : Answer) → FreshIn x → FreshIn y → FreshIn (cond b x y)
 either-way true x y p q = p
@@ -69,7 +71,7 @@ line-either false x y p q = q
 stored-fresh : (k : Known) (rest : List ℕ) (a : Answer) → FreshIn a → InLine FreshKnown (stored k rest a)
 unfolding stored FreshIn InLine FreshKnown
 stored-fresh k rest (gives t s) x = x
-stored-fresh k rest (Storing.refused why) x = tt
+stored-fresh k rest (Storing.refused why s) x = tt
 
 formed-fresh : (k : Known) (r : Read Tree) → Fresh (k .store) → InLine FreshKnown (formed k r)
 unfolding formed InLine
@@ -139,8 +141,8 @@ answer-within : (n : ℕ) (a : Answer) (w : Written) → n ≤ 244531 → Below 
 unfolding withCalls callsIn Below count Within
 answer-within n (gives t (state room ts kept calls)) (Written.Bytes bytes) l b = omega (arith, l, b)
 answer-within n (gives t (state room ts kept calls)) (Written.Refused why) l b = tt
-answer-within n (Storing.refused why) (Written.Bytes bytes) l b = omega arith
-answer-within n (Storing.refused why) (Written.Refused why′) l b = tt
+answer-within n (Storing.refused why s) (Written.Bytes bytes) l b = omega arith
+answer-within n (Storing.refused why s) (Written.Refused why′) l b = tt
 
 job-within : (limit : ℕ) (out : List ℕ) (j : Job) → limit ≤ 10 → FreshJob j → Within (simplifyJob limit out j .0)
 unfolding simplifyJob FreshJob Within
@@ -165,19 +167,19 @@ at-most limit list values out w p = subst Within (sym (ap (λ x. x .0 .0) p)) (c
 
 -- ---- the result
 
-module _ {want : Answer} {i n′ c n : ℕ} {m m′ : Memory} (b : Built want (Added.Node i n′ c) n m m′) where
-  pub result-is : want ≡ gives (treeAt m′ i) (stateOf m′ n′ c)
-  result-is = sym (b .answer)
+module _ {want : Answer} {i : ℕ} {l l′ : Lent} (b : Built want i l l′) (x : i < refusedFrom) where
+  pub result-is : want ≡ gives (treeIn l′ i) (stateIn l′)
+  result-is = sym (b .answer) ∙ seen-node i l′ x
 
-  pub result-stored : among (trees m′ n′) (treeAt m′ i) ≡ true
-  result-stored = stored-in (b .after .holds) i (b .after .inside)
+  pub result-stored : among (trees (l′ .rows) (Desk.count (l′ .desk))) (treeIn l′ i) ≡ true
+  result-stored = stored-in (b .step .sound .holds) i (b .inside x)
 
-  pub result-limited : Limited (treeAt m′ i)
-  result-limited = limited (b .after .holds) i (b .after .inside)
+  pub result-limited : Limited (treeIn l′ i)
+  result-limited = limited (b .step .sound .holds) i (b .inside x)
 
-  pub result-proper : Proper (treeAt m′ i)
-  result-proper = proper (b .after .holds) i
+  pub result-proper : Proper (treeIn l′ i)
+  result-proper = proper (b .step .sound .holds) i
 
-  pub result-reads-back : length (order (treeAt m′ i)) ≤ 1024 → (substituting : Bool) (room′ : ℕ) → room m′ ≤ room′
-      → listing substituting (textOf (treeAt m′ i)) (fresh room′ 0) ≡ accepted (treeAt m′ i) [] (state room′ (order (treeAt m′ i)) (λ u. nothing) 0)
-  result-reads-back = written-reads-back (b .after .holds) (b .after .inside)
+  pub result-reads-back : length (order (treeIn l′ i)) ≤ 1024 → (substituting : Bool) (room′ : ℕ) → room (l′ .rows) ≤ room′
+      → listing substituting (textOf (treeIn l′ i)) (fresh room′ 0) ≡ accepted (treeIn l′ i) [] (state room′ (order (treeIn l′ i)) (λ u. nothing) 0)
+  result-reads-back = written-reads-back (b .step .sound .holds) (b .inside x)

@@ -1,11 +1,11 @@
 -- What the steps of the calls on tapes make together. Assumes nothing.
 use mathlib.Core.Path.{_≡_, sym, ap, _∙_}
-use Prim.Native.Nat.{ℕ}
+use Prim.Native.Nat.{ℕ, min}
 use mathlib.Core.List.{List}
 use mathlib.Core.Bool.{false}
-use lib.ListN.{replicate}
+use lib.ListN.{length, replicate}
 use Rattle.expression.specs.declared.refusal.Refusal.{Refusal}
-use Rattle.store.specs.Memory.{Memory, room, treeAt}
+use Rattle.store.specs.Held.{Lent, lent, treeIn}
 use Rattle.listing.specs.declared.Listing.{Listing}
 use Rattle.writing.specs.declared.Written.{Written}
 use Rattle.listing.specs.Tables.{Reads}
@@ -20,19 +20,20 @@ use Rattle.tape.specs.Playing.{played}
 use Rattle.calls.specs.declared.Evaluated.{Evaluated}
 use Rattle.calls.specs.Calls.{evaluated, compileCall, playSheet, playChecked, playCall}
 use Rattle.calls.specs.Frame.{PlaysSheet}
-use Rattle.calls.proofs.Framing.{after-read, after-refused}
+use Rattle.calls.proofs.Framing.{in-room, after-read, after-refused}
 
 -- ---- compiling
 
-module _ {list : List ℕ} (out : List ℕ) {listed : Listing} {m m₁ : Memory} {table : List ℕ} (p : Reads false list listed m m₁ table) where
-  pub compiles-read : {root nodes swaps : ℕ} {r : Written} {out′ : List ℕ} → listed ≡ Listing.Read root nodes swaps
-      → _≡_ {A = Written × List ℕ} (r, out′) (compiled (treeAt m₁ root) out) → _≡_ {A = Written × List ℕ} (r, out′) (compileCall (room m) list out)
+module _ (store : List (List ℕ)) {desk list : List ℕ} (out : List ℕ) {listed : Listing} {l₁ : Lent} {table : List ℕ} (p : Reads false list listed (lent store desk) l₁ table) where
+  pub compiles-read : {root swaps : ℕ} {r : Written} {out′ : List ℕ} → listed ≡ Listing.Read root swaps
+      → _≡_ {A = Written × List ℕ} (r, out′) (compiled (treeIn l₁ root) out) → _≡_ {A = Written × List ℕ} (r, out′) (compileCall (min (length store) 4096) list out)
   unfolding compileCall
-  compiles-read told q = q ∙ after-read p (λ why. (Written.Refused why, out)) (λ root swaps store. compiled root out) told
+  compiles-read told q =
+      in-room store (λ n. compileCall n list out) (q ∙ after-read p (λ why. (Written.Refused why, out)) (λ root swaps store. compiled root out) told)
 
-  pub compiles-refused : {why : Refusal} → listed ≡ Listing.Refused why → _≡_ {A = Written × List ℕ} (Written.Refused why, out) (compileCall (room m) list out)
+  pub compiles-refused : {why : Refusal} → listed ≡ Listing.Refused why → _≡_ {A = Written × List ℕ} (Written.Refused why, out) (compileCall (min (length store) 4096) list out)
   unfolding compileCall
-  compiles-refused told = after-refused p (λ why. (Written.Refused why, out)) (λ root swaps store. compiled root out) told
+  compiles-refused told = in-room store (λ n. compileCall n list out) (after-refused p (λ why. (Written.Refused why, out)) (λ root swaps store. compiled root out) told)
 
 -- ---- playing
 

@@ -49,7 +49,7 @@ job room list values = afterListing refused (listing false list (fresh room 0)) 
 
 unfoldable pub writtenAnswer : (out : List ℕ) → Answer → Written × List ℕ
 writtenAnswer out (Storing.gives t store) = written t out
-writtenAnswer out (Storing.refused why) = (Written.Refused why, out)
+writtenAnswer out (Storing.refused why s) = (Written.Refused why, out)
 
 -- ---- the calls, with room for so many nodes
 
@@ -83,7 +83,7 @@ withCalls calls (Written.Refused why) = Simplified.Refused why
 
 unfoldable pub callsIn : Answer → ℕ
 callsIn (Storing.gives t (state room stored kept calls)) = calls
-callsIn (Storing.refused why) = 0
+callsIn (Storing.refused why s) = 0
 
 abbrev pub simplifiedAnswer : (out : List ℕ) → Answer → Simplified × List ℕ
 simplifiedAnswer out answer = (withCalls (callsIn answer) (writtenAnswer out answer .0), writtenAnswer out answer .1)

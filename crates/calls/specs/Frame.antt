@@ -3,9 +3,9 @@ use mathlib.Core.Path.{_≡_}
 use Prim.Native.Nat.{ℕ, _<_}
 use mathlib.Core.List.{List}
 use lib.ListN.{length, replicate}
-use Rattle.store.specs.declared.Added.{Added}
-use Rattle.store.specs.Memory.{Memory, memory, room, treeAt, stateOf}
-use Rattle.store.specs.Held.{Holds, seen}
+use Rattle.store.specs.Memory.{room}
+use Rattle.store.specs.Desk.{count, refusedFrom}
+use Rattle.store.specs.Held.{Lent, treeIn, stateIn, Sound, seen}
 use Rattle.writing.specs.declared.Written.{Written}
 use Rattle.sheet.specs.declared.Sheet.{Sheet}
 use Rattle.sheet.specs.Rows.{sheet}
@@ -20,37 +20,27 @@ use Rattle.calls.specs.Calls.{ready, job, writtenAnswer, evaluateCall, s
 
 -- ---- a job that was read
 
-abbrev pub jobSeen : (m : Memory) (table : List ℕ) → Job → Calls.Job
-jobSeen m table (Job.Ready root nodes rows) = ready (treeAt m root) (stateOf m nodes 0) (rowsOf table rows)
-jobSeen m table (Job.Refused why) = Calls.refused why
+abbrev pub jobSeen : (l : Lent) (table : List ℕ) → Job → Calls.Job
+jobSeen l table (Job.Ready root rows) = ready (treeIn l root) (stateIn l) (rowsOf table rows)
+jobSeen l table (Job.Refused why) = Calls.refused why
 
-abbrev pub JobAfter : (m : Memory) (table : List ℕ) → Job → Type 0
-JobAfter m table (Job.Ready root nodes rows) = (root < nodes) × Holds m nodes × Held table rows
-JobAfter m table (Job.Refused why) = Unit {0}
+abbrev pub JobAfter : (l : Lent) (table : List ℕ) → Job → Type 0
+JobAfter l table (Job.Ready root rows) = (root < count (l .desk)) × Sound l × Held table rows
+JobAfter l table (Job.Refused why) = Unit {0}
 
-pub record ReadsJob (list values : List ℕ) (r : Job) (m m′ : Memory) (table : List ℕ) : Type 0 where
-  pub answer : jobSeen m′ table r ≡ job (room m) list values
-  pub after : JobAfter m′ table r
+pub record ReadsJob (list values : List ℕ) (r : Job) (l l′ : Lent) (table : List ℕ) : Type 0 where
+  pub answer : jobSeen l′ table r ≡ job (room (l .rows)) list values
+  pub after : JobAfter l′ table r
 
 -- a sheet's answer after that of a listing
-abbrev pub sheetAdded : (root nodes : ℕ) → Sheet → Job
-sheetAdded root nodes (Sheet.Read rows) = Job.Ready root nodes rows
-sheetAdded root nodes (Sheet.Refused why) = Job.Refused why
+abbrev pub sheetAdded : (root : ℕ) → Sheet → Job
+sheetAdded root (Sheet.Read rows) = Job.Ready root rows
+sheetAdded root (Sheet.Refused why) = Job.Refused why
 
 -- ---- a result that is written
 
-abbrev pub Within : (m : Memory) → Added → Type 0
-Within m (Added.Node i n calls) = Holds m n × (i < n)
-Within m (Added.Refused why) = Unit {0}
-
-abbrev pub WritesAnswer : (tag first second : List ℕ) (x : Added) (r : Written) (out out′ : List ℕ) → Type 0
-WritesAnswer tag first second x r out out′ =
-    (link : List ℕ) → Within (memory tag first second link) x → (r, out′) ≡ writtenAnswer out (seen x (memory tag first second link))
-
--- the calls that were counted
-abbrev pub callsOf : Added → ℕ
-callsOf (Added.Node i n calls) = calls
-callsOf (Added.Refused why) = 0
+abbrev pub WritesAnswer : (l : Lent) (built : ℕ) (r : Written) (out out′ : List ℕ) → Type 0
+WritesAnswer l built r out out′ = Sound l → (built < refusedFrom → built < count (l .desk)) → (r, out′) ≡ writtenAnswer out (seen built l)
 
 -- ---- the promises: answer, output bytes and work memory
 

@@ -1,20 +1,22 @@
--- The work memory that a caller lends: four slices and a table. Definitions only.
-use Prim.Native.Nat.{ℕ}
+-- The work memory that a caller lends: rows, a desk and a table. Definitions only.
+use Prim.Native.Nat.{ℕ, min}
 use mathlib.Core.List.{List}
 use lib.ListN.{length, replicate}
-use Rattle.store.specs.Memory.{Memory, memory, room, cleared}
+use Rattle.memory.specs.Layout.{deskWords}
+use Rattle.memory.specs.Rows.{blank}
 
 pub record Work : Type 0 where
-  pub slices : Memory
+  pub store : List (List ℕ)
+  pub desk : List ℕ
   pub table : List ℕ
 
-abbrev pub work : (tag first second link table : List ℕ) → Work
-work tag first second link table = record { slices = memory tag first second link; table = table }
+abbrev pub work : (store : List (List ℕ)) (desk table : List ℕ) → Work
+work store desk table = record { store = store; desk = desk; table = table }
 
--- "The store's capacity is the shortest work slice, at most 4096"
+-- "The store's capacity is the shortest work slice, at most 4096": one slice has all rows
 abbrev pub capacity : Work → ℕ
-capacity w = room (w .slices)
+capacity w = min (length (w .store)) 4096
 
--- "every return leaves the work memory zero": each slice and the table, over its whole length
+-- "every return leaves the work memory zero": each row, all words of the desk, and the table, over its whole length
 unfoldable pub zeroed : Work → Work
-zeroed w = record { slices = cleared (w .slices); table = replicate (length (w .table)) 0 }
+zeroed w = record { store = replicate (length (w .store)) blank; desk = replicate deskWords 0; table = replicate (length (w .table)) 0 }

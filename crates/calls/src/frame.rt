@@ -3,17 +3,19 @@ ghost use mathlib.Core.Path.{_≡_};
 ghost use Prim.Native.Nat.{_≤_};
 ghost use lib.ListN.{length};
 ghost use Rattle.memory.specs.Layout.{tableWords};
-ghost use Rattle.store.specs.Memory.{memory};
+ghost use Rattle.store.specs.Held.{lent};
 ghost use Rattle.calls.specs.Lent.{work, zeroed};
 ghost use Rattle.calls.specs.Frame.{ReadsJob, sheetAdded, WritesAnswer};
 use super::Job;
 use listing::Listing;
 use listing::read_listing;
+use memory::layout::DESK_WORDS;
 use memory::zero;
+use memory::zero_rows;
 use sheet::Sheet;
 use sheet::read_sheet;
-use store::Added;
-use store::clear;
+use store::desk::REFUSED;
+use store::desk::refusal_of;
 use writing::Written;
 use writing::write_listing;
 
@@ -21,71 +23,51 @@ use writing::write_listing;
 pub fn read_job(
     list: &[u8],
     values: &[u8],
-    tag: &mut [u64],
-    first: &mut [u64],
-    second: &mut [u64],
-    link: &mut [u64],
+    store: &mut [[u64; 4]],
+    desk: &mut [u64; DESK_WORDS],
     table: &mut [u64],
 ) -> Job
     requires { ⌜ tableWords ≤ length (now table) ⌝ }
-    ensures { λ r. ⌜ ReadsJob (now (list .entry)) (now (values .entry)) r (memory (now (tag .entry)) (now (first .entry)) (now (second .entry)) (now (link .entry))) (memory (now (tag .exit)) (now (first .exit)) (now (second .exit)) (now (link .exit))) (now (table .exit)) ⌝ }
+    ensures { λ r. ⌜ ReadsJob (now (list .entry)) (now (values .entry)) r (lent (now (store .entry)) (now (desk .entry))) (lent (now (store .exit)) (now (desk .exit))) (now (table .exit)) ⌝ }
 {
-    let listed = read_listing(list, false, tag, first, second, link, table);
+    let listed = read_listing(list, false, store, desk, table);
     match listed {
-        Listing::Read {
-            root,
-            nodes,
-            swaps: _,
-        } => add_sheet(root, nodes, read_sheet(values, table)),
+        Listing::Read { root, swaps: _ } => add_sheet(root, read_sheet(values, table)),
         Listing::Refused(why) => Job::Refused(why),
     }
 }
 
-fn add_sheet(root: usize, nodes: usize, values: Sheet) -> Job
-    ensures { λ r. ⌜ r ≡ sheetAdded root nodes values ⌝ }
+fn add_sheet(root: usize, values: Sheet) -> Job
+    ensures { λ r. ⌜ r ≡ sheetAdded root values ⌝ }
 {
     match values {
-        Sheet::Read(counts) => Job::Ready {
-            root,
-            nodes,
-            counts,
-        },
+        Sheet::Read(counts) => Job::Ready { root, counts },
         Sheet::Refused(why) => Job::Refused(why),
     }
 }
 
 // The listing of what was built: 2, then 13, else its bytes at the start of the output. A refusal is passed on.
 pub fn write_answer(
-    tag: &[u64],
-    first: &[u64],
-    second: &[u64],
+    store: &mut [[u64; 4]],
+    desk: &[u64; DESK_WORDS],
     table: &mut [u64],
     out: &mut [u8],
-    built: Added,
+    built: usize,
 ) -> Written
     requires { ⌜ tableWords ≤ length (now table) ⌝ }
-    ensures { λ r. ⌜ WritesAnswer (now (tag .entry)) (now (first .entry)) (now (second .entry)) built r (now (out .entry)) (now (out .exit)) ⌝ }
+    ensures { λ r. ⌜ WritesAnswer (lent (now (store .entry)) (now (desk .entry))) built r (now (out .entry)) (now (out .exit)) ⌝ }
 {
-    match built {
-        Added::Node {
-            at,
-            nodes: _,
-            calls: _,
-        } => write_listing(tag, first, second, at, table, out),
-        Added::Refused(why) => Written::Refused(why),
+    if REFUSED <= built {
+        return Written::Refused(refusal_of(desk, built));
     }
+    write_listing(store, built, table, out)
 }
 
 // "Every return leaves the work memory zero."
-pub fn clear_work(
-    tag: &mut [u64],
-    first: &mut [u64],
-    second: &mut [u64],
-    link: &mut [u64],
-    table: &mut [u64],
-)
-    ensures { λ _. ⌜ work (now (tag .exit)) (now (first .exit)) (now (second .exit)) (now (link .exit)) (now (table .exit)) ≡ zeroed (work (now (tag .entry)) (now (first .entry)) (now (second .entry)) (now (link .entry)) (now (table .entry))) ⌝ }
+pub fn clear_work(store: &mut [[u64; 4]], desk: &mut [u64; DESK_WORDS], table: &mut [u64])
+    ensures { λ _. ⌜ work (now (store .exit)) (now (desk .exit)) (now (table .exit)) ≡ zeroed (work (now (store .entry)) (now (desk .entry)) (now (table .entry))) ⌝ }
 {
-    clear(tag, first, second, link);
+    zero_rows(store);
+    *desk = [0; DESK_WORDS];
     zero(table);
 }

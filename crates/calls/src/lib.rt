@@ -5,10 +5,9 @@ ghost use mathlib.Core.Path.{_≡_};
 ghost use Prim.Native.Nat.{_≤_};
 ghost use lib.ListN.{length};
 ghost use Rattle.memory.specs.Layout.{tableWords};
-ghost use Rattle.store.specs.Memory.{memory};
 ghost use Rattle.calls.specs.Lent.{work, capacity};
 ghost use Rattle.calls.specs.Calls.{evaluated, evaluateCall, toRealCall, withCalls};
-ghost use Rattle.calls.specs.Frame.{Evaluates, Substitutes, SubstitutesTexts, ReadsReal, callsOf, Simplifies, SimplifiesTexts};
+ghost use Rattle.calls.specs.Frame.{Evaluates, Substitutes, SubstitutesTexts, ReadsReal, Simplifies, SimplifiesTexts};
 use complex::Complex;
 use evaluation::Evaluation;
 use evaluation::real::Real;
@@ -18,9 +17,11 @@ use frame::read_job;
 use frame::write_answer;
 use listing::Listing;
 use listing::read_listing;
+use memory::layout::DESK_WORDS;
 use memory::layout::TABLE_WORDS;
 use sheet::Counts;
-use store::Added;
+use store::desk::calls_made;
+use store::desk::standing;
 use substitution::substitute_variables;
 use tasks::limit::Limit;
 use writing::Written;
@@ -28,13 +29,9 @@ use writing::Written;
 pub mod frame;
 pub mod tapes;
 
-// A listing and a sheet that were read: the node of the root, the count of nodes, and the rows.
+// A listing and a sheet that were read: the node of the root, and the rows of the sheet.
 pub enum Job {
-    Ready {
-        root: usize,
-        nodes: usize,
-        counts: Counts,
-    },
+    Ready { root: usize, counts: Counts },
     Refused(Refusal),
 }
 
@@ -63,22 +60,19 @@ pub fn answer_of(value: Evaluation) -> Evaluated
 fn evaluate_texts(
     list: &[u8],
     values: &[u8],
-    tag: &mut [u64],
-    first: &mut [u64],
-    second: &mut [u64],
-    link: &mut [u64],
+    store: &mut [[u64; 4]],
+    desk: &mut [u64; DESK_WORDS],
     table: &mut [u64],
 ) -> Evaluated
     requires { ⌜ tableWords ≤ length (now table) ⌝ }
-    ensures { λ r. ⌜ r ≡ evaluateCall (capacity (work (now (tag .entry)) (now (first .entry)) (now (second .entry)) (now (link .entry)) (now (table .entry)))) (now (list .entry)) (now (values .entry)) ⌝ }
+    ensures { λ r. ⌜ r ≡ evaluateCall (capacity (work (now (store .entry)) (now (desk .entry)) (now (table .entry)))) (now (list .entry)) (now (values .entry)) ⌝ }
 {
-    let job = read_job(list, values, tag, first, second, link, table);
+    let job = read_job(list, values, store, desk, table);
     match job {
-        Job::Ready {
-            root,
-            nodes,
-            counts,
-        } => answer_of(evaluation::evaluate(tag, first, second, table, counts, root, nodes)),
+        Job::Ready { root, counts } => {
+            let nodes = standing(desk);
+            answer_of(evaluation::evaluate(store, table, counts, root, nodes))
+        }
         Job::Refused(why) => Evaluated::Refused(why),
     }
 }
@@ -87,47 +81,33 @@ fn evaluate_texts(
 pub fn evaluate(
     list: &[u8],
     values: &[u8],
-    tag: &mut [u64],
-    first: &mut [u64],
-    second: &mut [u64],
-    link: &mut [u64],
+    store: &mut [[u64; 4]],
+    desk: &mut [u64; DESK_WORDS],
     table: &mut [u64; TABLE_WORDS],
 ) -> Evaluated
-    ensures { λ r. ⌜ Evaluates (now (list .entry)) (now (values .entry)) (work (now (tag .entry)) (now (first .entry)) (now (second .entry)) (now (link .entry)) (now (table .entry))) r (work (now (tag .exit)) (now (first .exit)) (now (second .exit)) (now (link .exit)) (now (table .exit))) ⌝ }
+    ensures { λ r. ⌜ Evaluates (now (list .entry)) (now (values .entry)) (work (now (store .entry)) (now (desk .entry)) (now (table .entry))) r (work (now (store .exit)) (now (desk .exit)) (now (table .exit))) ⌝ }
 {
-    let answer = evaluate_texts(list, values, tag, first, second, link, table);
-    clear_work(tag, first, second, link, table);
+    let answer = evaluate_texts(list, values, store, desk, table);
+    clear_work(store, desk, table);
     answer
 }
 
 fn substitute_texts(
     list: &[u8],
-    tag: &mut [u64],
-    first: &mut [u64],
-    second: &mut [u64],
-    link: &mut [u64],
+    store: &mut [[u64; 4]],
+    desk: &mut [u64; DESK_WORDS],
     table: &mut [u64],
     out: &mut [u8],
 ) -> Written
     requires { ⌜ tableWords ≤ length (now table) ⌝ }
-    ensures { λ r. ⌜ SubstitutesTexts (now (list .entry)) (now (out .entry)) (work (now (tag .entry)) (now (first .entry)) (now (second .entry)) (now (link .entry)) (now (table .entry))) r (now (out .exit)) ⌝ }
+    ensures { λ r. ⌜ SubstitutesTexts (now (list .entry)) (now (out .entry)) (work (now (store .entry)) (now (desk .entry)) (now (table .entry))) r (now (out .exit)) ⌝ }
 {
-    let listed = read_listing(list, true, tag, first, second, link, table);
+    let listed = read_listing(list, true, store, desk, table);
     match listed {
-        Listing::Read { root, nodes, swaps } => {
-            let built = substitute_variables(
-                tag,
-                first,
-                second,
-                link,
-                table,
-                swaps,
-                root,
-                nodes,
-                nodes,
-                0,
-            );
-            write_answer(tag, first, second, table, out, built)
+        Listing::Read { root, swaps } => {
+            let nodes = standing(desk);
+            let built = substitute_variables(store, desk, table, swaps, root, nodes);
+            write_answer(store, desk, table, out, built)
         }
         Listing::Refused(why) => Written::Refused(why),
     }
@@ -136,38 +116,30 @@ fn substitute_texts(
 // An expression with its variables replaced as the s lines of its listing say, written as a listing.
 pub fn substitute(
     list: &[u8],
-    tag: &mut [u64],
-    first: &mut [u64],
-    second: &mut [u64],
-    link: &mut [u64],
+    store: &mut [[u64; 4]],
+    desk: &mut [u64; DESK_WORDS],
     table: &mut [u64; TABLE_WORDS],
     out: &mut [u8],
 ) -> Written
-    ensures { λ r. ⌜ Substitutes (now (list .entry)) (now (out .entry)) (work (now (tag .entry)) (now (first .entry)) (now (second .entry)) (now (link .entry)) (now (table .entry))) r (now (out .exit)) (work (now (tag .exit)) (now (first .exit)) (now (second .exit)) (now (link .exit)) (now (table .exit))) ⌝ }
+    ensures { λ r. ⌜ Substitutes (now (list .entry)) (now (out .entry)) (work (now (store .entry)) (now (desk .entry)) (now (table .entry))) r (now (out .exit)) (work (now (store .exit)) (now (desk .exit)) (now (table .exit))) ⌝ }
 {
-    let answer = substitute_texts(list, tag, first, second, link, table, out);
-    clear_work(tag, first, second, link, table);
+    let answer = substitute_texts(list, store, desk, table, out);
+    clear_work(store, desk, table);
     answer
 }
 
 fn real_of_text(
     list: &[u8],
-    tag: &mut [u64],
-    first: &mut [u64],
-    second: &mut [u64],
-    link: &mut [u64],
+    store: &mut [[u64; 4]],
+    desk: &mut [u64; DESK_WORDS],
     table: &mut [u64],
 ) -> Real
     requires { ⌜ tableWords ≤ length (now table) ⌝ }
-    ensures { λ r. ⌜ r ≡ toRealCall (capacity (work (now (tag .entry)) (now (first .entry)) (now (second .entry)) (now (link .entry)) (now (table .entry)))) (now (list .entry)) ⌝ }
+    ensures { λ r. ⌜ r ≡ toRealCall (capacity (work (now (store .entry)) (now (desk .entry)) (now (table .entry)))) (now (list .entry)) ⌝ }
 {
-    let listed = read_listing(list, false, tag, first, second, link, table);
+    let listed = read_listing(list, false, store, desk, table);
     match listed {
-        Listing::Read {
-            root,
-            nodes: _,
-            swaps: _,
-        } => evaluation::real::to_real(tag, first, second, root),
+        Listing::Read { root, swaps: _ } => evaluation::real::to_real(store, root),
         Listing::Refused(why) => Real::Refused(why),
     }
 }
@@ -175,30 +147,15 @@ fn real_of_text(
 // The real number that an expression is, if it is a number or pi.
 pub fn to_real(
     list: &[u8],
-    tag: &mut [u64],
-    first: &mut [u64],
-    second: &mut [u64],
-    link: &mut [u64],
+    store: &mut [[u64; 4]],
+    desk: &mut [u64; DESK_WORDS],
     table: &mut [u64; TABLE_WORDS],
 ) -> Real
-    ensures { λ r. ⌜ ReadsReal (now (list .entry)) (work (now (tag .entry)) (now (first .entry)) (now (second .entry)) (now (link .entry)) (now (table .entry))) r (work (now (tag .exit)) (now (first .exit)) (now (second .exit)) (now (link .exit)) (now (table .exit))) ⌝ }
+    ensures { λ r. ⌜ ReadsReal (now (list .entry)) (work (now (store .entry)) (now (desk .entry)) (now (table .entry))) r (work (now (store .exit)) (now (desk .exit)) (now (table .exit))) ⌝ }
 {
-    let answer = real_of_text(list, tag, first, second, link, table);
-    clear_work(tag, first, second, link, table);
+    let answer = real_of_text(list, store, desk, table);
+    clear_work(store, desk, table);
     answer
-}
-
-fn calls_of(built: Added) -> u64
-    ensures { λ r. ⌜ r ≡ callsOf built ⌝ }
-{
-    match built {
-        Added::Node {
-            at: _,
-            nodes: _,
-            calls,
-        } => calls,
-        Added::Refused(_) => 0,
-    }
 }
 
 fn with_calls(calls: u64, answer: Written) -> Simplified
@@ -214,41 +171,24 @@ fn simplify_texts(
     list: &[u8],
     values: &[u8],
     limit: u64,
-    tag: &mut [u64],
-    first: &mut [u64],
-    second: &mut [u64],
-    link: &mut [u64],
+    store: &mut [[u64; 4]],
+    desk: &mut [u64; DESK_WORDS],
     table: &mut [u64],
     out: &mut [u8],
 ) -> Simplified
     requires { ⌜ tableWords ≤ length (now table) ⌝ }
-    ensures { λ r. ⌜ SimplifiesTexts limit (now (list .entry)) (now (values .entry)) (now (out .entry)) (work (now (tag .entry)) (now (first .entry)) (now (second .entry)) (now (link .entry)) (now (table .entry))) r (now (out .exit)) ⌝ }
+    ensures { λ r. ⌜ SimplifiesTexts limit (now (list .entry)) (now (values .entry)) (now (out .entry)) (work (now (store .entry)) (now (desk .entry)) (now (table .entry))) r (now (out .exit)) ⌝ }
 {
     let limit = Limit(limit);
     if !limit.is_allowed() {
         return Simplified::Refused(Refusal::BadLimit);
     }
-    let job = read_job(list, values, tag, first, second, link, table);
+    let job = read_job(list, values, store, desk, table);
     match job {
-        Job::Ready {
-            root,
-            nodes,
-            counts,
-        } => {
-            let built = simplification::simplify(
-                limit,
-                tag,
-                first,
-                second,
-                link,
-                table,
-                counts,
-                root,
-                nodes,
-                0,
-            );
-            let answer = write_answer(tag, first, second, table, out, built);
-            with_calls(calls_of(built), answer)
+        Job::Ready { root, counts } => {
+            let built = simplification::simplify(limit, store, desk, table, counts, root);
+            let answer = write_answer(store, desk, table, out, built);
+            with_calls(calls_made(desk), answer)
         }
         Job::Refused(why) => Simplified::Refused(why),
     }
@@ -259,16 +199,14 @@ pub fn simplify(
     list: &[u8],
     values: &[u8],
     limit: u64,
-    tag: &mut [u64],
-    first: &mut [u64],
-    second: &mut [u64],
-    link: &mut [u64],
+    store: &mut [[u64; 4]],
+    desk: &mut [u64; DESK_WORDS],
     table: &mut [u64; TABLE_WORDS],
     out: &mut [u8],
 ) -> Simplified
-    ensures { λ r. ⌜ Simplifies limit (now (list .entry)) (now (values .entry)) (now (out .entry)) (work (now (tag .entry)) (now (first .entry)) (now (second .entry)) (now (link .entry)) (now (table .entry))) r (now (out .exit)) (work (now (tag .exit)) (now (first .exit)) (now (second .exit)) (now (link .exit)) (now (table .exit))) ⌝ }
+    ensures { λ r. ⌜ Simplifies limit (now (list .entry)) (now (values .entry)) (now (out .entry)) (work (now (store .entry)) (now (desk .entry)) (now (table .entry))) r (now (out .exit)) (work (now (store .exit)) (now (desk .exit)) (now (table .exit))) ⌝ }
 {
-    let answer = simplify_texts(list, values, limit, tag, first, second, link, table, out);
-    clear_work(tag, first, second, link, table);
+    let answer = simplify_texts(list, values, limit, store, desk, table, out);
+    clear_work(store, desk, table);
     answer
 }

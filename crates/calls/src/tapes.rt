@@ -14,33 +14,32 @@ use super::frame::clear_work;
 use expression::refusal::Refusal;
 use listing::Listing;
 use listing::read_listing;
+use memory::layout::DESK_WORDS;
 use memory::layout::TABLE_WORDS;
 use memory::zero;
 use sheet::Sheet;
 use sheet::read_sheet;
+use store::desk::standing;
 use tape::Checked;
 use tape::check;
 use writing::Written;
 
 fn compile_text(
     list: &[u8],
-    tag: &mut [u64],
-    first: &mut [u64],
-    second: &mut [u64],
-    link: &mut [u64],
+    store: &mut [[u64; 4]],
+    desk: &mut [u64; DESK_WORDS],
     table: &mut [u64],
     out: &mut [u8],
 ) -> Written
     requires { ⌜ tableWords ≤ length (now table) ⌝ }
-    ensures { λ r. ⌜ CompilesText (now (list .entry)) (now (out .entry)) (work (now (tag .entry)) (now (first .entry)) (now (second .entry)) (now (link .entry)) (now (table .entry))) r (now (out .exit)) ⌝ }
+    ensures { λ r. ⌜ CompilesText (now (list .entry)) (now (out .entry)) (work (now (store .entry)) (now (desk .entry)) (now (table .entry))) r (now (out .exit)) ⌝ }
 {
-    let listed = read_listing(list, false, tag, first, second, link, table);
+    let listed = read_listing(list, false, store, desk, table);
     match listed {
-        Listing::Read {
-            root,
-            nodes,
-            swaps: _,
-        } => tape::compile::compile(tag, first, second, root, nodes, out),
+        Listing::Read { root, swaps: _ } => {
+            let nodes = standing(desk);
+            tape::compile::compile(store, root, nodes, out)
+        }
         Listing::Refused(why) => Written::Refused(why),
     }
 }
@@ -48,17 +47,15 @@ fn compile_text(
 // The tape of an expression, at the start of the output.
 pub fn compile(
     list: &[u8],
-    tag: &mut [u64],
-    first: &mut [u64],
-    second: &mut [u64],
-    link: &mut [u64],
+    store: &mut [[u64; 4]],
+    desk: &mut [u64; DESK_WORDS],
     table: &mut [u64; TABLE_WORDS],
     out: &mut [u8],
 ) -> Written
-    ensures { λ r. ⌜ Compiles (now (list .entry)) (now (out .entry)) (work (now (tag .entry)) (now (first .entry)) (now (second .entry)) (now (link .entry)) (now (table .entry))) r (now (out .exit)) (work (now (tag .exit)) (now (first .exit)) (now (second .exit)) (now (link .exit)) (now (table .exit))) ⌝ }
+    ensures { λ r. ⌜ Compiles (now (list .entry)) (now (out .entry)) (work (now (store .entry)) (now (desk .entry)) (now (table .entry))) r (now (out .exit)) (work (now (store .exit)) (now (desk .exit)) (now (table .exit))) ⌝ }
 {
-    let answer = compile_text(list, tag, first, second, link, table, out);
-    clear_work(tag, first, second, link, table);
+    let answer = compile_text(list, store, desk, table, out);
+    clear_work(store, desk, table);
     answer
 }
 

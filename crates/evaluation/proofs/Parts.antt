@@ -10,9 +10,8 @@ use Rattle.expression.specs.declared.InfixOperator.{InfixOperator}
 use Rattle.expression.specs.declared.PrefixOperator.{PrefixOperator}
 use Rattle.expression.specs.declared.ExpressionFunction.{ExpressionFunction}
 use Rattle.expression.specs.declared.node.Expression.{Expression}
-use Rattle.store.specs.Nodes.{expressionOf}
 use Rattle.expression.specs.Nodes.{grown}
-use Rattle.store.specs.Memory.{Memory, fieldsAt, treeAt, treeOf}
+use Rattle.store.specs.Memory.{Memory, expressionAt, treeAt, treeOf}
 use Rattle.store.specs.Held.{Holds}
 use Rattle.evaluation.specs.declared.real.Real.{Real}
 use Rattle.evaluation.specs.Reals.{tiny, realPart, toReal}
@@ -31,7 +30,7 @@ module _ (z : Complex) where
   unfolding realPart
   not-above p = rw p
 
-module _ {m : Memory} {n node : ℕ} (h : Holds m n) (l : node < n) {e : Expression} (e-is : e ≡ expressionOf (fieldsAt m node)) where
+module _ {m : Memory} {n node : ℕ} (h : Holds m n) (l : node < n) {e : Expression} (e-is : e ≡ expressionAt m node) where
   module _ {e′ : Expression} (told : e ≡ e′) where
     of-node : {r : Real} → r ≡ toReal (treeOf m e′) → r ≡ toReal (treeAt m node)
     of-node p = p ∙ ap toReal (tree-of-node h l e-is told)

@@ -14,9 +14,8 @@ use Rattle.expression.specs.declared.PrefixOperator.{PrefixOperator}
 use Rattle.expression.specs.declared.ExpressionFunction.{ExpressionFunction}
 use Rattle.expression.specs.declared.refusal.Operation.{Operation}
 use Rattle.expression.specs.declared.node.Expression.{Expression}
-use Rattle.store.specs.Nodes.{expressionOf}
 use Rattle.expression.specs.Nodes.{grown, Within}
-use Rattle.store.specs.Memory.{Memory, fieldsAt, treeAt, treeOf}
+use Rattle.store.specs.Memory.{Memory, expressionAt, treeAt, treeOf}
 use Rattle.store.specs.Held.{Holds}
 use Rattle.store.proofs.Stored.{tree-of-node}
 use Rattle.sheet.specs.declared.Found.{Found}
@@ -70,7 +69,7 @@ module _ (rows : Rows) (x : Complex) where
 
 -- ---- the value of a node, by its kind
 
-module _ {m : Memory} {n node : ℕ} (h : Holds m n) (l : node < n) {e : Expression} (e-is : e ≡ expressionOf (fieldsAt m node)) (rows : Rows) where
+module _ {m : Memory} {n node : ℕ} (h : Holds m n) (l : node < n) {e : Expression} (e-is : e ≡ expressionAt m node) (rows : Rows) where
   module _ {e′ : Expression} (told : e ≡ e′) where
     of-node : {r : Evaluation} → r ≡ evaluate rows (treeOf m e′) → r ≡ evaluate rows (treeAt m node)
     of-node p = p ∙ ap (evaluate rows) (tree-of-node h l e-is told)

@@ -1,6 +1,7 @@
 // Evaluating an expression under a sheet's values, and reading it as a real number: `evaluate` and `to_real` of the Rust, over
 // the nodes of a store.
 ghost use mathlib.Core.Path.{_≡_};
+ghost use Rattle.store.specs.Memory.{memory};
 ghost use Rattle.sheet.specs.Table.{seenFound};
 ghost use Rattle.evaluation.specs.Evaluating.{bound};
 ghost use Rattle.evaluation.specs.Run.{Evaluates};
@@ -40,41 +41,39 @@ pub fn bound_value(found: Found) -> Evaluation
 // The value of a node, depth first, left before right, up to the first lack. A node is above its operands, so
 // `below` falls; one that is not below it is none of a store's.
 pub fn evaluate(
-    tag: &[u64],
-    first: &[u64],
-    second: &[u64],
+    store: &[[u64; 4]],
     table: &[u64],
     counts: Counts,
     node: usize,
     below: usize,
 ) -> Evaluation
-    ensures { λ r. ⌜ Evaluates (now (tag .entry)) (now (first .entry)) (now (second .entry)) (now (table .entry)) counts node below r ⌝ }
+    ensures { λ r. ⌜ Evaluates (memory (now (store .entry))) (now (table .entry)) counts node below r ⌝ }
 {
     if below <= node {
         return Evaluation::Incomplete;
     }
-    let e = expression_at(tag, first, second, node);
+    let e = expression_at(store, node);
     match e {
         Expression::FunctionCall(function, child) => {
-            let x = evaluate(tag, first, second, table, counts, child, node);
+            let x = evaluate(store, table, counts, child, node);
             let Evaluation::Value(argument) = x else {
                 return x;
             };
             calculate_function(table, counts, function, argument)
         }
         Expression::Infix(operator, left, right) => {
-            let x = evaluate(tag, first, second, table, counts, left, node);
+            let x = evaluate(store, table, counts, left, node);
             let Evaluation::Value(l) = x else {
                 return x;
             };
-            let y = evaluate(tag, first, second, table, counts, right, node);
+            let y = evaluate(store, table, counts, right, node);
             let Evaluation::Value(r) = y else {
                 return y;
             };
             calculate_infix(table, counts, l, operator, r)
         }
         Expression::Prefix(operator, child) => {
-            let x = evaluate(tag, first, second, table, counts, child, node);
+            let x = evaluate(store, table, counts, child, node);
             let Evaluation::Value(value) = x else {
                 return x;
             };

@@ -1,5 +1,6 @@
 // Reading an expression as a real number.
 ghost use mathlib.Core.Path.{_≡_};
+ghost use Rattle.store.specs.Memory.{memory};
 ghost use Rattle.evaluation.specs.Reals.{realPart};
 ghost use Rattle.evaluation.specs.Run.{ReadsReal};
 use complex::Complex;
@@ -23,10 +24,10 @@ fn real_part(z: Complex) -> Real
     Real::Refused(Refusal::NotReal)
 }
 
-pub fn to_real(tag: &[u64], first: &[u64], second: &[u64], node: usize) -> Real
-    ensures { λ r. ⌜ ReadsReal (now (tag .entry)) (now (first .entry)) (now (second .entry)) node r ⌝ }
+pub fn to_real(store: &[[u64; 4]], node: usize) -> Real
+    ensures { λ r. ⌜ ReadsReal (memory (now (store .entry))) node r ⌝ }
 {
-    let e = expression_at(tag, first, second, node);
+    let e = expression_at(store, node);
     match e {
         Expression::PiConstant => Real::Number(pi().re),
         Expression::Number(z) => real_part(z),

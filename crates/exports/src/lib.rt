@@ -14,6 +14,7 @@ use calls::substitute;
 use calls::tapes::compile;
 use calls::tapes::play;
 use calls::to_real;
+use memory::layout::DESK_WORDS;
 use memory::layout::TABLE_WORDS;
 use tape::Picked;
 use tape::check;
@@ -25,53 +26,41 @@ mod answer;
 pub extern "C" fn findavoreb_evaluate(
     list: &[u8],
     values: &[u8],
-    tag: &mut [u64],
-    first: &mut [u64],
-    second: &mut [u64],
-    link: &mut [u64],
+    store: &mut [[u64; 4]],
+    desk: &mut [u64; DESK_WORDS],
     table: &mut [u64; TABLE_WORDS],
     answer: &mut [u64; 6],
 ) -> u64
-    ensures { λ r. ⌜ Evaluates (now (list .entry)) (now (values .entry)) (work (now (tag .entry)) (now (first .entry)) (now (second .entry)) (now (link .entry)) (now (table .entry))) r (now (answer .exit)) (work (now (tag .exit)) (now (first .exit)) (now (second .exit)) (now (link .exit)) (now (table .exit))) ⌝ }
+    ensures { λ r. ⌜ Evaluates (now (list .entry)) (now (values .entry)) (work (now (store .entry)) (now (desk .entry)) (now (table .entry))) r (now (answer .exit)) (work (now (store .exit)) (now (desk .exit)) (now (table .exit))) ⌝ }
 {
-    put_evaluated(
-        answer,
-        evaluate(list, values, tag, first, second, link, table),
-    )
+    put_evaluated(answer, evaluate(list, values, store, desk, table))
 }
 
 #[no_mangle]
 pub extern "C" fn findavoreb_substitute(
     list: &[u8],
-    tag: &mut [u64],
-    first: &mut [u64],
-    second: &mut [u64],
-    link: &mut [u64],
+    store: &mut [[u64; 4]],
+    desk: &mut [u64; DESK_WORDS],
     table: &mut [u64; TABLE_WORDS],
     out: &mut [u8],
     answer: &mut [u64; 6],
 ) -> u64
-    ensures { λ r. ⌜ Substitutes (now (list .entry)) (now (out .entry)) (work (now (tag .entry)) (now (first .entry)) (now (second .entry)) (now (link .entry)) (now (table .entry))) r (now (answer .exit)) (now (out .exit)) (work (now (tag .exit)) (now (first .exit)) (now (second .exit)) (now (link .exit)) (now (table .exit))) ⌝ }
+    ensures { λ r. ⌜ Substitutes (now (list .entry)) (now (out .entry)) (work (now (store .entry)) (now (desk .entry)) (now (table .entry))) r (now (answer .exit)) (now (out .exit)) (work (now (store .exit)) (now (desk .exit)) (now (table .exit))) ⌝ }
 {
-    put_written(
-        answer,
-        substitute(list, tag, first, second, link, table, out),
-    )
+    put_written(answer, substitute(list, store, desk, table, out))
 }
 
 #[no_mangle]
 pub extern "C" fn findavoreb_to_real(
     list: &[u8],
-    tag: &mut [u64],
-    first: &mut [u64],
-    second: &mut [u64],
-    link: &mut [u64],
+    store: &mut [[u64; 4]],
+    desk: &mut [u64; DESK_WORDS],
     table: &mut [u64; TABLE_WORDS],
     answer: &mut [u64; 6],
 ) -> u64
-    ensures { λ r. ⌜ ReadsReal (now (list .entry)) (work (now (tag .entry)) (now (first .entry)) (now (second .entry)) (now (link .entry)) (now (table .entry))) r (now (answer .exit)) (work (now (tag .exit)) (now (first .exit)) (now (second .exit)) (now (link .exit)) (now (table .exit))) ⌝ }
+    ensures { λ r. ⌜ ReadsReal (now (list .entry)) (work (now (store .entry)) (now (desk .entry)) (now (table .entry))) r (now (answer .exit)) (work (now (store .exit)) (now (desk .exit)) (now (table .exit))) ⌝ }
 {
-    put_real(answer, to_real(list, tag, first, second, link, table))
+    put_real(answer, to_real(list, store, desk, table))
 }
 
 #[no_mangle]
@@ -79,36 +68,32 @@ pub extern "C" fn findavoreb_simplify(
     list: &[u8],
     values: &[u8],
     limit: u64,
-    tag: &mut [u64],
-    first: &mut [u64],
-    second: &mut [u64],
-    link: &mut [u64],
+    store: &mut [[u64; 4]],
+    desk: &mut [u64; DESK_WORDS],
     table: &mut [u64; TABLE_WORDS],
     out: &mut [u8],
     answer: &mut [u64; 6],
 ) -> u64
-    ensures { λ r. ⌜ Simplifies limit (now (list .entry)) (now (values .entry)) (now (out .entry)) (work (now (tag .entry)) (now (first .entry)) (now (second .entry)) (now (link .entry)) (now (table .entry))) r (now (answer .exit)) (now (out .exit)) (work (now (tag .exit)) (now (first .exit)) (now (second .exit)) (now (link .exit)) (now (table .exit))) ⌝ }
+    ensures { λ r. ⌜ Simplifies limit (now (list .entry)) (now (values .entry)) (now (out .entry)) (work (now (store .entry)) (now (desk .entry)) (now (table .entry))) r (now (answer .exit)) (now (out .exit)) (work (now (store .exit)) (now (desk .exit)) (now (table .exit))) ⌝ }
 {
     put_simplified(
         answer,
-        simplify(list, values, limit, tag, first, second, link, table, out),
+        simplify(list, values, limit, store, desk, table, out),
     )
 }
 
 #[no_mangle]
 pub extern "C" fn findavoreb_compile(
     list: &[u8],
-    tag: &mut [u64],
-    first: &mut [u64],
-    second: &mut [u64],
-    link: &mut [u64],
+    store: &mut [[u64; 4]],
+    desk: &mut [u64; DESK_WORDS],
     table: &mut [u64; TABLE_WORDS],
     out: &mut [u8],
     answer: &mut [u64; 6],
 ) -> u64
-    ensures { λ r. ⌜ Compiles (now (list .entry)) (now (out .entry)) (work (now (tag .entry)) (now (first .entry)) (now (second .entry)) (now (link .entry)) (now (table .entry))) r (now (answer .exit)) (now (out .exit)) (work (now (tag .exit)) (now (first .exit)) (now (second .exit)) (now (link .exit)) (now (table .exit))) ⌝ }
+    ensures { λ r. ⌜ Compiles (now (list .entry)) (now (out .entry)) (work (now (store .entry)) (now (desk .entry)) (now (table .entry))) r (now (answer .exit)) (now (out .exit)) (work (now (store .exit)) (now (desk .exit)) (now (table .exit))) ⌝ }
 {
-    put_written(answer, compile(list, tag, first, second, link, table, out))
+    put_written(answer, compile(list, store, desk, table, out))
 }
 
 #[no_mangle]

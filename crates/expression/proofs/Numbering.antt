@@ -49,6 +49,14 @@ function-back ExpressionFunction.Exponent = refl
 function-back ExpressionFunction.SquareRoot = refl
 function-back ExpressionFunction.Cis = refl
 
+pub operation-back : (o : Operation) → operationOf (operationCode o) ≡ o
+unfolding ofFive
+operation-back Operation.Sine = refl
+operation-back Operation.Cosine = refl
+operation-back Operation.Exponent = refl
+operation-back Operation.SquareRoot = refl
+operation-back Operation.Power = refl
+
 pub same-infix : (o p : InfixOperator) → infixCode o ≡ infixCode p → o ≡ p
 same-infix o p e = sym (infix-back o) ∙ ap infixOf e ∙ infix-back p
 

@@ -1,7 +1,7 @@
 // The refusals by name, those of 01's table and the five that the change requests add to it, each with its number and what
 // it carries.
 ghost use mathlib.Core.Path.{_≡_};
-ghost use Rattle.expression.specs.Codes.{operationCode};
+ghost use Rattle.expression.specs.Codes.{operationCode, operationOf};
 ghost use Rattle.expression.specs.Refusals.{numberOf, placeOf};
 use complex::Complex;
 
@@ -47,6 +47,19 @@ impl Operation {
             Operation::Exponent => 3,
             Operation::SquareRoot => 4,
             Operation::Power => 5,
+        }
+    }
+
+    // The operation with this number, 1 to 5.
+    pub fn from_code(code: u64) -> Self
+        ensures { λ r. ⌜ r ≡ operationOf code ⌝ }
+    {
+        match code {
+            1 => Operation::Sine,
+            2 => Operation::Cosine,
+            3 => Operation::Exponent,
+            4 => Operation::SquareRoot,
+            _ => Operation::Power,
         }
     }
 }

@@ -6,7 +6,8 @@ use Prim.Native.Nat.{ℕ, _+_, _*_, _≤_, _<_}
 use native.Mathlib.Omega.{arith}
 use lib.ListN.{getD}
 use lib.Dec.{eqb}
-use Rattle.store.specs.Memory.{Memory, treeAt}
+use Rattle.store.specs.Desk.{count}
+use Rattle.store.specs.Held.{Lent, treeIn}
 use Rattle.memory.specs.Layout.{swapsFrom}
 use Rattle.memory.specs.Keys.{keyAt, First, holds}
 use Rattle.memory.proofs.Values.{first, first-found, first-missing}
@@ -27,15 +28,15 @@ swaps-first v (swap v′ t ∷ ss) = rw (swaps-first v ss)
 row-key : (table : List ℕ) (j : ℕ) → getD table (swapsFrom + 2 * j) 0 ≡ keyAt table swapsFrom 2 j
 row-key table j = let z : swapsFrom + 2 * j ≡ 2 * j + swapsFrom = omega arith in rw z
 
-module _ {m : Memory} {table : List ℕ} {n swaps : ℕ} (l : Lists m table n 0 swaps) (v : ℕ) {r : ℕ} (s : First (holds (keyAt table swapsFrom 2) v) swaps r) where
-  pub swap-found : {node : ℕ} → r < swaps → node ≡ getD table (swapsFrom + 2 * r + 1) 0 → (names (treeAt m node) ≡ swapFor v (swapTrees m table swaps)) × (node < n)
+module _ {l : Lent} {table : List ℕ} {swaps : ℕ} (li : Lists l table 0 swaps) (v : ℕ) {r : ℕ} (s : First (holds (keyAt table swapsFrom 2) v) swaps r) where
+  pub swap-found : {node : ℕ} → r < swaps → node ≡ getD table (swapsFrom + 2 * r + 1) 0 → (names (treeIn l node) ≡ swapFor v (swapTrees (l .rows) table swaps)) × (node < count (l .desk))
   unfolding for named
   swap-found h e =
       rw e (
-        first-found (for v) named nothing swaps _ r h (ap (eqb v) (row-key table r) ∙ s .hit h) (λ j o. ap (eqb v) (row-key table j) ∙ s .before j o) ∙ swaps-first v (swapTrees m table swaps),
-        l .named r h,
+        first-found (for v) named nothing swaps _ r h (ap (eqb v) (row-key table r) ∙ s .hit h) (λ j o. ap (eqb v) (row-key table j) ∙ s .before j o) ∙ swaps-first v (swapTrees (l .rows) table swaps),
+        li .named r h,
       )
 
-  pub swap-missing : swaps ≤ r → nothing ≡ swapFor v (swapTrees m table swaps)
+  pub swap-missing : swaps ≤ r → nothing ≡ swapFor v (swapTrees (l .rows) table swaps)
   unfolding for
-  swap-missing h = first-missing (for v) named nothing swaps _ (λ j o. ap (eqb v) (row-key table j) ∙ s .before j (omega (arith, h, o))) ∙ swaps-first v (swapTrees m table swaps)
+  swap-missing h = first-missing (for v) named nothing swaps _ (λ j o. ap (eqb v) (row-key table j) ∙ s .before j (omega (arith, h, o))) ∙ swaps-first v (swapTrees (l .rows) table swaps)

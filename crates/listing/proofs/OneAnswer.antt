@@ -8,7 +8,8 @@ use Rattle.expression.specs.declared.refusal.Refusal.{Refusal}
 use Rattle.expression.specs.Trees.{Tree, leaf, pi}
 use Rattle.expression.specs.Alike.{identical}
 use Rattle.store.specs.Storing.{State, state, place}
-use Rattle.store.specs.Memory.{Memory, stateOf}
+use Rattle.store.specs.Desk.{count}
+use Rattle.store.specs.Held.{Lent, stateIn}
 use Rattle.store.proofs.Trees.{length-trees}
 use Rattle.store.proofs.Seeking.{own-place}
 use Rattle.listing.specs.declared.Listing.{Listing}
@@ -40,16 +41,23 @@ IsAccepted : Spec.Listing → Type 0
 IsAccepted (accepted root swaps σ) = Unit {0}
 IsAccepted (Spec.refused why) = ⊥
 
-pub one-listing : {substituting : Bool} {text : List ℕ} {m m₁ m₂ : Memory} {table₁ table₂ : List ℕ} (r r′ : Listing) → Reads substituting text r m m₁ table₁ → Reads substituting text r′ m m₂ table₂ → r ≡ r′
-unfolding root-in swaps-in store-in trees-in why-in IsAccepted
-one-listing {m₁ = m₁} {m₂ = m₂} {table₁ = table₁} {table₂ = table₂} (Listing.Read i a s) (Listing.Read j b u) p q =
-    let e = p .answer ∙ sym (q .answer) in
-    let t = ap root-in e in
-    let ts = ap (λ x. trees-in (store-in x (stateOf m₁ a 0))) e in
-    let k = sym (own-place (p .after .2 .holds) i (p .after .0)) ∙ (λ v. place (identical (t v)) (ts v)) ∙ own-place (q .after .2 .holds) j (q .after .0) in
-    let n = sym (length-trees m₁ a) ∙ ap length ts ∙ length-trees m₂ b in
-    let w = sym (length-upTo s _) ∙ ap (λ x. length (swaps-in x)) e ∙ length-upTo u _ in
-    λ v. Listing.Read (k v) (n v) (w v)
-one-listing (Listing.Read i a s) (Listing.Refused why) p q = absurd (subst IsAccepted (p .answer ∙ sym (q .answer)) tt)
-one-listing (Listing.Refused why) (Listing.Read j b u) p q = absurd (subst IsAccepted (q .answer ∙ sym (p .answer)) tt)
-one-listing (Listing.Refused why) (Listing.Refused why′) p q = ap (λ x. Listing.Refused (why-in x why)) (p .answer ∙ sym (q .answer))
+module _ {substituting : Bool} {text : List ℕ} {l l₁ l₂ : Lent} {table₁ table₂ : List ℕ} where
+  pub one-listing : (r r′ : Listing) → Reads substituting text r l l₁ table₁ → Reads substituting text r′ l l₂ table₂ → r ≡ r′
+  unfolding root-in swaps-in store-in trees-in why-in IsAccepted stateIn
+  one-listing (Listing.Read i s) (Listing.Read j u) p q =
+      let e = p .answer ∙ sym (q .answer) in
+      let t = ap root-in e in
+      let ts = ap (λ x. trees-in (store-in x (stateIn l₁))) e in
+      let k = sym (own-place (p .after .2 .sound .holds) i (p .after .0)) ∙ (λ v. place (identical (t v)) (ts v)) ∙ own-place (q .after .2 .sound .holds) j (q .after .0) in
+      let w = sym (length-upTo s _) ∙ ap (λ x. length (swaps-in x)) e ∙ length-upTo u _ in
+      λ v. Listing.Read (k v) (w v)
+  one-listing (Listing.Read i s) (Listing.Refused why) p q = absurd (subst IsAccepted (p .answer ∙ sym (q .answer)) tt)
+  one-listing (Listing.Refused why) (Listing.Read j u) p q = absurd (subst IsAccepted (q .answer ∙ sym (p .answer)) tt)
+  one-listing (Listing.Refused why) (Listing.Refused why′) p q = ap (λ x. Listing.Refused (why-in x why)) (p .answer ∙ sym (q .answer))
+
+  -- and as many nodes stand then
+  pub one-count : (i s j u : ℕ) → Reads substituting text (Listing.Read i s) l l₁ table₁ → Reads substituting text (Listing.Read j u) l l₂ table₂ → count (l₁ .desk) ≡ count (l₂ .desk)
+  unfolding store-in trees-in stateIn
+  one-count i s j u p q =
+      let ts = ap (λ x. trees-in (store-in x (stateIn l₁))) (p .answer ∙ sym (q .answer)) in
+      sym (length-trees (l₁ .rows) (count (l₁ .desk))) ∙ ap length ts ∙ length-trees (l₂ .rows) (count (l₂ .desk))

@@ -8,9 +8,9 @@ use lib.ListN.{length, getD, drop}
 use borrow.Author.Tests.{eq-eqb, ne-eqb}
 use Rattle.expression.specs.declared.refusal.Refusal.{Refusal}
 use Rattle.expression.specs.Trees.{Tree}
-use Rattle.store.specs.Memory.{Memory, room, treeAt, stateOf}
+use Rattle.store.specs.Memory.{room}
 use Rattle.store.specs.Storing.{State, fresh}
-use Rattle.store.specs.Held.{Holds, Begun}
+use Rattle.store.specs.Held.{Lent, treeIn, stateIn, Sound, Begun}
 use Rattle.memory.specs.Keys.{upTo}
 use Rattle.memory.proofs.Values.{upTo-snoc}
 use Rattle.text.specs.Lines as Lines
@@ -24,48 +24,48 @@ use Rattle.listing.specs.Listings.{known, Swap, accepted, last, rooted, 
 use Rattle.listing.specs.Tables.{lineTrees, swapTrees, knownAt, Lists, Ready, Takes, linesSeen, Ended, ReadsLines, listingSeen, ListsAfter, Reads, rootOf}
 
 -- after some lines
-pub record Going (substituting : Bool) (text : List ℕ) (m₀ : Memory) (m : Memory) (table : List ℕ) (p : Progress) (at : ℕ) : Type 0 where
+pub record Going (substituting : Bool) (text : List ℕ) (l₀ l : Lent) (table : List ℕ) (p : Progress) (at : ℕ) : Type 0 where
   pub here : p .at ≡ at
   pub lines : p .lines ≤ 1024
   pub swaps : p .swaps ≤ 256
   pub long : tableWords ≤ length table
-  pub lists : Lists m table (p .nodes) (p .lines) (p .swaps)
-  pub left : Left (listingLine substituting) (suc mostLines) (p .lines + p .swaps) (knownAt m table p) text at
-      (Lines.lines (listingLine substituting) (suc mostLines) (known [] [] (stateOf m₀ 0 0)) text)
+  pub lists : Lists l table (p .lines) (p .swaps)
+  pub left : Left (listingLine substituting) (suc mostLines) (p .lines + p .swaps) (knownAt l table p) text at
+      (Lines.lines (listingLine substituting) (suc mostLines) (known [] [] (stateIn l₀)) text)
 
 abbrev pub atStart : Progress
-atStart = record { at = 0; lines = 0; swaps = 0; nodes = 0 }
+atStart = record { at = 0; lines = 0; swaps = 0 }
 
-pub going-begins : (substituting : Bool) (text : List ℕ) (m : Memory) (table : List ℕ) → tableWords ≤ length table → Holds m 0 → Going substituting text m m table atStart 0
+pub going-begins : (substituting : Bool) (text : List ℕ) (l : Lent) (table : List ℕ) → tableWords ≤ length table → Sound l → Going substituting text l l table atStart 0
 unfolding upTo
-going-begins substituting text m table l h = record {
+going-begins substituting text l table o h = record {
   here = refl;
   lines = omega arith;
   swaps = omega arith;
-  long = l;
-  lists = record { holds = h; nodes = λ k o. absurd (omega arith); named = λ k o. absurd (omega arith); ascends = record { each = λ j o. absurd (omega arith) } };
-  left = begins (listingLine substituting) (suc mostLines) (known [] [] (stateOf m 0 0)) text;
+  long = o;
+  lists = record { sound = h; nodes = λ k o. absurd (omega arith); named = λ k o. absurd (omega arith); ascends = record { each = λ j o. absurd (omega arith) } };
+  left = begins (listingLine substituting) (suc mostLines) (known [] [] (stateIn l)) text;
 }
 
-module _ {substituting : Bool} {text : List ℕ} {m₀ m : Memory} {table : List ℕ} {p : Progress} {at : ℕ} (g : Going substituting text m₀ m table p at) where
+module _ {substituting : Bool} {text : List ℕ} {l₀ l : Lent} {table : List ℕ} {p : Progress} {at : ℕ} (g : Going substituting text l₀ l table p at) where
   pub is-ready : at < length text → Ready text table p
   is-ready h = record { inside = omega (arith, g .here, h); lines = g .lines; swaps = g .swaps; long = g .long }
 
-  pub going-ends : length text ≤ at → ReadsLines substituting text (Step.Next p) m₀ m table
+  pub going-ends : length text ≤ at → ReadsLines substituting text (Step.Next p) l₀ l table
   going-ends h = record { answer = ends (g .left) h; after = record { lists = g .lists; lines = g .lines; swaps = g .swaps } }
 
-  module _ {r : Step} {m′ : Memory} {table′ : List ℕ} (inside : at < length text)
-      (t : Takes (listingLine substituting (knownAt m table p) (getD text (p .at) 0) (drop (p .at + 1) text)) text p r m′ table′) where
-    at-place : listingLine substituting (knownAt m table p) (getD text (p .at) 0) (drop (p .at + 1) text)
-        ≡ listingLine substituting (knownAt m table p) (getD text at 0) (drop (at + 1) text)
+  module _ {r : Step} {l′ : Lent} {table′ : List ℕ} (inside : at < length text)
+      (t : Takes (listingLine substituting (knownAt l table p) (getD text (p .at) 0) (drop (p .at + 1) text)) text p r l′ table′) where
+    at-place : listingLine substituting (knownAt l table p) (getD text (p .at) 0) (drop (p .at + 1) text)
+        ≡ listingLine substituting (knownAt l table p) (getD text at 0) (drop (at + 1) text)
     at-place = rw (g .here)
 
-    pub going-stops : {why : Refusal} → r ≡ Step.Refused why → ReadsLines substituting text r m₀ m′ table′
+    pub going-stops : {why : Refusal} → r ≡ Step.Refused why → ReadsLines substituting text r l₀ l′ table′
     going-stops {why} e =
         let a = rw e at (t .answer) in
         rw e (record { answer = stops-at (g .left) inside (omega (arith, g .lines, g .swaps)) (sym (a ∙ at-place)); after = tt })
 
-    pub going-on : {q : Progress} → r ≡ Step.Next q → length table′ ≡ length table → Going substituting text m₀ m′ table′ q (q .at)
+    pub going-on : {q : Progress} → r ≡ Step.Next q → length table′ ≡ length table → Going substituting text l₀ l′ table′ q (q .at)
     going-on {q} e k =
         let a = rw e at (t .answer) in
         let f = rw e at (t .after) in
@@ -98,48 +98,45 @@ pub root-none : (table : List ℕ) (p : Progress) → p .lines ≡ 0 → Listing
 unfolding rootOf
 root-none table p e = rw (eq-eqb (p .lines) 0 e)
 
-pub root-some : (table : List ℕ) (p : Progress) (root : ℕ) → (p .lines ≡ 0 → ⊥) → root ≡ getD table (p .lines - 1) 0 → Listing.Read root (p .nodes) (p .swaps) ≡ rootOf table p
+pub root-some : (table : List ℕ) (p : Progress) (root : ℕ) → (p .lines ≡ 0 → ⊥) → root ≡ getD table (p .lines - 1) 0 → Listing.Read root (p .swaps) ≡ rootOf table p
 unfolding rootOf
 root-some table p root e q = rw (ne-eqb (p .lines) 0 e, q)
 
-root-seen : (m : Memory) (table : List ℕ) (p : Progress) (lines : ℕ) → p .lines ≡ lines → listingSeen m table (rootOf table p) ≡ whole (Lines.read (knownAt m table p))
+root-seen : (l : Lent) (table : List ℕ) (p : Progress) (lines : ℕ) → p .lines ≡ lines → listingSeen l table (rootOf table p) ≡ whole (Lines.read (knownAt l table p))
 unfolding whole rooted upTo rootOf
-root-seen m table p zero e = rw e
-root-seen m table p (suc k) e =
+root-seen l table p zero e = rw e
+root-seen l table p (suc k) e =
     let z : suc k - 1 ≡ k = omega arith in
-    rw (e, z, ne-eqb (suc k) 0 (λ q. omega (arith, q))) (sym (ap (λ ts. rooted ts (swapTrees m table (p .swaps)) (stateOf m (p .nodes) 0)) (upTo-snoc k _) ∙ rooted-snoc (lineTrees m table k) (treeAt m (getD table k 0)) (swapTrees m table (p .swaps)) (stateOf m (p .nodes) 0)))
+    rw (e, z, ne-eqb (suc k) 0 (λ q. omega (arith, q))) (sym (ap (λ ts. rooted ts (swapTrees (l .rows) table (p .swaps)) (stateIn l)) (upTo-snoc k _) ∙ rooted-snoc (lineTrees (l .rows) table k) (treeIn l (getD table k 0)) (swapTrees (l .rows) table (p .swaps)) (stateIn l)))
 
-root-after : (m : Memory) (table : List ℕ) (p : Progress) → Ended m table p → (lines : ℕ) → p .lines ≡ lines → ListsAfter m table (rootOf table p)
+root-after : (l : Lent) (table : List ℕ) (p : Progress) → Ended l table p → (lines : ℕ) → p .lines ≡ lines → ListsAfter l table (rootOf table p)
 unfolding rootOf
-root-after m table p f zero e = rw e tt
-root-after m table p f (suc k) e =
+root-after l table p f zero e = rw e tt
+root-after l table p f (suc k) e =
     let z : suc k - 1 ≡ k = omega arith in
-    rw (e, z, ne-eqb (suc k) 0 (λ q. omega (arith, q))) (f .lists .nodes k (omega (arith, e)), f .swaps, record { holds = f .lists .holds; nodes = λ j h. absurd (omega arith); named = f .lists .named; ascends = f .lists .ascends })
+    rw (e, z, ne-eqb (suc k) 0 (λ q. omega (arith, q))) (f .lists .nodes k (omega (arith, e)), f .swaps, record { sound = f .lists .sound; nodes = λ j h. absurd (omega arith); named = f .lists .named; ascends = f .lists .ascends })
 
-module _ {substituting : Bool} {text : List ℕ} {m₀ m m′ : Memory} {table : List ℕ} {r : Step} (b : Begun m₀ m) (t : ReadsLines substituting text r m m′ table) where
-  from-fresh : whole (linesSeen m′ table r) ≡ listing substituting text (fresh (room m₀) 0)
+module _ {substituting : Bool} {text : List ℕ} {l₀ l l′ : Lent} {table : List ℕ} {r : Step} (b : Begun l₀ l) (t : ReadsLines substituting text r l l′ table) where
+  from-fresh : whole (linesSeen l′ table r) ≡ listing substituting text (fresh (room (l₀ .rows)) 0)
   unfolding listing
-  from-fresh = ap whole (t .answer) ∙ rw (b .begins 0)
+  from-fresh = ap whole (t .answer) ∙ rw (b .begins)
 
-  pub reads-refused : {why : Refusal} → r ≡ Step.Refused why → Reads substituting text (Listing.Refused why) m₀ m′ table
+  pub reads-refused : {why : Refusal} → r ≡ Step.Refused why → Reads substituting text (Listing.Refused why) l₀ l′ table
   unfolding whole
   reads-refused e = record { answer = rw e at from-fresh; after = tt }
 
-  pub reads-root : {p : Progress} {a : Listing} → r ≡ Step.Next p → a ≡ rootOf table p → Reads substituting text a m₀ m′ table
+  pub reads-root : {p : Progress} {a : Listing} → r ≡ Step.Next p → a ≡ rootOf table p → Reads substituting text a l₀ l′ table
   reads-root {p} {a} e q =
-      rw q (record { answer = root-seen m′ table p (p .lines) refl ∙ (rw e at from-fresh); after = root-after m′ table p (rw e at (t .after)) (p .lines) refl })
+      rw q (record { answer = root-seen l′ table p (p .lines) refl ∙ (rw e at from-fresh); after = root-after l′ table p (rw e at (t .after)) (p .lines) refl })
 
--- ---- the slices keep their lengths
+-- ---- the rows and the table keep their lengths
 
-pub record Same (m₀ : Memory) (t₀ : List ℕ) (m : Memory) (t : List ℕ) : Type 0 where
-  pub tag : length (m .tag) ≡ length (m₀ .tag)
-  pub first : length (m .first) ≡ length (m₀ .first)
-  pub second : length (m .second) ≡ length (m₀ .second)
-  pub link : length (m .link) ≡ length (m₀ .link)
+pub record Same (s₀ : List (List ℕ)) (t₀ : List ℕ) (s : List (List ℕ)) (t : List ℕ) : Type 0 where
+  pub rows : length s ≡ length s₀
   pub table : length t ≡ length t₀
 
-pub same-begins : (m : Memory) (table : List ℕ) → Same m table m table
-same-begins m table = record { tag = refl; first = refl; second = refl; link = refl; table = refl }
+pub same-begins : (s : List (List ℕ)) (t : List ℕ) → Same s t s t
+same-begins s t = record { rows = refl; table = refl }
 
-pub same-on : {m₀ m m′ : Memory} {table₀ table table′ : List ℕ} → Same m₀ table₀ m table → Same m table m′ table′ → Same m₀ table₀ m′ table′
-same-on a b = record { tag = b .tag ∙ a .tag; first = b .first ∙ a .first; second = b .second ∙ a .second; link = b .link ∙ a .link; table = b .table ∙ a .table }
+pub same-on : {s₀ s s′ : List (List ℕ)} {t₀ t t′ : List ℕ} → Same s₀ t₀ s t → length s′ ≡ length s → length t′ ≡ length t → Same s₀ t₀ s′ t′
+same-on a x y = record { rows = x ∙ a .rows; table = y ∙ a .table }

@@ -40,7 +40,7 @@ none (x ∷ xs) = false
 -- 6, 7, 8 as the node is stored
 unfoldable pub stored : Known → List ℕ → Answer → Line Known Refusal
 stored k rest (Storing.gives t store) = goes (known (k .nodes ++ (t ∷ [])) (k .swaps) store) rest
-stored k rest (Storing.refused why) = stops why
+stored k rest (Storing.refused why s) = stops why
 
 -- 1 before that
 unfoldable pub formed : Known → Read Tree → Line Known Refusal

@@ -4,16 +4,17 @@ use Prim.Native.Nat.{ℕ, suc, _+_, _-_, _*_, _≤_, _<_}
 use mathlib.Core.List.{List, []}
 use mathlib.Core.Bool.{Bool, cond}
 use lib.ListN.{length, getD, drop}
-use lib.Dec.{ltb, eqb}
+use lib.Dec.{eqb}
 use Rattle.expression.specs.declared.refusal.Refusal.{Refusal}
 use Rattle.expression.specs.Trees.{Tree, leaf, pi}
 use Rattle.expression.specs.declared.node.Expression.{Expression}
 use Rattle.expression.specs.declared.node.Operands.{Operands}
 use Rattle.expression.specs.Nodes.{operandsOf, withOperands}
-use Rattle.store.specs.Memory.{Memory, treeAt, stateOf, room}
+use Rattle.store.specs.Memory.{Memory, treeAt, room}
 use Rattle.store.specs.Storing.{fresh}
-use Rattle.store.specs.Held.{Holds}
-use Rattle.memory.specs.Layout.{tableWords, swapsFrom, placesFrom}
+use Rattle.store.specs.Desk.{count}
+use Rattle.store.specs.Held.{Lent, treeIn, stateIn, Sound}
+use Rattle.memory.specs.Layout.{tableWords, swapsFrom}
 use Rattle.memory.specs.Keys.{upTo, keyAt, Ascends}
 use Rattle.text.specs.Reading.{Read, is, bad}
 use Rattle.text.specs.Lines as Lines
@@ -26,18 +27,14 @@ use Rattle.listing.specs.declared.SwapLine.{SwapLine}
 use Rattle.listing.specs.Listings as Spec
 use Rattle.listing.specs.Listings.{Known, known, accepted, swap, names, nothing, swapFor, above, swapFields, swapLine, listingLine, mostLines, listing}
 
--- what stands in a table for a number, from a place on; half of the table is for them
-unfoldable pub entryAt : List ℕ → (from : ℕ) → ℕ → ℕ
-entryAt table from k = cond (ltb k placesFrom) (getD table (from + k) 0) 0
+-- a node whose operands are numbers of lines, with the nodes that stand for these in a table
+unfoldable pub movedTo : List ℕ → Expression → Operands → Expression
+movedTo table e Operands.Nothing = e
+movedTo table e (Operands.One a) = withOperands e 0 (getD table a 0)
+movedTo table e (Operands.Two a b) = withOperands e (getD table a 0) (getD table b 0)
 
--- a node whose operands are numbers of lines, with the numbers that stand for these in a table from a place on
-unfoldable pub movedTo : List ℕ → ℕ → Expression → Operands → Expression
-movedTo table from e Operands.Nothing = e
-movedTo table from e (Operands.One a) = withOperands e 0 (entryAt table from a)
-movedTo table from e (Operands.Two a b) = withOperands e (entryAt table from a) (entryAt table from b)
-
-abbrev pub moved : List ℕ → ℕ → Expression → Expression
-moved table from e = movedTo table from e (operandsOf e)
+abbrev pub moved : List ℕ → Expression → Expression
+moved table e = movedTo table e (operandsOf e)
 
 -- ---- the table: word i is the node of node line i; the s lines stand from `swapsFrom` on, two words each
 
@@ -48,14 +45,14 @@ abbrev pub swapTrees : (m : Memory) (table : List ℕ) → ℕ → List Spec.Swa
 swapTrees m table j = upTo j (λ k. swap (getD table (swapsFrom + 2 * k) 0) (treeAt m (getD table (swapsFrom + 2 * k + 1) 0)))
 
 -- what is known after some lines
-abbrev pub knownAt : (m : Memory) (table : List ℕ) → Progress → Known
-knownAt m table p = known (lineTrees m table (p .lines)) (swapTrees m table (p .swaps)) (stateOf m (p .nodes) 0)
+abbrev pub knownAt : (l : Lent) (table : List ℕ) → Progress → Known
+knownAt l table p = known (lineTrees (l .rows) table (p .lines)) (swapTrees (l .rows) table (p .swaps)) (stateIn l)
 
--- the nodes that a table names are among n, and the variables of its s lines ascend
-pub record Lists (m : Memory) (table : List ℕ) (n lines swaps : ℕ) : Type 0 where
-  pub holds : Holds m n
-  pub nodes : (k : ℕ) → k < lines → getD table k 0 < n
-  pub named : (k : ℕ) → k < swaps → getD table (swapsFrom + 2 * k + 1) 0 < n
+-- the nodes that a table names stand, and the variables of its s lines ascend
+pub record Lists (l : Lent) (table : List ℕ) (lines swaps : ℕ) : Type 0 where
+  pub sound : Sound l
+  pub nodes : (k : ℕ) → k < lines → getD table k 0 < count (l .desk)
+  pub named : (k : ℕ) → k < swaps → getD table (swapsFrom + 2 * k + 1) 0 < count (l .desk)
   pub ascends : Ascends (keyAt table swapsFrom 2) swaps
 
 -- ---- one line
@@ -68,31 +65,31 @@ pub record Ready (text table : List ℕ) (p : Progress) : Type 0 where
   pub long : tableWords ≤ length table
 
 -- what a step of the code says, as one on trees
-abbrev pub stepSeen : (text : List ℕ) (m : Memory) (table : List ℕ) → Step → Lines.Line Known Refusal
-stepSeen text m table (Step.Next q) = goes (knownAt m table q) (drop (q .at) text)
-stepSeen text m table (Step.Refused why) = stops why
+abbrev pub stepSeen : (text : List ℕ) (l : Lent) (table : List ℕ) → Step → Lines.Line Known Refusal
+stepSeen text l table (Step.Next q) = goes (knownAt l table q) (drop (q .at) text)
+stepSeen text l table (Step.Refused why) = stops why
 
-pub record Advanced (m : Memory) (table : List ℕ) (p q : Progress) : Type 0 where
-  pub lists : Lists m table (q .nodes) (q .lines) (q .swaps)
+pub record Advanced (l : Lent) (table : List ℕ) (p q : Progress) : Type 0 where
+  pub lists : Lists l table (q .lines) (q .swaps)
   pub count : q .lines + q .swaps ≡ p .lines + p .swaps + 1
   pub lines : q .lines ≤ 1024
   pub swaps : q .swaps ≤ 256
 
-abbrev pub StepAfter : (m : Memory) (table : List ℕ) → Progress → Step → Type 0
-StepAfter m table p (Step.Next q) = Advanced m table p q
-StepAfter m table p (Step.Refused why) = Unit {0}
+abbrev pub StepAfter : (l : Lent) (table : List ℕ) → Progress → Step → Type 0
+StepAfter l table p (Step.Next q) = Advanced l table p q
+StepAfter l table p (Step.Refused why) = Unit {0}
 
-pub record Takes (want : Lines.Line Known Refusal) (text : List ℕ) (p : Progress) (r : Step) (m : Memory) (table : List ℕ) : Type 0 where
-  pub answer : stepSeen text m table r ≡ want
-  pub after : StepAfter m table p r
+pub record Takes (want : Lines.Line Known Refusal) (text : List ℕ) (p : Progress) (r : Step) (l : Lent) (table : List ℕ) : Type 0 where
+  pub answer : stepSeen text l table r ≡ want
+  pub after : StepAfter l table p r
 
-abbrev pub TakesLine : (want : Known → ℕ → List ℕ → Lines.Line Known Refusal) (text table : List ℕ) (p : Progress) (r : Step) (m m′ : Memory) (table′ : List ℕ) → Type 0
-TakesLine want text table p r m m′ table′ =
-    Lists m table (p .nodes) (p .lines) (p .swaps) → Takes (want (knownAt m table p) (getD text (p .at) 0) (drop (p .at + 1) text)) text p r m′ table′
+abbrev pub TakesLine : (want : Known → ℕ → List ℕ → Lines.Line Known Refusal) (text table : List ℕ) (p : Progress) (r : Step) (l l′ : Lent) (table′ : List ℕ) → Type 0
+TakesLine want text table p r l l′ table′ =
+    Lists l table (p .lines) (p .swaps) → Takes (want (knownAt l table p) (getD text (p .at) 0) (drop (p .at + 1) text)) text p r l′ table′
 
--- an s line changes the table alone, whatever the slices are
+-- an s line changes the table alone, whatever rows and desk are
 abbrev pub TakesSwap : (substituting : Bool) (text table : List ℕ) (p : Progress) (r : Step) (table′ : List ℕ) → Type 0
-TakesSwap substituting text table p r table′ = (m : Memory) → TakesLine (swapLine substituting) text table p r m m table′
+TakesSwap substituting text table p r table′ = (l : Lent) → TakesLine (swapLine substituting) text table p r l l table′
 
 -- an s line of the code
 abbrev pub swapLineSeen : (nodes : List Tree) (text : List ℕ) → SwapLine → Read Spec.Swap
@@ -113,43 +110,43 @@ Above table swaps variable r = (m : Memory) (t : Tree) → r ≡ above (swapTree
 
 -- ---- all lines
 
-abbrev pub linesSeen : (m : Memory) (table : List ℕ) → Step → Lines.Whole Known Refusal
-linesSeen m table (Step.Next q) = Lines.read (knownAt m table q)
-linesSeen m table (Step.Refused why) = Lines.refused why
+abbrev pub linesSeen : (l : Lent) (table : List ℕ) → Step → Lines.Whole Known Refusal
+linesSeen l table (Step.Next q) = Lines.read (knownAt l table q)
+linesSeen l table (Step.Refused why) = Lines.refused why
 
-pub record Ended (m : Memory) (table : List ℕ) (q : Progress) : Type 0 where
-  pub lists : Lists m table (q .nodes) (q .lines) (q .swaps)
+pub record Ended (l : Lent) (table : List ℕ) (q : Progress) : Type 0 where
+  pub lists : Lists l table (q .lines) (q .swaps)
   pub lines : q .lines ≤ 1024
   pub swaps : q .swaps ≤ 256
 
-abbrev pub LinesAfter : (m : Memory) (table : List ℕ) → Step → Type 0
-LinesAfter m table (Step.Next q) = Ended m table q
-LinesAfter m table (Step.Refused why) = Unit {0}
+abbrev pub LinesAfter : (l : Lent) (table : List ℕ) → Step → Type 0
+LinesAfter l table (Step.Next q) = Ended l table q
+LinesAfter l table (Step.Refused why) = Unit {0}
 
-pub record ReadsLines (substituting : Bool) (text : List ℕ) (r : Step) (m m′ : Memory) (table : List ℕ) : Type 0 where
-  pub answer : linesSeen m′ table r ≡ Lines.lines (listingLine substituting) (suc mostLines) (known [] [] (stateOf m 0 0)) text
-  pub after : LinesAfter m′ table r
+pub record ReadsLines (substituting : Bool) (text : List ℕ) (r : Step) (l l′ : Lent) (table : List ℕ) : Type 0 where
+  pub answer : linesSeen l′ table r ≡ Lines.lines (listingLine substituting) (suc mostLines) (known [] [] (stateIn l)) text
+  pub after : LinesAfter l′ table r
 
 -- ---- a listing
 
 -- an answer of the code, as one on trees
-abbrev pub listingSeen : (m : Memory) (table : List ℕ) → Listing → Spec.Listing
-listingSeen m table (Listing.Read root n swaps) = accepted (treeAt m root) (swapTrees m table swaps) (stateOf m n 0)
-listingSeen m table (Listing.Refused why) = Spec.refused why
+abbrev pub listingSeen : (l : Lent) (table : List ℕ) → Listing → Spec.Listing
+listingSeen l table (Listing.Read root swaps) = accepted (treeIn l root) (swapTrees (l .rows) table swaps) (stateIn l)
+listingSeen l table (Listing.Refused why) = Spec.refused why
 
-abbrev pub ListsAfter : (m : Memory) (table : List ℕ) → Listing → Type 0
-ListsAfter m table (Listing.Read root n swaps) = (root < n) × (swaps ≤ 256) × Lists m table n 0 swaps
-ListsAfter m table (Listing.Refused why) = Unit {0}
+abbrev pub ListsAfter : (l : Lent) (table : List ℕ) → Listing → Type 0
+ListsAfter l table (Listing.Read root swaps) = (root < count (l .desk)) × (swaps ≤ 256) × Lists l table 0 swaps
+ListsAfter l table (Listing.Refused why) = Unit {0}
 
 -- the root's node is that of the last line
 unfoldable pub rootOf : (table : List ℕ) → Progress → Listing
 rootOf table p =
-    cond (eqb (p .lines) 0) (Listing.Refused (Refusal.BadList 0)) (Listing.Read (getD table (p .lines - 1) 0) (p .nodes) (p .swaps))
+    cond (eqb (p .lines) 0) (Listing.Refused (Refusal.BadList 0)) (Listing.Read (getD table (p .lines - 1) 0) (p .swaps))
 
--- reading a listing, from the slices m to m′
-pub record Reads (substituting : Bool) (text : List ℕ) (r : Listing) (m m′ : Memory) (table : List ℕ) : Type 0 where
-  pub answer : listingSeen m′ table r ≡ listing substituting text (fresh (room m) 0)
-  pub after : ListsAfter m′ table r
+-- reading a listing, from what is lent, l, to l′
+pub record Reads (substituting : Bool) (text : List ℕ) (r : Listing) (l l′ : Lent) (table : List ℕ) : Type 0 where
+  pub answer : listingSeen l′ table r ≡ listing substituting text (fresh (room (l .rows)) 0)
+  pub after : ListsAfter l′ table r
 
 -- the node that an s line names
 abbrev pub swapSeen : Memory → Swap → Spec.Named
@@ -163,4 +160,4 @@ NodeWithin n Swap.Nothing = Unit {0}
 -- looking up a variable among the s lines that reading a listing has left in the table, whatever the store
 abbrev pub LooksUp : (table : List ℕ) (swaps variable : ℕ) → Swap → Type 0
 LooksUp table swaps variable r =
-    (m : Memory) (n : ℕ) → swaps ≤ 256 → Lists m table n 0 swaps → (swapSeen m r ≡ swapFor variable (swapTrees m table swaps)) × NodeWithin n r
+    (l : Lent) → swaps ≤ 256 → Lists l table 0 swaps → (swapSeen (l .rows) r ≡ swapFor variable (swapTrees (l .rows) table swaps)) × NodeWithin (count (l .desk)) r

@@ -2,18 +2,17 @@
 ghost use mathlib.Core.Path.{_≡_};
 ghost use Prim.Native.Nat.{_≤_, _<_};
 ghost use lib.ListN.{length};
-ghost use Rattle.memory.specs.Layout.{tableWords, placesFrom};
-ghost use Rattle.store.specs.Memory.{memory};
-ghost use Rattle.store.specs.Held.{Holds};
+ghost use Rattle.memory.specs.Layout.{tableWords};
+ghost use Rattle.store.specs.Held.{lent, Sound};
 ghost use Rattle.listing.specs.Listings.{nodeLine, listingLine};
-ghost use Rattle.listing.specs.Tables.{entryAt, moved, Reads, FindsSwap, Above, Ready, TakesSwap, TakesLine, ReadsLines, rootOf, LooksUp};
+ghost use Rattle.listing.specs.Tables.{moved, Reads, FindsSwap, Above, Ready, TakesSwap, TakesLine, ReadsLines, rootOf, LooksUp};
 use expression::node::Expression;
 use expression::node::Operands;
 use expression::node::operands_of;
 use expression::node::with_operands;
 use expression::refusal::Refusal;
 use memory::halving::search;
-use memory::layout::PLACES_FROM;
+use memory::layout::DESK_WORDS;
 use memory::layout::SWAPS_FROM;
 use memory::put;
 use memory::read;
@@ -21,8 +20,9 @@ use node_lines::LF;
 use node_lines::Line;
 use node_lines::TAB;
 use node_lines::read_node;
-use store::Added;
 use store::add;
+use store::desk::REFUSED;
+use store::desk::refusal_of;
 use store::start;
 use text::reading::Number;
 use text::reading::byte_at;
@@ -33,13 +33,9 @@ const MOST_NODE_LINES: usize = 1024;
 
 const MOST_SWAPS: usize = 256;
 
-// What reading a listing answers: the node of the root, how many nodes the store has, how many s lines the table.
+// What reading a listing answers: the node of the root, and how many s lines the table has.
 pub enum Listing {
-    Read {
-        root: usize,
-        nodes: usize,
-        swaps: usize,
-    },
+    Read { root: usize, swaps: usize },
     Refused(Refusal),
 }
 
@@ -49,39 +45,25 @@ pub enum Swap {
     Nothing,
 }
 
-// What stands in the table for a number, from a place on; half of the table is for them.
-pub fn entry_at(table: &[u64], from: usize, k: usize) -> usize
-    requires { ⌜ from ≤ placesFrom ⌝ }
-    ensures { λ r. ⌜ r ≡ entryAt (now (table .entry)) from k ⌝ }
-{
-    if k < PLACES_FROM {
-        read(table, from + k) as usize
-    } else {
-        0
-    }
-}
-
-// A node with other numbers for its operands: the node of a line, or the line of a node.
-pub fn moved_by(table: &[u64], from: usize, e: Expression) -> Expression
-    requires { ⌜ from ≤ placesFrom ⌝ }
-    ensures { λ r. ⌜ r ≡ moved (now (table .entry)) from e ⌝ }
+// The node of a line, whose operands are numbers of lines, with the nodes of these lines.
+fn moved_by(table: &[u64], e: Expression) -> Expression
+    ensures { λ r. ⌜ r ≡ moved (now (table .entry)) e ⌝ }
 {
     let operands = operands_of(e);
     match operands {
         Operands::Nothing => e,
-        Operands::One(a) => with_operands(e, 0, entry_at(table, from, a)),
+        Operands::One(a) => with_operands(e, 0, read(table, a) as usize),
         Operands::Two(a, b) => {
-            with_operands(e, entry_at(table, from, a), entry_at(table, from, b))
+            with_operands(e, read(table, a) as usize, read(table, b) as usize)
         }
     }
 }
 
-// How far reading is: the place in the text, how many node lines and s lines are read, how many nodes are stored.
+// How far reading is: the place in the text, and how many node lines and s lines are read.
 struct Progress {
     at: usize,
     lines: usize,
     swaps: usize,
-    nodes: usize,
 }
 
 // A line was read, or refused.
@@ -143,7 +125,6 @@ fn take_swap(s: &[u8], substituting: bool, table: &mut [u64], p: Progress) -> St
         at: next,
         lines,
         swaps: swaps + 1,
-        nodes: p.nodes,
     })
 }
 
@@ -161,15 +142,13 @@ fn is_above(table: &[u64], swaps: usize, variable: u64) -> bool
 // A node line: 2, then 1, then 6, 7, 8 as the node is stored.
 fn take_node(
     s: &[u8],
-    tag: &mut [u64],
-    first: &mut [u64],
-    second: &mut [u64],
-    link: &mut [u64],
+    store: &mut [[u64; 4]],
+    desk: &mut [u64; DESK_WORDS],
     table: &mut [u64],
     p: Progress,
 ) -> Step
     requires { ⌜ Ready (now s) (now table) p ⌝ }
-    ensures { λ r. ⌜ TakesLine nodeLine (now (s .entry)) (now (table .entry)) p r (memory (now (tag .entry)) (now (first .entry)) (now (second .entry)) (now (link .entry))) (memory (now (tag .exit)) (now (first .exit)) (now (second .exit)) (now (link .exit))) (now (table .exit)) ⌝ }
+    ensures { λ r. ⌜ TakesLine nodeLine (now (s .entry)) (now (table .entry)) p r (lent (now (store .entry)) (now (desk .entry))) (lent (now (store .exit)) (now (desk .exit))) (now (table .exit)) ⌝ }
 {
     let at = p.at;
     let lines = p.lines;
@@ -185,69 +164,57 @@ fn take_node(
     let Line::Node(e, next) = found else {
         return Step::Refused(Refusal::BadList(here));
     };
-    let added = add(tag, first, second, link, p.nodes, moved_by(table, 0, e), 0);
-    match added {
-        Added::Node {
-            at: node,
-            nodes,
-            calls: _,
-        } => {
-            put(table, lines, node as u64);
-            Step::Next(Progress {
-                at: next,
-                lines: lines + 1,
-                swaps,
-                nodes,
-            })
-        }
-        Added::Refused(why) => Step::Refused(why),
+    let node = add(store, desk, moved_by(table, e));
+    if REFUSED <= node {
+        return Step::Refused(refusal_of(desk, node));
     }
+    put(table, lines, node as u64);
+    Step::Next(Progress {
+        at: next,
+        lines: lines + 1,
+        swaps,
+    })
 }
 
 // The first byte decides which kind of line it is.
 fn take_line(
     s: &[u8],
     substituting: bool,
-    tag: &mut [u64],
-    first: &mut [u64],
-    second: &mut [u64],
-    link: &mut [u64],
+    store: &mut [[u64; 4]],
+    desk: &mut [u64; DESK_WORDS],
     table: &mut [u64],
     p: Progress,
 ) -> Step
     requires { ⌜ Ready (now s) (now table) p ⌝ }
-    ensures { λ r. ⌜ TakesLine (listingLine substituting) (now (s .entry)) (now (table .entry)) p r (memory (now (tag .entry)) (now (first .entry)) (now (second .entry)) (now (link .entry))) (memory (now (tag .exit)) (now (first .exit)) (now (second .exit)) (now (link .exit))) (now (table .exit)) ⌝ }
+    ensures { λ r. ⌜ TakesLine (listingLine substituting) (now (s .entry)) (now (table .entry)) p r (lent (now (store .entry)) (now (desk .entry))) (lent (now (store .exit)) (now (desk .exit))) (now (table .exit)) ⌝ }
 {
     let at = p.at;
     if s[at] == b's' {
         return take_swap(s, substituting, table, p);
     }
-    take_node(s, tag, first, second, link, table, p)
+    take_node(s, store, desk, table, p)
 }
 
-// All lines, into a store with no node.
+// All lines, into a store.
 fn read_lines(
     s: &[u8],
     substituting: bool,
-    tag: &mut [u64],
-    first: &mut [u64],
-    second: &mut [u64],
-    link: &mut [u64],
+    store: &mut [[u64; 4]],
+    desk: &mut [u64; DESK_WORDS],
     table: &mut [u64],
 ) -> Step
     requires { ⌜ tableWords ≤ length (now table) ⌝ }
-    requires { ⌜ Holds (memory (now tag) (now first) (now second) (now link)) 0 ⌝ }
-    ensures { λ r. ⌜ ReadsLines substituting (now (s .entry)) r (memory (now (tag .entry)) (now (first .entry)) (now (second .entry)) (now (link .entry))) (memory (now (tag .exit)) (now (first .exit)) (now (second .exit)) (now (link .exit))) (now (table .exit)) ⌝ }
+    requires { ⌜ Sound (lent (now store) (now desk)) ⌝ }
+    ensures { λ r. ⌜ ReadsLines substituting (now (s .entry)) r (lent (now (store .entry)) (now (desk .entry))) (lent (now (store .exit)) (now (desk .exit))) (now (table .exit)) ⌝ }
 {
     let mut p = Progress {
         at: 0,
         lines: 0,
         swaps: 0,
-        nodes: 0,
     };
     let mut at: usize = 0;
     while at < s.len() {
-        let step = take_line(s, substituting, tag, first, second, link, table, p);
+        let step = take_line(s, substituting, store, desk, table, p);
         let Step::Next(q) = step else {
             return step;
         };
@@ -257,21 +224,19 @@ fn read_lines(
     Step::Next(p)
 }
 
-// A listing, read into a new store whatever the slices held; the table has the s lines then.
+// A listing, read into a new store whatever rows and desk held; the table has the s lines then.
 pub fn read_listing(
     text: &[u8],
     substituting: bool,
-    tag: &mut [u64],
-    first: &mut [u64],
-    second: &mut [u64],
-    link: &mut [u64],
+    store: &mut [[u64; 4]],
+    desk: &mut [u64; DESK_WORDS],
     table: &mut [u64],
 ) -> Listing
     requires { ⌜ tableWords ≤ length (now table) ⌝ }
-    ensures { λ r. ⌜ Reads substituting (now (text .entry)) r (memory (now (tag .entry)) (now (first .entry)) (now (second .entry)) (now (link .entry))) (memory (now (tag .exit)) (now (first .exit)) (now (second .exit)) (now (link .exit))) (now (table .exit)) ⌝ }
+    ensures { λ r. ⌜ Reads substituting (now (text .entry)) r (lent (now (store .entry)) (now (desk .entry))) (lent (now (store .exit)) (now (desk .exit))) (now (table .exit)) ⌝ }
 {
-    start(link);
-    let end = read_lines(text, substituting, tag, first, second, link, table);
+    start(desk);
+    let end = read_lines(text, substituting, store, desk, table);
     match end {
         Step::Next(p) => root_of(table, p),
         Step::Refused(why) => Listing::Refused(why),
@@ -288,7 +253,6 @@ fn root_of(table: &[u64], p: Progress) -> Listing
     }
     Listing::Read {
         root: read(table, lines - 1) as usize,
-        nodes: p.nodes,
         swaps: p.swaps,
     }
 }

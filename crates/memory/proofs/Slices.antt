@@ -3,8 +3,8 @@ use mathlib.Core.Path.{_≡_, refl, sym, _∙_}
 use mathlib.Core.List.{List, [], _∷_}
 use Prim.Native.Nat.{ℕ, zero, suc, _+_, _≤_, _<_}
 use native.Mathlib.Omega.{arith}
-use native.Mathlib.Decide.{ℕ-discrete, decLt}
-use lib.ListN.{length, getD, set, replicate, length-set, length-replicate}
+use native.Mathlib.Decide.{ℕ-discrete}
+use lib.ListN.{length, getD, set, replicate, length-replicate, getD-replicate}
 use lib.Seq.{ext-getD, getD-set-same, getD-set-other}
 
 pub getD-out : {A : Type 0} (l : List A) (i : ℕ) (d : A) → length l ≤ i → getD l i d ≡ d
@@ -17,14 +17,17 @@ getD-zeros zero i = refl
 getD-zeros (suc n) zero = refl
 getD-zeros (suc n) (suc i) = getD-zeros n i
 
-pub all-zero : (s s₀ : List ℕ) → length s ≡ length s₀ → ((j : ℕ) → j < length s → getD s j 0 ≡ 0) → s ≡ replicate (length s₀) 0
-all-zero s s₀ e f = ext-getD 0 s (replicate (length s₀) 0) (e ∙ sym (length-replicate (length s₀) 0)) λ j l. f j l ∙ sym (getD-zeros (length s₀) j)
+-- one value all over a list
+module _ {A : Type 0} (d x : A) where
+  pub all-same : (s s₀ : List A) → length s ≡ length s₀ → ((j : ℕ) → j < length s → getD s j d ≡ x) → s ≡ replicate (length s₀) x
+  all-same s s₀ e f =
+      ext-getD d s (replicate (length s₀) x) (e ∙ sym (length-replicate (length s₀) x))
+      λ j l. f j l ∙ sym (getD-replicate (length s₀) j x d (omega (arith, e)))
 
--- one more place set to 0
-pub zero-more : (s : List ℕ) (i : ℕ) → ((j : ℕ) → j < i → getD s j 0 ≡ 0) → (j : ℕ) → j < i + 1 → getD (set s i 0) j 0 ≡ 0
-zero-more s i f j l = go (ℕ-discrete j i) (decLt i (length s))
-  where
-    go : Dec (j ≡ i) → Dec (i < length s) → getD (set s i 0) j 0 ≡ 0
-    go (yes p) (yes q) = rw p (getD-set-same s i 0 0 q)
-    go (yes p) (no q) = rw p (getD-out (set s i 0) i 0 (omega (arith, length-set s i 0)))
-    go (no p) d = getD-set-other s i j 0 0 p ∙ f j (omega arith)
+  -- one more place
+  pub one-more : (s : List A) (i : ℕ) → i < length s → ((j : ℕ) → j < i → getD s j d ≡ x) → (j : ℕ) → j < i + 1 → getD (set s i x) j d ≡ x
+  one-more s i h f j l = go (ℕ-discrete j i)
+    where
+      go : Dec (j ≡ i) → getD (set s i x) j d ≡ x
+      go (yes p) = rw p (getD-set-same s i x d h)
+      go (no p) = getD-set-other s i j x d p ∙ f j (omega arith)

@@ -1,3 +1,5 @@
--- The definitions that the contracts of `memory` and of those that lend a table cite. To believe: none; they only connect words with lists.
+-- The definitions that the contracts of `memory` and of those that lend a table cite. To believe: Rows, of which
+-- "zero" is made; the others only connect words with lists.
 pub mod Keys
 pub mod Layout
+pub mod Rows

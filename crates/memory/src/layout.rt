@@ -1,14 +1,17 @@
-// Where things stand in the table that a call lends. It serves one thing after another: the lines of a listing that is read,
-// the rows of a sheet, and the order in which nodes are written. specs/Layout says the same for the definitions.
+// The work memory that a call lends: rows for the nodes, a desk of single words, and a table. How long the desk and the table are and
+// where things stand in them. specs/Layout says the same for the definitions.
 
-// The table's length.
-pub const TABLE_WORDS: usize = 8192;
+// The desk: how many nodes stand, how many simplify calls were made, and what a refusal NEED carries, in five words: the number of its
+// operation and the bits of its operands. The words after these are free: the last 256 are for marks, one for each function value of a
+// sheet.
+pub const DESK_WORDS: usize = 272;
+
+// The table. It serves one thing after another: the lines of a listing that is read, the rows of a sheet, which need the most, and the
+// order in which nodes are written: word i is the node of line i, for at most 4096 nodes.
+pub const TABLE_WORDS: usize = 4608;
 
 // A listing that is read: word i is the node of node line i. An s line has two words from here on, its variable and its node.
 pub const SWAPS_FROM: usize = 1024;
-
-// The order in which nodes are written: word i is the node of line i. From here on, word k is the line of node k.
-pub const PLACES_FROM: usize = 4096;
 
 // A sheet: a variable has three words, from 0 on: its number and its value. A cell has two from here on: region and index in
 // one, and its real.

@@ -1,7 +1,8 @@
-// Lent memory: words that are read and written at any place, cleared, and sought by halving, and where things stand in the
-// table that a call lends.
+// Lent memory: words that are read and written at any place, cleared, and sought by halving, and where things stand in what a
+// call lends.
 ghost use mathlib.Core.Path.{_≡_};
 ghost use lib.ListN.{getD, set, length, replicate};
+ghost use Rattle.memory.specs.Rows.{blank};
 
 pub mod halving;
 pub mod layout;
@@ -30,5 +31,16 @@ pub fn zero(s: &mut [u64])
     while i < s.len() {
         s[i] = 0;
         i += 1;
+    }
+}
+
+// The same of rows.
+pub fn zero_rows(store: &mut [[u64; 4]])
+    ensures { λ _. ⌜ now (store .exit) ≡ replicate (length (now (store .entry))) blank ⌝ }
+{
+    let mut row = 0;
+    while row < store.len() {
+        store[row] = [0, 0, 0, 0];
+        row += 1;
     }
 }

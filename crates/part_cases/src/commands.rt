@@ -1,4 +1,5 @@
-// Commands for a store, which is built in parts of four arrays: each is obeyed, and a line says what it gives.
+// Commands for a store, which is built in the first rows of an array: each is obeyed, and a line says what it gives.
+ghost use Prim.Native.Nat.{_<_};
 use super::nodes;
 use super::say::refused_text;
 use complex::Complex;
@@ -7,20 +8,26 @@ use expression::ExpressionFunction;
 use expression::InfixOperator;
 use expression::PrefixOperator;
 use expression::node::Expression;
-use replay::lent::Lent;
+use memory::layout::DESK_WORDS;
+use memory::zero;
+use memory::zero_rows;
 use replay::line::Line;
 use replay::line::next_line;
 use replay::lists::MOST;
 use replay::say::count;
 use replay::say::word;
+use replay::slices::is_zero;
 use replay::slices::part;
-use store::Added;
-use store::Kept;
+use store::desk::REFUSED;
+use store::desk::calls_made;
+use store::desk::refusal_of;
+use store::desk::set_calls;
+use store::desk::standing;
 
 // With its line feed.
 const LINE: usize = 38;
 
-// What the arrays hold before anything is stored.
+// What rows and desk hold before anything is stored.
 const JUNK: u64 = 0xdead_beef_0001_0001;
 
 // The node that a line asks to add; pi where it asks for no other.
@@ -43,67 +50,48 @@ fn node_of(line: Line) -> Expression {
     }
 }
 
-// A command, how many nodes there are before it, and its number, which an add passes on as the count of simplify calls.
-struct Command {
-    line: Line,
-    nodes: usize,
-    calls: u64,
-}
-
-// What a command gives. Of a node that was to be added it is the count of nodes, since the rest is said at once.
+// What a command gives. Of a node that was to be added all is said at once; what is recalled is the number of a node plus
+// one, or 0.
 enum Given {
     Nothing,
-    Nodes(usize),
-    Recalled(Kept),
+    Added,
+    Recalled(usize),
     Compared(bool),
 }
 
-// Says what came of adding a node, and answers how many there are then.
-fn say_added(
-    answer: Added,
-    before: usize,
-    tag: &[u64],
-    first: &[u64],
-    second: &[u64],
-    link: &[u64],
-) -> usize {
-    match answer {
-        Added::Node { at, nodes, calls } => {
-            nodes::added(at, nodes, calls);
-            nodes::read(tag, first, second, link, at);
-            nodes
-        }
-        Added::Refused(why) => {
-            refused_text(why);
-            before
-        }
+// Adds a node, with the number of its command as the count of simplify calls, and says what came of it.
+fn add(store: &mut [[u64; 4]], desk: &mut [u64; DESK_WORDS], line: Line, calls: u64) {
+    set_calls(desk, calls);
+    let at = store::add(store, desk, node_of(line));
+    if REFUSED <= at {
+        refused_text(refusal_of(desk, at));
+        return;
     }
+    nodes::added(at, standing(desk), calls_made(desk));
+    nodes::read(store, at);
+}
+
+// As a call clears what it was lent.
+fn clear(store: &mut [[u64; 4]], desk: &mut [u64; DESK_WORDS]) {
+    zero_rows(store);
+    zero(desk);
 }
 
 // Obeys a command on what is lent. Every letter but these asks to add a node.
-fn obey(
-    command: Command,
-    tag: &mut [u64],
-    first: &mut [u64],
-    second: &mut [u64],
-    link: &mut [u64],
-) -> Given {
-    let line = command.line;
-    let nodes = command.nodes;
-    let calls = command.calls;
+fn obey(line: Line, calls: u64, store: &mut [[u64; 4]], desk: &mut [u64; DESK_WORDS]) -> Given {
     let kind = line.kind;
     let a = line.fields[2] as usize;
     let b = line.fields[3] as usize;
     match kind {
         b'j' => (),
-        b's' => store::start(link),
-        b'k' => store::keep(link, a, b),
-        b'c' => store::clear(tag, first, second, link),
-        b'r' => return Given::Recalled(store::kept_at(link, a)),
-        b'e' => return Given::Compared(store::equal_at(link, a, b)),
+        b's' => store::start(desk),
+        b'k' => store::keep(store, a, b),
+        b'c' => clear(store, desk),
+        b'r' => return Given::Recalled(store::kept_at(store, a)),
+        b'e' => return Given::Compared(store::equal_at(store, a, b)),
         _ => {
-            let answer = store::add(tag, first, second, link, nodes, node_of(line), calls);
-            return Given::Nodes(say_added(answer, nodes, tag, first, second, link));
+            add(store, desk, line, calls);
+            return Given::Added;
         }
     }
     Given::Nothing
@@ -119,13 +107,12 @@ fn say_obeyed(kind: u8) {
     }
 }
 
-fn say_recalled(answer: Kept) {
-    match answer {
-        Kept::Nothing => word(b"nothing"),
-        Kept::Result(at) => {
-            word(b"result");
-            count(at as u64);
-        }
+fn say_recalled(answer: usize) {
+    if answer == 0 {
+        word(b"nothing");
+    } else {
+        word(b"result");
+        count((answer - 1) as u64);
     }
 }
 
@@ -137,27 +124,24 @@ fn say_compared(is_equal: bool) {
     }
 }
 
-// Says what a command has given, and answers how many nodes there are then.
-fn say_given(kind: u8, given: Given, before: usize) -> usize {
+fn say_given(kind: u8, given: Given) {
     match given {
-        Given::Nodes(nodes) => return nodes,
+        Given::Added => return,
         Given::Nothing => say_obeyed(kind),
         Given::Recalled(answer) => say_recalled(answer),
         Given::Compared(is_equal) => say_compared(is_equal),
     }
     word(b"\n");
-    match kind {
-        b's' | b'c' => 0,
-        _ => before,
-    }
 }
 
-// How many elements are not zero.
-fn others(s: &[u64; 4096]) -> u64 {
+// In how many rows word k is not zero.
+fn others(store: &[[u64; 4]; 4096], k: usize) -> u64
+    requires { ⌜ k < 4 ⌝ }
+{
     let mut count: u64 = 0;
     let mut i = 0;
     while i < 4096 {
-        if s[i] != 0 {
+        if store[i][k] != 0 {
             count += 1;
         }
         i += 1;
@@ -165,31 +149,32 @@ fn others(s: &[u64; 4096]) -> u64 {
     count
 }
 
-// Says how many elements of each whole array are not zero after the parts that are lent were cleared.
-fn say_cleared(tag: &[u64; 4096], first: &[u64; 4096], second: &[u64; 4096], link: &[u64; 4096]) {
+// Says of each of the four words in how many of all rows it is not zero after those that are lent were cleared, and if the
+// desk is not zero.
+fn say_cleared(store: &[[u64; 4]; 4096], desk: &[u64; DESK_WORDS]) {
     word(b"cleared");
-    count(others(tag));
-    count(others(first));
-    count(others(second));
-    count(others(link));
+    count(others(store, 0));
+    count(others(store, 1));
+    count(others(store, 2));
+    count(others(store, 3));
+    if !is_zero(desk) {
+        word(b"\tdesk");
+    }
 }
 
-// Starting a store says how much of each array is lent from then on.
-fn lent_after(line: Line, lent: Lent) -> Lent {
+// Starting a store says how many rows are lent from then on.
+fn rows_after(line: Line, rows: usize) -> usize {
     if line.kind == b's' {
-        Lent::of(line.fields[2])
+        line.fields[2] as usize
     } else {
-        lent
+        rows
     }
 }
 
 pub fn run(list: i32) {
-    let mut tag = [JUNK; 4096];
-    let mut first = [JUNK; 4096];
-    let mut second = [JUNK; 4096];
-    let mut link = [JUNK; 4096];
-    let mut lent = Lent::of(0);
-    let mut nodes = 0;
+    let mut store = [[JUNK; 4]; 4096];
+    let mut desk = [JUNK; DESK_WORDS];
+    let mut rows = 0;
     let mut calls = 0;
     while calls < MOST {
         let line = next_line(list, LINE);
@@ -198,27 +183,16 @@ pub fn run(list: i32) {
         }
         if line.kind == b'j' {
             let junk = line.fields[2];
-            tag = [junk; 4096];
-            first = [junk; 4096];
-            second = [junk; 4096];
-            link = [junk; 4096];
+            store = [[junk; 4]; 4096];
+            desk = [junk; DESK_WORDS];
         }
-        lent = lent_after(line, lent);
-        let a = part(&tag, lent.tag);
-        let b = part(&first, lent.first);
-        let c = part(&second, lent.second);
-        let d = part(&link, lent.link);
-        let given = obey(
-            Command { line, nodes, calls },
-            &mut tag[..a],
-            &mut first[..b],
-            &mut second[..c],
-            &mut link[..d],
-        );
+        rows = rows_after(line, rows);
+        let n = part(&store, rows);
+        let given = obey(line, calls, &mut store[..n], &mut desk);
         if line.kind == b'c' {
-            say_cleared(&tag, &first, &second, &link);
+            say_cleared(&store, &desk);
         }
-        nodes = say_given(line.kind, given, nodes);
+        say_given(line.kind, given);
         calls += 1;
     }
 }

@@ -8,6 +8,7 @@ use listing::Listing;
 use listing::Swap;
 use listing::read_listing;
 use listing::swap_of;
+use memory::layout::DESK_WORDS;
 use memory::layout::TABLE_WORDS;
 use replay::lent::BLANK;
 use replay::line::Line;
@@ -16,6 +17,7 @@ use replay::say::word;
 use replay::slices::is_all;
 use replay::slices::is_same;
 use replay::slices::part_of_bytes;
+use store::desk::standing;
 use writing::Written;
 use writing::write_listing;
 
@@ -74,25 +76,31 @@ fn say_written(answer: Written, paper: &[u8]) {
 // Writes the listing of a node where `room` bytes of the paper are lent, and answers how many bytes it has, 0 after a
 // refusal.
 fn write(
-    tag: &[u64],
-    first: &[u64],
-    second: &[u64],
+    store: &mut [[u64; 4]],
     at: usize,
     table: &mut [u64; TABLE_WORDS],
     paper: &mut [u8],
     room: usize,
 ) -> usize {
     let lent = part_of_bytes(paper, room);
-    let answer = write_listing(tag, first, second, at, table, &mut paper[..lent]);
+    let answer = write_listing(store, at, table, &mut paper[..lent]);
     say_written(answer, paper);
     length_of(answer)
 }
 
 // Writes a node with a table of its own, so that the s lines stay where they are.
-fn write_apart(tag: &[u64], first: &[u64], second: &[u64], at: usize, room: usize) {
+fn write_apart(store: &mut [[u64; 4]], at: usize, room: usize) {
     let mut table = [JUNK; TABLE_WORDS];
     let mut paper = [BLANK; 40960];
-    write(tag, first, second, at, &mut table, &mut paper, room);
+    write(store, at, &mut table, &mut paper, room);
+}
+
+// Writes the node that a line asks for, if there is one.
+fn write_swap(found: Swap, store: &mut [[u64; 4]], room: usize) {
+    match found {
+        Swap::Node(at) => write_apart(store, at, room),
+        Swap::Nothing => word(b"nothing\n"),
+    }
 }
 
 // Answers the lines that ask for the nodes of variables.
@@ -100,19 +108,15 @@ fn write_swaps(
     list: i32,
     asked: u64,
     room: usize,
-    tag: &[u64],
-    first: &[u64],
-    second: &[u64],
+    store: &mut [[u64; 4]],
     table: &[u64],
     swaps: usize,
 ) {
     let mut i = 0;
     while i < asked {
         let line = next(list);
-        match swap_of(table, swaps, (line.fields[1] % 65536) as u16) {
-            Swap::Node(at) => write_apart(tag, first, second, at, room),
-            Swap::Nothing => word(b"nothing\n"),
-        }
+        let found = swap_of(table, swaps, (line.fields[1] % 65536) as u16);
+        write_swap(found, store, room);
         i += 1;
     }
 }
@@ -122,24 +126,14 @@ fn say_listing(
     list: i32,
     line: Line,
     answer: Listing,
-    tag: &[u64],
-    first: &[u64],
-    second: &[u64],
+    store: &mut [[u64; 4]],
+    desk: &[u64; DESK_WORDS],
     table: &[u64],
 ) -> usize {
     match answer {
-        Listing::Read { root, nodes, swaps } => {
-            say_read(nodes, swaps);
-            write_swaps(
-                list,
-                line.fields[4],
-                room_of(line),
-                tag,
-                first,
-                second,
-                table,
-                swaps,
-            );
+        Listing::Read { root, swaps } => {
+            say_read(standing(desk), swaps);
+            write_swaps(list, line.fields[4], room_of(line), store, table, swaps);
             root
         }
         Listing::Refused(why) => {
@@ -153,19 +147,13 @@ fn say_listing(
 fn say_same(
     answer: Listing,
     written: &[u8],
-    tag: &[u64],
-    first: &[u64],
-    second: &[u64],
+    store: &mut [[u64; 4]],
     table: &mut [u64; TABLE_WORDS],
 ) {
     let mut paper = [BLANK; 40960];
     match answer {
-        Listing::Read {
-            root,
-            nodes: _,
-            swaps: _,
-        } => {
-            let n = length_of(write_listing(tag, first, second, root, table, &mut paper));
+        Listing::Read { root, swaps: _ } => {
+            let n = length_of(write_listing(store, root, table, &mut paper));
             let m = part_of_bytes(&paper, n);
             say_compared(is_same(written, &paper[..m]));
         }
@@ -173,48 +161,36 @@ fn say_same(
     }
 }
 
-// Writes the root, if there is one, and reads back what was written, in the same slices.
+// Writes the root, if there is one, and reads back what was written, in the same rows.
 fn write_back(
     root: usize,
     room: usize,
-    tag: &mut [u64],
-    first: &mut [u64],
-    second: &mut [u64],
-    link: &mut [u64],
+    store: &mut [[u64; 4]],
+    desk: &mut [u64; DESK_WORDS],
     table: &mut [u64; TABLE_WORDS],
 ) {
     if NONE <= root {
         return;
     }
     let mut paper = [BLANK; 40960];
-    let n = write(tag, first, second, root, table, &mut paper, room);
+    let n = write(store, root, table, &mut paper, room);
     if 0 < n {
         let m = part_of_bytes(&paper, n);
-        let answer = read_listing(&paper[..m], false, tag, first, second, link, table);
-        say_same(answer, &paper[..m], tag, first, second, table);
+        let answer = read_listing(&paper[..m], false, store, desk, table);
+        say_same(answer, &paper[..m], store, table);
     }
 }
 
 pub fn run(
     list: i32,
     line: Line,
-    tag: &mut [u64],
-    first: &mut [u64],
-    second: &mut [u64],
-    link: &mut [u64],
+    store: &mut [[u64; 4]],
+    desk: &mut [u64; DESK_WORDS],
     table: &mut [u64; TABLE_WORDS],
 ) {
     let mut text = [0u8; 81920];
     let n = texts::read(list, line, &mut text);
-    let answer = read_listing(
-        &text[..n],
-        line.kind == b's',
-        tag,
-        first,
-        second,
-        link,
-        table,
-    );
-    let root = say_listing(list, line, answer, tag, first, second, table);
-    write_back(root, room_of(line), tag, first, second, link, table);
+    let answer = read_listing(&text[..n], line.kind == b's', store, desk, table);
+    let root = say_listing(list, line, answer, store, desk, table);
+    write_back(root, room_of(line), store, desk, table);
 }

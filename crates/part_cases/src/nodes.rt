@@ -17,11 +17,11 @@ pub fn added(at: usize, nodes: usize, calls: u64) {
     count(calls);
 }
 
-pub fn read(tag: &[u64], first: &[u64], second: &[u64], link: &[u64], at: usize) {
-    count(size_at(tag, at));
-    count(depth_at(tag, at));
-    count(class_at(link, at));
-    line(expression_at(tag, first, second, at));
+pub fn read(store: &[[u64; 4]], at: usize) {
+    count(size_at(store, at));
+    count(depth_at(store, at));
+    count(class_at(store, at));
+    line(expression_at(store, at));
 }
 
 // The node as the line of a listing, which ends the line.

@@ -2,8 +2,8 @@
 ghost use Rattle.io.specs.Counts.{Counts};
 use super::listings;
 use super::sheets;
+use memory::layout::DESK_WORDS;
 use memory::layout::TABLE_WORDS;
-use replay::lent::Lent;
 use replay::line::Line;
 use replay::line::next_line;
 use replay::line::read_text;
@@ -31,17 +31,15 @@ pub fn read(list: i32, line: Line, text: &mut [u8]) -> usize
 fn run_case(
     list: i32,
     line: Line,
-    tag: &mut [u64],
-    first: &mut [u64],
-    second: &mut [u64],
-    link: &mut [u64],
+    store: &mut [[u64; 4]],
+    desk: &mut [u64; DESK_WORDS],
     table: &mut [u64; TABLE_WORDS],
 ) {
     let kind = line.kind;
     match kind {
         b'a' => word(b"no case\n"),
         b'v' => sheets::run(list, line, table),
-        _ => listings::run(list, line, tag, first, second, link, table),
+        _ => listings::run(list, line, store, desk, table),
     }
 }
 
@@ -51,12 +49,10 @@ fn say_case(number: u64) {
     word(b"\n");
 }
 
-// The work slices and the table hold the word of a line that is marked, or what the case before left there.
+// Rows, desk and table hold the word of a line that is marked, or what the case before left there.
 pub fn run(list: i32) {
-    let mut tag = [0; 4096];
-    let mut first = [0; 4096];
-    let mut second = [0; 4096];
-    let mut link = [0; 4096];
+    let mut store = [[0; 4]; 4096];
+    let mut desk = [0; DESK_WORDS];
     let mut table = [0; TABLE_WORDS];
     let mut cases = 0;
     while cases < MOST {
@@ -67,26 +63,12 @@ pub fn run(list: i32) {
         say_case(cases);
         if line.mark == b'1' {
             let junk = line.fields[1];
-            tag = [junk; 4096];
-            first = [junk; 4096];
-            second = [junk; 4096];
-            link = [junk; 4096];
+            store = [[junk; 4]; 4096];
+            desk = [junk; DESK_WORDS];
             table = [junk; TABLE_WORDS];
         }
-        let lent = Lent::of(line.fields[2]);
-        let a = part(&tag, lent.tag);
-        let b = part(&first, lent.first);
-        let c = part(&second, lent.second);
-        let d = part(&link, lent.link);
-        run_case(
-            list,
-            line,
-            &mut tag[..a],
-            &mut first[..b],
-            &mut second[..c],
-            &mut link[..d],
-            &mut table,
-        );
+        let rows = part(&store, line.fields[2] as usize);
+        run_case(list, line, &mut store[..rows], &mut desk, &mut table);
         cases += 1;
     }
 }

@@ -1,6 +1,7 @@
 // The command `compile`: the tape of the listing's expression, a line a step.
 use super::say;
 use console::input::part;
+use memory::layout::DESK_WORDS;
 use memory::layout::TABLE_WORDS;
 use writing::Written;
 
@@ -9,14 +10,12 @@ const ROOM: usize = 12_288;
 
 pub fn run(
     text: &[u8],
-    tag: &mut [u64],
-    first: &mut [u64],
-    second: &mut [u64],
-    link: &mut [u64],
+    store: &mut [[u64; 4]],
+    desk: &mut [u64; DESK_WORDS],
     table: &mut [u64; TABLE_WORDS],
 ) {
     let mut out = [0u8; ROOM];
-    let answer = calls::tapes::compile(text, tag, first, second, link, table, &mut out);
+    let answer = calls::tapes::compile(text, store, desk, table, &mut out);
     match answer {
         Written::Bytes(n) => {
             let m = part(&out, n);

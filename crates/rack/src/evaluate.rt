@@ -3,19 +3,18 @@ use super::say;
 use calls::Evaluated;
 use console::input::listing_length;
 use console::input::sheet_of;
+use memory::layout::DESK_WORDS;
 use memory::layout::TABLE_WORDS;
 
 pub fn run(
     text: &[u8],
-    tag: &mut [u64],
-    first: &mut [u64],
-    second: &mut [u64],
-    link: &mut [u64],
+    store: &mut [[u64; 4]],
+    desk: &mut [u64; DESK_WORDS],
     table: &mut [u64; TABLE_WORDS],
 ) {
     let n = listing_length(text);
     let sheet = sheet_of(&text[n..]);
-    let answer = calls::evaluate(&text[..n], sheet, tag, first, second, link, table);
+    let answer = calls::evaluate(&text[..n], sheet, store, desk, table);
     match answer {
         Evaluated::Value(z) => say::value(z),
         Evaluated::Refused(why) => say::refused(why),

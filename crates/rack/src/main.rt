@@ -5,6 +5,7 @@ use command::Given;
 use command::given_command;
 use console::input;
 use console::input::Input;
+use memory::layout::DESK_WORDS;
 use memory::layout::TABLE_WORDS;
 
 mod command;
@@ -26,38 +27,26 @@ const ROOM: usize = 262_145;
 fn obey(
     command: Command,
     text: &[u8],
-    tag: &mut [u64],
-    first: &mut [u64],
-    second: &mut [u64],
-    link: &mut [u64],
+    store: &mut [[u64; 4]],
+    desk: &mut [u64; DESK_WORDS],
     table: &mut [u64; TABLE_WORDS],
 ) {
     match command {
-        Command::Evaluate => evaluate::run(text, tag, first, second, link, table),
-        Command::Substitute => substitute::run(text, tag, first, second, link, table),
-        Command::Real => real::run(text, tag, first, second, link, table),
-        Command::Simplify(limit) => simplify::run(text, limit, tag, first, second, link, table),
-        Command::Compile => compile::run(text, tag, first, second, link, table),
+        Command::Evaluate => evaluate::run(text, store, desk, table),
+        Command::Substitute => substitute::run(text, store, desk, table),
+        Command::Real => real::run(text, store, desk, table),
+        Command::Simplify(limit) => simplify::run(text, limit, store, desk, table),
+        Command::Compile => compile::run(text, store, desk, table),
         Command::Play => play::run(text, table),
         Command::Show => show::run(text),
     }
 }
 
 fn run(command: Command, text: &[u8]) {
-    let mut tag = [0; 4096];
-    let mut first = [0; 4096];
-    let mut second = [0; 4096];
-    let mut link = [0; 4096];
+    let mut store = [[0; 4]; 4096];
+    let mut desk = [0; DESK_WORDS];
     let mut table = [0; TABLE_WORDS];
-    obey(
-        command,
-        text,
-        &mut tag,
-        &mut first,
-        &mut second,
-        &mut link,
-        &mut table,
-    );
+    obey(command, text, &mut store, &mut desk, &mut table);
 }
 
 fn main() {

@@ -5,32 +5,21 @@ use super::say;
 use calls::Simplified;
 use console::input::listing_length;
 use console::input::sheet_of;
+use memory::layout::DESK_WORDS;
 use memory::layout::TABLE_WORDS;
 
 pub fn run(
     text: &[u8],
     limit: u64,
-    tag: &mut [u64],
-    first: &mut [u64],
-    second: &mut [u64],
-    link: &mut [u64],
+    store: &mut [[u64; 4]],
+    desk: &mut [u64; DESK_WORDS],
     table: &mut [u64; TABLE_WORDS],
 ) {
     let n = listing_length(text);
     let sheet = sheet_of(&text[n..]);
     // As much as 1024 lines of the longest form take.
     let mut out = io::large_buffer();
-    let answer = calls::simplify(
-        &text[..n],
-        sheet,
-        limit,
-        tag,
-        first,
-        second,
-        link,
-        table,
-        &mut out,
-    );
+    let answer = calls::simplify(&text[..n], sheet, limit, store, desk, table, &mut out);
     match answer {
         Simplified::Bytes { bytes, calls } => {
             say::listing(&out, bytes);

@@ -8,7 +8,6 @@ use lib.ListN.{length, take, drop, length-drop}
 use lib.Seq.{take-all, take-length}
 use borrow.Author.Tests.{lt-ltb, le-ltb}
 use Rattle.io.specs.Counts.{Counts}
-use Rattle.store.specs.Memory.{Memory, memory, room}
 use Rattle.calls.specs.declared.Simplified.{Simplified}
 use Rattle.calls.specs.Calls.{simplifyCall}
 use Rattle.calls.specs.Lent.{Work, capacity}
@@ -66,10 +65,6 @@ module _ {text out mid : List ℕ} {w : Work} {a : Simplified} (h : length text 
 
 -- ---- "with a store of 4096"
 
-room-4096 : (m : Memory) → 4096 ≡ length (m .tag) → 4096 ≡ length (m .first) → 4096 ≡ length (m .second) → 4096 ≡ length (m .link) → room m ≡ 4096
-unfolding room
-room-4096 m a b c d = omega (arith, a, b, c, d)
-
-pub with-4096 : (tag first second link : List ℕ) {text out out′ : List ℕ} {r : ℕ} → 4096 ≡ length tag → 4096 ≡ length first → 4096 ≡ length second → 4096 ≡ length link
-    → Reduces (room (memory tag first second link)) text out r out′ → Reduces 4096 text out r out′
-with-4096 tag first second link {text} {out} {out′} {r} a b c d p = subst (λ k. Reduces k text out r out′) (room-4096 (memory tag first second link) a b c d) p
+pub with-4096 : (store : List (List ℕ)) {text out out′ : List ℕ} {r : ℕ} → 4096 ≡ length store → Reduces (min (length store) 4096) text out r out′
+    → Reduces 4096 text out r out′
+with-4096 store {text} {out} {out′} {r} a p = let z : min (length store) 4096 ≡ 4096 = omega (arith, a) in subst (λ k. Reduces k text out r out′) z p

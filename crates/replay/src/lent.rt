@@ -1,57 +1,30 @@
-// The memory that a case lends: how much of each work slice, whether all of it is zero after a call, and the paper of an
-// output.
+// The memory that a case lends: whether all of it is zero after a call, and the paper of an output.
 use super::say;
 use super::slices::is_all;
 use super::slices::is_same;
 use super::slices::is_zero;
+use super::slices::is_zero_in;
 use super::slices::part_of_bytes;
+use memory::layout::DESK_WORDS;
 use memory::layout::TABLE_WORDS;
 
 // What the paper of an output has everywhere before something is written there.
 pub const BLANK: u8 = 0xa5;
 
-// How much of each work slice is lent, from its start.
-pub struct Lent {
-    pub tag: usize,
-    pub first: usize,
-    pub second: usize,
-    pub link: usize,
-}
-
-impl Lent {
-    // The four lengths of a field, each of four digits.
-    pub fn of(field: u64) -> Self {
-        Self {
-            tag: (field / 281474976710656) as usize,
-            first: (field / 4294967296 % 65536) as usize,
-            second: (field / 65536 % 65536) as usize,
-            link: (field % 65536) as usize,
-        }
-    }
-}
-
-// Whether all that was lent is zero.
+// Whether all that was lent is zero: the first rows, the desk and the table.
 pub fn is_clear(
-    lent: Lent,
-    tag: &[u64; 4096],
-    first: &[u64; 4096],
-    second: &[u64; 4096],
-    link: &[u64; 4096],
+    rows: usize,
+    store: &[[u64; 4]; 4096],
+    desk: &[u64; DESK_WORDS],
     table: &[u64; TABLE_WORDS],
 ) -> bool {
-    if !is_zero(tag, lent.tag) {
+    if !is_zero_in(store, rows) {
         return false;
     }
-    if !is_zero(first, lent.first) {
+    if !is_zero(desk) {
         return false;
     }
-    if !is_zero(second, lent.second) {
-        return false;
-    }
-    if !is_zero(link, lent.link) {
-        return false;
-    }
-    is_zero(table, TABLE_WORDS)
+    is_zero(table)
 }
 
 // Whether a paper begins with the wanted bytes, and the others are blank.

@@ -1,4 +1,7 @@
 // Slices as the cases need them: lent in part, and compared.
+ghost use mathlib.Core.Path.{_≡_};
+ghost use Prim.Native.Nat.{_≤_};
+ghost use lib.ListN.{length, take};
 ghost use Rattle.io.specs.Counts.{Counts};
 
 // How many bytes of s are lent: n, at most all.
@@ -8,25 +11,50 @@ pub fn part_of_bytes(s: &[u8], n: usize) -> usize
     if n < s.len() { n } else { s.len() }
 }
 
-fn part_of_words(s: &[u64], n: usize) -> usize
-    ensures { λ r. ⌜ Counts r (now (s .entry)) ⌝ }
+fn part_of_rows(s: &[[u64; 4]], n: usize) -> usize
+    ensures { λ r. ⌜ (r ≤ length (now (s .entry))) × (r ≡ length (take r (now (s .entry)))) ⌝ }
 {
     if n < s.len() { n } else { s.len() }
 }
 
-// The same of a work slice.
-pub fn part(s: &[u64; 4096], n: usize) -> usize
-    ensures { λ r. ⌜ Counts r (now (s .entry)) ⌝ }
+// The same of the rows of a store.
+pub fn part(s: &[[u64; 4]; 4096], n: usize) -> usize
+    ensures { λ r. ⌜ (r ≤ length (now (s .entry))) × (r ≡ length (take r (now (s .entry)))) ⌝ }
 {
-    part_of_words(s, n)
+    part_of_rows(s, n)
 }
 
-// Whether the first n words are zero.
-pub fn is_zero(s: &[u64], n: usize) -> bool {
-    let most = part_of_words(s, n);
+// Whether all words are zero.
+pub fn is_zero(s: &[u64]) -> bool {
+    let mut i = 0;
+    while i < s.len() {
+        if s[i] != 0 {
+            return false;
+        }
+        i += 1;
+    }
+    true
+}
+
+fn is_blank(row: [u64; 4]) -> bool {
+    if row[0] != 0 {
+        return false;
+    }
+    if row[1] != 0 {
+        return false;
+    }
+    if row[2] != 0 {
+        return false;
+    }
+    row[3] == 0
+}
+
+// Whether all words of the first n rows are.
+pub fn is_zero_in(s: &[[u64; 4]], n: usize) -> bool {
+    let most = part_of_rows(s, n);
     let mut i = 0;
     while i < most {
-        if s[i] != 0 {
+        if !is_blank(s[i]) {
             return false;
         }
         i += 1;

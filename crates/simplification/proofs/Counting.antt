@@ -24,7 +24,7 @@ count (state room stored kept calls) = calls
 -- the count of an answer is at most n
 unfoldable pub Below : ℕ → Answer → Type 0
 Below n (gives t s) = count s ≤ n
-Below n (refused why) = Unit {0}
+Below n (refused why s) = Unit {0}
 
 -- a simplifier that makes at most n calls
 Makes : Simplifier → ℕ → Type 0
@@ -33,12 +33,12 @@ Makes σ n = (t : Tree) (s : State) → Below (count s + n) (σ t s)
 more : {n m : ℕ} (a : Answer) → n ≤ m → Below n a → Below m a
 unfolding Below
 more (gives t s) l b = omega (arith, l, b)
-more (refused why) l b = tt
+more (refused why s) l b = tt
 
 then-below : (n m : ℕ) (a : Answer) (f : Simplifier) → Below n a → ((t : Tree) (s : State) → count s ≤ n → Below m (f t s)) → Below m (andThen a f)
 unfolding Below andThen
 then-below n m (gives t s) f b g = g t s b
-then-below n m (refused why) f b g = tt
+then-below n m (refused why s) f b g = tt
 
 -- ---- storing counts nothing
 
@@ -63,7 +63,7 @@ folds (Evaluation.Need operation x y) s = tt
 keeps : (n : ℕ) (t : Tree) (a : Answer) → Below n a → Below n (keeping t a)
 unfolding keeping Below count keep andThen
 keeps n t (gives u (state room stored kept calls)) b = b
-keeps n t (refused why) b = tt
+keeps n t (refused why s) b = tt
 
 -- ---- plans
 

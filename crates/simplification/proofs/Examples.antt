@@ -25,7 +25,7 @@ data Outcome : Type 0 where
 
 outcome : Answer → Outcome
 outcome (gives t (state room stored kept calls)) = is t calls
-outcome (refused why) = none
+outcome (refused why s) = none
 
 -- in a store with nothing in it, under an empty sheet
 at : (limit : ℕ) → Tree → Outcome

@@ -1,19 +1,20 @@
 -- What is done at a node, from the operations to `simplify`: each return of the simplifiers. Assumes nothing.
-use mathlib.Core.Path.{_≡_, refl, sym, ap, _∙_, subst}
+use mathlib.Core.Path.{_≡_, refl, sym, ap, _∙_}
 use mathlib.Core.List.{List}
-use Prim.Native.Nat.{ℕ, zero, suc, _-_, _<_}
+use Prim.Native.Nat.{ℕ, zero, suc, _-_, _≤_, _<_}
 use native.Mathlib.Omega.{arith}
+use native.Mathlib.Decide.{decLt}
+use lib.ListN.{length}
 use Rattle.expression.specs.declared.InfixOperator.{InfixOperator}
-use Rattle.expression.specs.declared.refusal.Refusal.{Refusal}
 use Rattle.expression.specs.Trees.{Tree, number, pi, variable, cell, leaf, functionCall, prefixed, infixed}
-use Rattle.store.specs.declared.Added.{Added}
-use Rattle.store.specs.declared.Kept.{Kept}
 use Rattle.expression.specs.declared.node.Expression.{Expression}
-use Rattle.store.specs.Storing as Storing
-use Rattle.store.specs.Storing.{State, Answer, gives, refused, andThen, recall, keep, result, nothing}
-use Rattle.store.specs.Memory.{Memory, memory, treeAt, treeOf, stateOf}
-use Rattle.store.specs.Held.{Holds, Built, RecallsIn, KeptIn, keptSeen}
-use Rattle.store.proofs.Building.{older, named, stays, refuses, then-node, then-refused}
+use Rattle.store.specs.Storing.{Kept, State, Answer, gives, andThen, recall, keep, result, nothing}
+use Rattle.store.specs.Memory.{Memory, treeAt, treeOf, linked}
+use Rattle.store.specs.Desk.{count, callsOn, withCalls, refusedFrom}
+use Rattle.store.specs.Held.{Lent, treeIn, stateIn, Sound, Built, Recalls}
+use Rattle.store.proofs.Building.{of, older, named, stays, then-node, then-refused, sound-on, on-desk}
+use Rattle.store.proofs.Asking.{calls-set, count-kept, length-kept}
+use Rattle.store.proofs.Stored.{linked-above}
 use Rattle.sheet.specs.Rows.{Rows}
 use Rattle.evaluation.specs.declared.Evaluation.{Evaluation}
 use Rattle.tasks.specs.declared.Task.{Task}
@@ -28,7 +29,7 @@ use Rattle.simplification.specs.Run.{KeepsAnswer}
 -- ---- a limit
 
 -- the operation at 1 less, further S calls at 1 less again; at 0 nothing is simplified further
-at-zero : (R : Rows) (b f b′ f′ : Simplifier) (k : Storing.Kept) (t : Tree) (s : State) → resume R b f k 0 t s ≡ resume R b′ f′ k 0 t s
+at-zero : (R : Rows) (b f b′ f′ : Simplifier) (k : Kept) (t : Tree) (s : State) → resume R b f k 0 t s ≡ resume R b′ f′ k 0 t s
 unfolding resume perform taskAt leafTask
 at-zero R b f b′ f′ (result u) t s = refl
 at-zero R b f b′ f′ nothing (leaf (number z)) s = refl
@@ -55,63 +56,85 @@ unrolled R (suc (suc k)) t s = λ i. step R (simplify R (once k i)) (simplify R 
 
 module _ (R : Rows) where
   -- an arm that was chosen is carried out, where the limit is 1 less
-  pub carried : {low k n : ℕ} {arm : Arm} {plan : Plan} (s : State) {r : Added} {m m′ : Memory} → low ≡ k → Chosen m n arm plan
-      → (ArmIn n arm → Built (carryOut R (simplify R low) (planOf m arm) s) r n m m′) → Built (carryOut R (simplify R k) plan s) r n m m′
+  pub carried : {low k : ℕ} {arm : Arm} {plan : Plan} (s : State) {r : ℕ} {l l′ : Lent} → low ≡ k → Chosen (l .rows) (count (l .desk)) arm plan
+      → (ArmIn (count (l .desk)) arm → Built (carryOut R (simplify R low) (planOf (l .rows) arm) s) r l l′) → Built (carryOut R (simplify R k) plan s) r l l′
   carried s e c b = named (λ i. carryOut R (simplify R (e i)) (c .wants i) s) (b (c .inside))
 
   -- the task of a node is done
-  pub performed : (b f : Simplifier) {limit node : ℕ} {e : Expression} {task : Task} (s : State) {n : ℕ} {r : Added} {m m′ : Memory}
-      → Decides limit node e task → Sits m n node e → (TaskIn n task → Built (perform R b f (taskOf (treeAt m) task) s) r n m m′)
-      → Built (perform R b f (taskAt limit (treeOf m e)) s) r n m m′
-  performed b f s {n} {m = m} d x done =
-      named (ap (λ q. perform R b f q s) (d .wants (treeAt m) (x .at .tree))) (done (d .inside n (x .at .inside) (x .within)))
+  pub performed : (b f : Simplifier) {limit node : ℕ} {e : Expression} {task : Task} (s : State) {r : ℕ} {l l′ : Lent}
+      → Decides limit node e task → Sits (l .rows) (count (l .desk)) node e
+      → (TaskIn (count (l .desk)) task → Built (perform R b f (taskOf (treeAt (l .rows)) task) s) r l l′)
+      → Built (perform R b f (taskAt limit (treeOf (l .rows) e)) s) r l l′
+  performed b f s {l = l} d x done =
+      named (ap (λ q. perform R b f q s) (d .wants (treeAt (l .rows)) (x .at .tree))) (done (d .inside (count (l .desk)) (x .at .inside) (x .within)))
 
 -- ---- the cache
 
 -- the answer is kept
-kept-on : {want : Answer} (r : Added) {n node : ℕ} {m : Memory} (tag first second link link′ : List ℕ)
-    → node < n → Built want r n m (memory tag first second link) → KeepsAnswer r link link′ node
-    → Built (keeping (treeAt m node) want) r n m (memory tag first second link′)
-unfolding keeping andThen
-kept-on (Added.Node i k c) {n} {node} {m} tag first second link link′ l b q =
-    then-node (λ u s. gives u (keep (treeAt m node) u s)) b refl λ p.
-    named (ap (λ t. gives (treeAt (memory tag first second link) i) (keep t (treeAt (memory tag first second link) i) (stateOf (memory tag first second link) k c))) (p .stays node l))
-    (q tag first second k c (p .holds) (older p l) (p .inside))
-kept-on (Added.Refused why) {node = node} {m} tag first second link link′ l b q = refuses (refusal (b .answer))
+kept-on : {want : Answer} (r : ℕ) {node : ℕ} {l : Lent} {m m′ : Memory} {desk : List ℕ}
+    → node < count (l .desk) → Built want r l (of m desk) → KeepsAnswer node r m m′
+    → Built (keeping (treeIn l node) want) r l (of m′ desk)
+unfolding keeping
+kept-on {want} r {node} {l} {m} {m′} {desk} o b q = go (decLt r refusedFrom)
   where
-    refusal : {want : Answer} → refused why ≡ want → refused why ≡ keeping (treeAt m node) want
-    refusal e = ap (keeping (treeAt m node)) e
+    go : Dec (r < refusedFrom) → Built (andThen want λ u s. gives u (keep (treeIn l node) u s)) r l (of m′ desk)
+    go (yes x) =
+        then-node (λ u s. gives u (keep (treeIn l node) u s)) b x λ p.
+        named (ap (λ t. gives (treeAt m r) (keep t (treeAt m r) (stateIn (of m desk)))) (p .stays node o))
+        (q .kept x desk (p .sound) (older p o) (p .inside))
+    go (no x) =
+        let y : refusedFrom ≤ r = omega (arith, x) in
+        rw (q .refused y) (then-refused (λ u s. gives u (keep (treeIn l node) u s)) b y)
 
-module _ (R : Rows) (k calls : ℕ) (kept : Kept) {m : Memory} {n node more : ℕ} (l : node < n) (h : Holds m n) (q : more ≡ oneMore calls)
-    (c : RecallsIn m node kept) where
-  start-kept : (u : Storing.Kept) → keptSeen kept m ≡ u → step R (simplify R (k - 1)) (simplify R (k - 1 - 1)) k (treeAt m node) (stateOf m n calls) ≡ resume R (simplify R (k - 1)) (simplify R (k - 1 - 1)) u k (treeAt m node) (stateOf m n more)
-  unfolding step counted
-  start-kept u e = λ i. resume R (simplify R (k - 1)) (simplify R (k - 1 - 1)) ((sym (c n calls h l .1) ∙ e) i) k (treeAt m node) (stateOf m n (sym q i))
+-- the call is counted first
+module _ (desk : List ℕ) {desk′ : List ℕ} (q : desk′ ≡ withCalls desk (oneMore (callsOn desk))) where
+  count-same : count desk′ ≡ count desk
+  count-same = ap count q ∙ count-kept desk _
 
-  pub was-kept : {at : ℕ} → kept ≡ Kept.Result at → Built (simplify R k (treeAt m node) (stateOf m n calls)) (Added.Node at n more) n m m
+  pub still : {node : ℕ} → node < count desk → node < count desk′
+  still o = rw count-same o
+
+  pub sound-counted : (m : Memory) → Sound (of m desk) → Sound (of m desk′)
+  sound-counted m h = sound-on m count-same (ap length q ∙ length-kept desk _) h
+
+  state-counted : (m : Memory) → Sound (of m desk) → stateIn (of m desk′) ≡ counted (stateIn (of m desk))
+  unfolding stateIn counted
+  state-counted m h = let x : callsOn desk′ ≡ oneMore (callsOn desk) = ap callsOn q ∙ calls-set desk _ (h .long) in rw (count-same, x) refl
+
+module _ (R : Rows) (k : ℕ) {kept : ℕ} {m : Memory} {desk desk′ : List ℕ} {node : ℕ} (o : node < count desk) (h : Sound (of m desk))
+    (q : desk′ ≡ withCalls desk (oneMore (callsOn desk))) (c : Recalls m node kept) where
+  started : (u : Kept) → linked m kept ≡ u → step R (simplify R (k - 1)) (simplify R (k - 1 - 1)) k (treeAt m node) (stateIn (of m desk))
+      ≡ resume R (simplify R (k - 1)) (simplify R (k - 1 - 1)) u k (treeAt m node) (stateIn (of m desk′))
+  unfolding step stateIn
+  started u e =
+      λ i. resume R (simplify R (k - 1)) (simplify R (k - 1 - 1)) ((sym (c (count desk) (callsOn desk) (h .holds) o .1) ∙ e) i) k (treeAt m node) (sym (state-counted desk q m h) i)
+
+  pub was-kept : (kept ≡ 0 → ⊥) → Built (simplify R k (treeAt m node) (stateIn (of m desk))) (kept - 1) (of m desk) (of m desk′)
   unfolding resume
-  was-kept {at} e =
-      named (sym (unrolled R k (treeAt m node) (stateOf m n calls) ∙ start-kept (result (treeAt m at)) (ap (λ x. keptSeen x m) e)))
-      (stays h (subst (KeptIn n) e (c n calls h l .0)) refl)
+  was-kept x =
+      on-desk m (count-same desk q)
+      (named (sym (unrolled R k (treeAt m node) (stateIn (of m desk)) ∙ started (result (treeAt m (kept - 1))) (linked-above m kept x)))
+      (stays (sound-counted desk q m h) (let z = c (count desk) (callsOn desk) (h .holds) o .0 in omega (arith, z, x, count-same desk q)) refl))
 
-  pub was-done : {e : Expression} {r : Added} (tag first second link link′ : List ℕ) → kept ≡ Kept.Nothing → Sits m n node e
-      → Built (perform R (simplify R (k - 1)) (simplify R (k - 1 - 1)) (taskAt k (treeOf m e)) (stateOf m n more)) r n m (memory tag first second link)
-      → KeepsAnswer r link link′ node → Built (simplify R k (treeAt m node) (stateOf m n calls)) r n m (memory tag first second link′)
-  unfolding resume
-  was-done {e} {r} tag first second link link′ z x b w =
-      named
-      (ap (λ t. keeping (treeAt m node) (perform R (simplify R (k - 1)) (simplify R (k - 1 - 1)) (taskAt k t) (stateOf m n more))) (sym (x .at .tree))
-      ∙ sym (unrolled R k (treeAt m node) (stateOf m n calls) ∙ start-kept nothing (ap (λ x. keptSeen x m) z)))
-      (kept-on r tag first second link link′ l b w)
+  pub was-done : {e : Expression} {r : ℕ} {m₁ m₂ : Memory} {desk₁ : List ℕ} → kept ≡ 0 → Sits m (count desk′) node e
+      → Built (perform R (simplify R (k - 1)) (simplify R (k - 1 - 1)) (taskAt k (treeOf m e)) (stateIn (of m desk′))) r (of m desk′) (of m₁ desk₁)
+      → KeepsAnswer node r m₁ m₂ → Built (simplify R k (treeAt m node) (stateIn (of m desk))) r (of m desk) (of m₂ desk₁)
+  unfolding resume linked
+  was-done {e} {r} x z b w =
+      on-desk m (count-same desk q)
+      (named
+      (ap (λ t. keeping (treeAt m node) (perform R (simplify R (k - 1)) (simplify R (k - 1 - 1)) (taskAt k t) (stateIn (of m desk′)))) (sym (z .at .tree))
+      ∙ sym (unrolled R k (treeAt m node) (stateIn (of m desk)) ∙ started nothing (ap (linked m) x)))
+      (kept-on r (still desk q o) b w))
 
 -- ---- the second operand, which was simplified in a store that had grown
 
-pub later : (R : Rows) (k : ℕ) (s : State) {t u : Tree} {r : Added} {n : ℕ} {m m′ : Memory} → t ≡ u → Built (simplify R k t s) r n m m′ → Built (simplify R k u s) r n m m′
+pub later : (R : Rows) (k : ℕ) (s : State) {t u : Tree} {r : ℕ} {l l′ : Lent} → t ≡ u → Built (simplify R k t s) r l l′ → Built (simplify R k u s) r l l′
 later R k s e b = named (ap (λ t. simplify R k t s) e) b
 
 pub chosen-later : (op : InfixOperator) {t v : Tree} (u : Tree) {arm : Arm} {n : ℕ} {m : Memory} → t ≡ v → Chosen m n arm (infixPlan op t u) → Chosen m n arm (infixPlan op v u)
 chosen-later op u e c = record { inside = c .inside; wants = c .wants ∙ ap (λ t. infixPlan op t u) e }
 
 -- a value that was folded
-pub folded-by : {value value′ : Evaluation} (s : State) {r : Added} {n : ℕ} {m m′ : Memory} → value ≡ value′ → Built (foldedTo value s) r n m m′ → Built (foldedTo value′ s) r n m m′
+pub folded-by : {value value′ : Evaluation} (s : State) {r : ℕ} {l l′ : Lent} → value ≡ value′ → Built (foldedTo value s) r l l′ → Built (foldedTo value′ s) r l l′
 folded-by s e b = named (ap (λ v. foldedTo v s) e) b

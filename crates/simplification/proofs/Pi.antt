@@ -74,12 +74,12 @@ Clean s = (t u : Tree) → recall t s ≡ result u → Piless u
 
 unfoldable pub Good : Answer → Type 0
 Good (gives t s) = Piless t × Clean s
-Good (refused why) = Unit {0}
+Good (refused why s) = Unit {0}
 
 then-good : (a : Answer) (f : Simplifier) → Good a → ((t : Tree) (s : State) → Piless t → Clean s → Good (f t s)) → Good (andThen a f)
 unfolding Good andThen
 then-good (gives t s) f x g = g t s (x .0) (x .1)
-then-good (refused why) f x g = tt
+then-good (refused why s) f x g = tt
 
 either-way : (b : Bool) (x y : Answer) → Good x → Good y → Good (cond b x y)
 either-way true x y p q = p
@@ -109,7 +109,7 @@ kept-result (result u) t = u
 
 keeps : (t : Tree) (a : Answer) → Good a → Good (keeping t a)
 unfolding keeping Good Clean keep recall andThen kept-result Piless
-keeps t (refused why) x = tt
+keeps t (refused why s) x = tt
 keeps t (gives u (state room stored kept calls)) x = (x .0, λ v w e. go v w (equal t v) e)
   where
     go : (v w : Tree) (b : Bool) → cond b (result u) (kept v) ≡ result w → Piless w

@@ -1,15 +1,16 @@
--- What the functions on nodes ensure where the slices hold a store and the table a sheet. Only connecting.
-use Prim.Native.Nat.{ℕ, _-_, _<_}
+-- What the functions on nodes ensure where a store is held and the table has a sheet. Only connecting.
+use Prim.Native.Nat.{ℕ, _-_, _≤_, _<_}
+use mathlib.Core.Path.{_≡_}
 use mathlib.Core.List.{List}
 use Rattle.expression.specs.declared.InfixOperator.{InfixOperator}
 use Rattle.expression.specs.declared.PrefixOperator.{PrefixOperator}
 use Rattle.expression.specs.declared.ExpressionFunction.{ExpressionFunction}
-use Rattle.store.specs.declared.Added.{Added}
 use Rattle.expression.specs.declared.node.Expression.{Expression}
 use Rattle.expression.specs.Nodes.{Within}
 use Rattle.store.specs.Storing.{State, Answer}
-use Rattle.store.specs.Memory.{Memory, memory, treeAt, treeOf, stateOf}
-use Rattle.store.specs.Held.{Holds, Built, KeepsFrom}
+use Rattle.store.specs.Memory.{Memory, treeOf}
+use Rattle.store.specs.Desk.{count, refusedFrom}
+use Rattle.store.specs.Held.{Lent, treeIn, Builds, Keeps}
 use Rattle.sheet.specs.declared.Counts.{Counts}
 use Rattle.sheet.specs.Rows.{Rows}
 use Rattle.sheet.specs.Table.{rowsOf, Held}
@@ -19,47 +20,48 @@ use Rattle.arms.specs.declared.Arm.{Arm}
 use Rattle.arms.specs.Choosing.{Sits, ArmIn, planOf, addedPlan}
 use Rattle.simplification.specs.Simplifying.{carryOut, foldedTo, simplifyFunctionCall, simplifyPrefix, simplifyInfix, perform, simplify}
 
--- a step that builds: where the slices hold a store and what it is about is among its nodes, it answers `want`
-abbrev pub Does : (In : ℕ → Type 0) (want : Memory → State → Answer) (n calls : ℕ) (r : Added) (m m′ : Memory) → Type 0
-Does In want n calls r m m′ = Holds m n → In n → Built (want m (stateOf m n calls)) r n m m′
-
--- the same where the table has a sheet
-abbrev pub DoesBy : (table : List ℕ) → Counts → (In : ℕ → Type 0) (want : Rows → Memory → State → Answer) (n calls : ℕ) (r : Added) (m m′ : Memory) → Type 0
-DoesBy table rows In want n calls r m m′ = Held table rows → Does In (want (rowsOf table rows)) n calls r m m′
+-- a step that builds, where the table has a sheet
+abbrev pub BuildsBy : (table : List ℕ) → Counts → (Of : Lent → Type 0) (want : Rows → Lent → State → Answer) (r : ℕ) (l l′ : Lent) → Type 0
+BuildsBy table rows Of want r l l′ = Held table rows → Builds Of (want (rowsOf table rows)) r l l′
 
 -- a value that was folded is stored, or its lack refused
-abbrev pub Stores : Evaluation → (n calls : ℕ) (r : Added) (m m′ : Memory) → Type 0
-Stores value n calls r m m′ = Holds m n → Built (foldedTo value (stateOf m n calls)) r n m m′
+abbrev pub Stores : Evaluation → (r : ℕ) (l l′ : Lent) → Type 0
+Stores value = Builds (λ l. Unit {0}) (λ l. foldedTo value)
 
 -- an arm is carried out at a limit
-abbrev pub Carries : (limit : ℕ) (table : List ℕ) → Counts → Arm → (n calls : ℕ) (r : Added) (m m′ : Memory) → Type 0
-Carries limit table rows arm = DoesBy table rows (λ n. ArmIn n arm) λ R m. carryOut R (simplify R limit) (planOf m arm)
+abbrev pub Carries : (limit : ℕ) (table : List ℕ) → Counts → Arm → (r : ℕ) (l l′ : Lent) → Type 0
+Carries limit table rows arm = BuildsBy table rows (λ l. ArmIn (count (l .desk)) arm) λ R l. carryOut R (simplify R limit) (planOf (l .rows) arm)
 
 -- S(S(a)+S(b))
-abbrev pub Adds : (limit : ℕ) (table : List ℕ) → Counts → (a b : Expression) (n calls : ℕ) (r : Added) (m m′ : Memory) → Type 0
-Adds limit table rows a b = DoesBy table rows (λ n. Within n a × Within n b) λ R m. carryOut R (simplify R limit) (addedPlan m a b)
+abbrev pub Adds : (limit : ℕ) (table : List ℕ) → Counts → (a b : Expression) (r : ℕ) (l l′ : Lent) → Type 0
+Adds limit table rows a b =
+    BuildsBy table rows (λ l. Within (count (l .desk)) a × Within (count (l .desk)) b) λ R l. carryOut R (simplify R limit) (addedPlan (l .rows) a b)
 
 -- the operations, whose operands are simplified at `limit`
-abbrev pub CallsFunction : (limit : ℕ) (table : List ℕ) → Counts → ExpressionFunction → (child n calls : ℕ) (r : Added) (m m′ : Memory) → Type 0
-CallsFunction limit table rows f child = DoesBy table rows (λ n. child < n) λ R m. simplifyFunctionCall R (simplify R limit) (simplify R (limit - 1)) f (treeAt m child)
+abbrev pub CallsFunction : (limit : ℕ) (table : List ℕ) → Counts → ExpressionFunction → (child r : ℕ) (l l′ : Lent) → Type 0
+CallsFunction limit table rows f child =
+    BuildsBy table rows (λ l. child < count (l .desk)) λ R l. simplifyFunctionCall R (simplify R limit) (simplify R (limit - 1)) f (treeIn l child)
 
-abbrev pub Prefixes : (limit : ℕ) (table : List ℕ) → Counts → PrefixOperator → (child n calls : ℕ) (r : Added) (m m′ : Memory) → Type 0
-Prefixes limit table rows o child = DoesBy table rows (λ n. child < n) λ R m. simplifyPrefix R (simplify R limit) (simplify R (limit - 1)) o (treeAt m child)
+abbrev pub Prefixes : (limit : ℕ) (table : List ℕ) → Counts → PrefixOperator → (child r : ℕ) (l l′ : Lent) → Type 0
+Prefixes limit table rows o child =
+    BuildsBy table rows (λ l. child < count (l .desk)) λ R l. simplifyPrefix R (simplify R limit) (simplify R (limit - 1)) o (treeIn l child)
 
-abbrev pub Infixes : (limit : ℕ) (table : List ℕ) → Counts → InfixOperator → (l r n calls : ℕ) (o : Added) (m m′ : Memory) → Type 0
-Infixes limit table rows op l r = DoesBy table rows (λ n. (l < n) × (r < n)) λ R m. simplifyInfix R (simplify R limit) (simplify R (limit - 1)) op (treeAt m l) (treeAt m r)
+abbrev pub Infixes : (limit : ℕ) (table : List ℕ) → Counts → InfixOperator → (left right r : ℕ) (l l′ : Lent) → Type 0
+Infixes limit table rows op left right =
+    BuildsBy table rows (λ l. (left < count (l .desk)) × (right < count (l .desk)))
+    λ R l. simplifyInfix R (simplify R limit) (simplify R (limit - 1)) op (treeIn l left) (treeIn l right)
 
 -- what is done at a node for which nothing is kept
-abbrev pub Performs : (limit : ℕ) (table : List ℕ) → Counts → (node : ℕ) (e : Expression) (n calls : ℕ) (r : Added) (m m′ : Memory) → Type 0
-Performs limit table rows node e n calls r m m′ =
-    Held table rows → Holds m n → Sits m n node e
-    → Built (perform (rowsOf table rows) (simplify (rowsOf table rows) (limit - 1)) (simplify (rowsOf table rows) (limit - 1 - 1)) (taskAt limit (treeOf m e)) (stateOf m n calls)) r n m m′
+abbrev pub Performs : (limit : ℕ) (table : List ℕ) → Counts → (node : ℕ) (e : Expression) (r : ℕ) (l l′ : Lent) → Type 0
+Performs limit table rows node e =
+    BuildsBy table rows (λ l. Sits (l .rows) (count (l .desk)) node e)
+    λ R l. perform R (simplify R (limit - 1)) (simplify R (limit - 1 - 1)) (taskAt limit (treeOf (l .rows) e))
 
 -- the answer is kept, if it is a node
-abbrev pub KeepsAnswer : Added → (link link′ : List ℕ) (e : ℕ) → Type 0
-KeepsAnswer (Added.Node at n calls) link link′ e = (tag first second : List ℕ) → KeepsFrom (memory tag first second link) (memory tag first second link′) e at
-KeepsAnswer (Added.Refused why) link link′ e = Unit {0}
+pub record KeepsAnswer (node r : ℕ) (m m′ : Memory) : Type 0 where
+  pub kept : r < refusedFrom → Keeps m m′ node r
+  pub refused : refusedFrom ≤ r → m′ ≡ m
 
 -- the tree of a node is simplified
-abbrev pub Simplifies : (limit : ℕ) (table : List ℕ) → Counts → (node n calls : ℕ) (r : Added) (m m′ : Memory) → Type 0
-Simplifies limit table rows node = DoesBy table rows (λ n. node < n) λ R m. simplify R limit (treeAt m node)
+abbrev pub Simplifies : (limit : ℕ) (table : List ℕ) → Counts → (node r : ℕ) (l l′ : Lent) → Type 0
+Simplifies limit table rows node = BuildsBy table rows (λ l. node < count (l .desk)) λ R l. simplify R limit (treeIn l node)

@@ -23,8 +23,8 @@ counted (state room stored kept calls) = state room stored kept (oneMore calls)
 -- NEED before the folded number is stored; no operation on numbers is incomplete
 unfoldable pub foldedTo : Evaluation → State → Answer
 foldedTo (Evaluation.Value z) s = intern (leaf (number z)) s
-foldedTo Evaluation.Incomplete s = refused Refusal.Incomplete
-foldedTo (Evaluation.Need operation x y) s = refused (Refusal.Need operation x y)
+foldedTo Evaluation.Incomplete s = refused Refusal.Incomplete s
+foldedTo (Evaluation.Need operation x y) s = refused (Refusal.Need operation x y) s
 
 -- "each node just before its own S call"
 unfoldable pub again : Simplifier → Simplifier

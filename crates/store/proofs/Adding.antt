@@ -1,28 +1,30 @@
 -- The returns of `add`, from what its calls ensure. Assumes nothing.
 use mathlib.Core.Path.{_≡_, refl, sym, ap, _∙_, subst}
 use mathlib.Core.List.{List}
-use Prim.Native.Nat.{ℕ, _+_, _≤_, _<_, max}
+use mathlib.Core.Bool.{Bool, true, false}
+use Prim.Native.Nat.{ℕ, _+_, _-_, _≤_, _<_, max}
 use native.Mathlib.Omega.{arith}
 use borrow.Author.Tests.{ltb-true, ltb-false}
 use lib.Dec.{ltb}
-use lib.ListN.{set}
-use Rattle.expression.specs.declared.refusal.Refusal.{Refusal}
+use lib.ListN.{length-set}
+use lib.Seq.{getD-set-same, getD-set-other}
 use Rattle.expression.specs.Trees.{size, depth}
 use Rattle.expression.specs.Limits.{largest, deepest}
-use Rattle.store.specs.declared.Added.{Added}
-use Rattle.store.specs.declared.Verdict.{Verdict}
 use Rattle.expression.specs.declared.node.Expression.{Expression}
 use Rattle.store.specs.declared.node.Fields.{Fields}
 use Rattle.store.specs.Words.{tagOf}
 use Rattle.store.specs.Nodes.{fieldsOf}
 use Rattle.expression.specs.Nodes.{measureFrom, Within, Sound}
 use Rattle.store.specs.Storing.{intern}
-use Rattle.store.specs.Memory.{Memory, memory, room, sizeAt, depthAt, classAt, treeAt, treeOf, stateOf}
-use Rattle.store.specs.Index.{keyOf, bucketOf, joined}
-use Rattle.store.specs.Held.{Holds, Built, judged}
-use Rattle.store.specs.Walk.{Walked}
+use Rattle.store.specs.Memory.{Memory, room, sizeAt, depthAt, classAt, treeAt, treeOf, stateOf}
+use Rattle.store.specs.Index.{keyOf, bucketOf, entered}
+use Rattle.store.specs.Desk.{count, callsOn, withCount, refusalOn, refusedFrom}
+use Rattle.store.specs.Held as Held
+use Rattle.store.specs.Held.{Holds, Lent, stateIn, Built, judged}
+use Rattle.store.specs.Walk.{Walked, Finds}
 use Rattle.store.proofs.Trees.{measure-grown, room-each}
-use Rattle.store.proofs.Growing.{Limits, allowed-limits, built-found, built-refused, built-new}
+use Rattle.store.proofs.Growing.{Limits, allowed-limits, found-answer, refused-answer, new-answer, holds-new, tree-old}
+use Rattle.store.proofs.Building.{seen-node, small, stays, refuses}
 
 -- what `add` knows once it has sought the node
 pub record Sought (m : Memory) (n : ℕ) (e : Expression) (f key : Fields) (most bucket node class : ℕ) : Type 0 where
@@ -31,9 +33,37 @@ pub record Sought (m : Memory) (n : ℕ) (e : Expression) (f key : Fields) (most
   pub most-is : most ≡ room m
   pub key-is : key ≡ keyOf (classAt m) f
   pub bucket-is : bucket ≡ bucketOf most key
-  pub walk : Holds m n → key ≡ keyOf (classAt m) f → bucket ≡ bucketOf (room m) key → Walked m n f key node class
+  pub walk : Finds m n f key bucket node class
 
-module _ {m : Memory} {n : ℕ} {e : Expression} {f key : Fields} {most bucket node class : ℕ} (k : Sought m n e f key most bucket node class) (h : Holds m n) (w : Within n e) where
+-- the number of a refusal is small
+pub judged-small : (big deep roomy : Bool) {v : ℕ} → v ≡ judged big deep roomy → v < 9
+unfolding judged
+judged-small true deep roomy e = omega (arith, e)
+judged-small false true roomy e = omega (arith, e)
+judged-small false false true e = omega (arith, e)
+judged-small false false false e = omega (arith, e)
+
+-- a new node's number is small
+pub node-small : (m : Memory) (n z y : ℕ) {most v : ℕ} → most ≡ room m → v ≡ judged (ltb largest z) (ltb deepest y) (ltb n most) → v ≡ 0 → n < 4096
+node-small m n z y {most} e x k =
+    let l = ltb-true n most (allowed-limits (ltb largest z) (ltb deepest y) (ltb n most) (sym x ∙ k) .has-room) in
+    omega (arith, e, l, room-each m (room m) (omega arith) .most)
+
+module _ {m : Memory} {desk : List ℕ} {n : ℕ} (en : n ≡ count desk) {e : Expression} {f key : Fields} {most bucket node class : ℕ}
+    (k : Sought m n e f key most bucket node class) (hl : Held.Sound (record { rows = m; desk = desk })) (wl : Within (count desk) e) where
+  abbrev l : Lent
+  l = record { rows = m; desk = desk }
+
+  h : Holds m n
+  h = rw en (hl .holds)
+
+  w : Within n e
+  w = rw en wl
+
+  state-is : stateIn l ≡ stateOf m n (callsOn desk)
+  unfolding stateIn
+  state-is = rw en refl
+
   key-of-e : key ≡ keyOf (classAt m) (fieldsOf e)
   key-of-e = k .key-is ∙ ap (keyOf (classAt m)) (k .f-is)
 
@@ -43,38 +73,80 @@ module _ {m : Memory} {n : ℕ} {e : Expression} {f key : Fields} {most bucket n
   walked : Walked m n (fieldsOf e) (keyOf (classAt m) (fieldsOf e)) node class
   walked = subst (λ g. Walked m n g (keyOf (classAt m) (fieldsOf e)) node class) (k .f-is) (subst (λ x. Walked m n f x node class) key-of-e (k .walk h (k .key-is) bucket-among))
 
-  pub adds-found : (calls : ℕ) → node < n → Built (intern (treeOf m e) (stateOf m n calls)) (Added.Node node n calls) n m m
-  adds-found calls l = built-found h e (k .sound) w walked calls l
+  pub adds-found : node < n → Built (intern (treeOf m e) (stateIn l)) node l l
+  adds-found o = stays hl (rw en at o) (rw state-is (found-answer h e (k .sound) w walked (callsOn desk) o))
 
-  module _ (o : n ≤ node) {z y : ℕ} (ez : z ≡ measureFrom _+_ (sizeAt m) e) (ey : y ≡ measureFrom max (depthAt m) e) {verdict : Verdict}
-      (el : verdict ≡ judged (ltb largest z) (ltb deepest y) (ltb n most)) where
+  module _ (o : n ≤ node) {z y : ℕ} (ez : z ≡ measureFrom _+_ (sizeAt m) e) (ey : y ≡ measureFrom max (depthAt m) e) {v : ℕ}
+      (ev : v ≡ judged (ltb largest z) (ltb deepest y) (ltb n most)) where
     size-is : z ≡ size (treeOf m e)
     size-is = ez ∙ measure-grown _+_ (treeAt m) (sizeAt m) n e w λ i l. h .each i l .sized
 
     depth-is : y ≡ depth (treeOf m e)
     depth-is = ey ∙ measure-grown max (treeAt m) (depthAt m) n e w λ i l. h .each i l .deep
 
-    verdict-is : verdict ≡ judged (ltb largest (size (treeOf m e))) (ltb deepest (depth (treeOf m e))) (ltb n (room m))
-    verdict-is = el ∙ rw (size-is, depth-is, k .most-is) refl
+    verdict-is : v ≡ judged (ltb largest (size (treeOf m e))) (ltb deepest (depth (treeOf m e))) (ltb n (room m))
+    verdict-is = ev ∙ rw (size-is, depth-is, k .most-is) refl
 
-    pub adds-refused : (calls : ℕ) {why : Refusal} → verdict ≡ Verdict.Refused why → Built (intern (treeOf m e) (stateOf m n calls)) (Added.Refused why) n m m
-    adds-refused calls x = built-refused h e (k .sound) w walked calls o (sym x ∙ verdict-is)
+    pub adds-refused : (v ≡ 0 → ⊥) → Built (intern (treeOf m e) (stateIn l)) (refusedFrom + v) l l
+    adds-refused x =
+        refuses hl (omega arith)
+        (let q : refusedFrom + v - refusedFrom ≡ v = omega arith in
+        rw (q, state-is) (refused-answer h e (k .sound) w walked (callsOn desk) o desk verdict-is x))
 
-    limits : verdict ≡ Verdict.Allowed → Limits (ltb largest (size (treeOf m e))) (ltb deepest (depth (treeOf m e))) (ltb n (room m))
-    limits x = allowed-limits _ _ _ (sym x ∙ verdict-is)
+    limits : v ≡ 0 → Limits (ltb largest (size (treeOf m e))) (ltb deepest (depth (treeOf m e))) (ltb n (room m))
+    limits x = allowed-limits _ _ _ (sym verdict-is ∙ x)
 
-    pub adds-new : (calls : ℕ) {v : ℕ} {tag first second link : List ℕ} → verdict ≡ Verdict.Allowed → v ≡ tagOf (f .code) z y → tag ≡ set (m .tag) n v
-        → first ≡ set (m .first) n (f .first) → second ≡ set (m .second) n (f .second) → link ≡ joined (m .link) n class bucket
-        → Built (intern (treeOf m e) (stateOf m n calls)) (Added.Node n (n + 1) calls) n m (memory tag first second link)
-    adds-new calls x ev et ef es el =
-        rw (el, es, ef, et, ev, k .f-is)
-        (built-new h e (k .sound) w walked calls o
-        (ltb-false largest (size (treeOf m e)) (limits x .not-big)) (ltb-false deepest (depth (treeOf m e)) (limits x .not-deep)) (ltb-true n (room m) (limits x .has-room))
-        bucket (bucket-among ∙ ap (bucketOf (room m)) key-of-e) z y size-is depth-is)
+    module _ (x : v ≡ 0) where
+      abbrev m′ : Memory
+      m′ = entered m n (tagOf (fieldsOf e .code) z y bucket) (fieldsOf e .first) (fieldsOf e .second) class bucket
 
--- a new node's number is small
-pub node-small : (m : Memory) (n z y : ℕ) {most : ℕ} {verdict : Verdict} → most ≡ room m → verdict ≡ judged (ltb largest z) (ltb deepest y) (ltb n most)
-    → verdict ≡ Verdict.Allowed → n < 4096
-node-small m n z y {most} e x k =
-    let l = ltb-true n most (allowed-limits (ltb largest z) (ltb deepest y) (ltb n most) (sym k ∙ x) .has-room) in
-    omega (arith, e, l, room-each m (room m) (omega arith) .most)
+      abbrev l′ : Lent
+      l′ = record { rows = m′; desk = withCount desk (n + 1) }
+
+      count-new : count (withCount desk (n + 1)) ≡ n + 1
+      unfolding count withCount
+      count-new = getD-set-same desk 0 (n + 1) 0 (omega (arith, hl .long))
+
+      calls-same : callsOn (withCount desk (n + 1)) ≡ callsOn desk
+      unfolding callsOn withCount
+      calls-same = getD-set-other desk 0 1 (n + 1) 0 λ q. absurd (omega arith)
+
+      not-big : size (treeOf m e) ≤ largest
+      not-big = ltb-false largest (size (treeOf m e)) (limits x .not-big)
+
+      not-deep : depth (treeOf m e) ≤ deepest
+      not-deep = ltb-false deepest (depth (treeOf m e)) (limits x .not-deep)
+
+      has-room : n < room m
+      has-room = ltb-true n (room m) (limits x .has-room)
+
+      bucket-is-e : bucket ≡ bucketOf (room m) (keyOf (classAt m) (fieldsOf e))
+      bucket-is-e = bucket-among ∙ ap (bucketOf (room m)) key-of-e
+
+      sound-new : Held.Sound l′
+      unfolding withCount
+      sound-new = record {
+        holds = rw count-new (holds-new h e (k .sound) w walked (callsOn desk) o not-big not-deep has-room bucket bucket-is-e z y size-is depth-is);
+        long = length-set desk 0 (n + 1) ∙ hl .long;
+      }
+
+      state-new : stateIn l′ ≡ stateOf m′ (n + 1) (callsOn desk)
+      unfolding stateIn
+      state-new = rw (count-new, calls-same) refl
+
+      built-new : Built (intern (treeOf m e) (stateIn l)) n l l′
+      built-new =
+          let more : n < count (withCount desk (n + 1)) = rw count-new (omega arith) in
+          record {
+            answer = seen-node n l′ (small {l = l′} sound-new more) ∙ rw (state-new, state-is) (new-answer h e (k .sound) w walked (callsOn desk) o not-big not-deep has-room bucket bucket-is-e z y size-is depth-is);
+            inside = λ _. more;
+            step = record {
+              sound = sound-new;
+              grew = rw (count-new, ← en) (omega arith);
+              stays = λ i q. tree-old h e (k .sound) w walked (callsOn desk) o not-big not-deep has-room bucket bucket-is-e z y size-is depth-is i (rw en q);
+            };
+          }
+
+      pub adds-new : {t : ℕ} {m₁ : Memory} {desk₁ : List ℕ} → t ≡ tagOf (f .code) z y bucket → m₁ ≡ entered m n t (f .first) (f .second) class bucket
+          → desk₁ ≡ withCount desk (n + 1) → Built (intern (treeOf m e) (stateIn l)) n l (record { rows = m₁; desk = desk₁ })
+      adds-new et em ed = rw (ed, em, et, k .f-is) built-new

@@ -1,53 +1,110 @@
 -- The laws of building in steps. `stays`: nothing is built. `then-node`: a step that gave a node, and what was done after it.
--- `then-refused`: a step that was refused. `named`, `turned`: what is built, or the answer, by another name. Assumes nothing.
-use mathlib.Core.Path.{_≡_, refl, ap, _∙_}
-use Prim.Native.Nat.{ℕ, _<_}
+-- `then-refused`: a step that was refused; its state stands. `on-desk`: something was done to the desk first. `named`: what is built by
+-- another name. Assumes nothing.
+use mathlib.Core.Path.{_≡_, refl, sym, ap, _∙_, subst}
+use mathlib.Core.List.{List}
+use Prim.Native.Nat.{ℕ, _+_, _-_, _≤_, _<_}
 use native.Mathlib.Omega.{arith}
+use borrow.Author.Tests.{lt-ltb, le-ltb}
+use lib.ListN.{length}
+use Rattle.complex.specs.declared.Complex.{Complex}
+use Rattle.expression.specs.declared.refusal.Operation.{Operation}
 use Rattle.expression.specs.declared.refusal.Refusal.{Refusal}
 use Rattle.expression.specs.Trees.{Tree}
-use Rattle.store.specs.declared.Added.{Added}
 use Rattle.store.specs.Storing.{State, Answer, gives, refused, andThen}
-use Rattle.store.specs.Memory.{Memory, treeAt, stateOf}
-use Rattle.store.specs.Held.{Holds, Step, After, Built}
+use Rattle.store.specs.Memory.{Memory, stateOf}
+use Rattle.store.specs.Desk.{count, callsOn, refusalOn, refusedFrom, Alike, Asks}
+use Rattle.store.specs.Held.{Holds, Lent, treeIn, stateIn, Sound, Step, seen, Built}
+use Rattle.store.proofs.Trees.{room-each}
+
+-- a word as an answer
+pub seen-node : (r : ℕ) (l : Lent) → r < refusedFrom → seen r l ≡ gives (treeIn l r) (stateIn l)
+unfolding seen
+seen-node r l h = rw (lt-ltb r refusedFrom h) refl
+
+pub seen-refused : (r : ℕ) (l : Lent) → refusedFrom ≤ r → seen r l ≡ refused (refusalOn (r - refusedFrom) (l .desk)) (stateIn l)
+unfolding seen
+seen-refused r l h = rw (le-ltb r refusedFrom h) refl
+
+-- a node's number is below every refusal's
+pub small : {l : Lent} → Sound l → {k : ℕ} → k < count (l .desk) → k < refusedFrom
+small {l} h o = let r = room-each (l .rows) (count (l .desk)) (h .holds .fits) .most in omega (arith, r, o)
+
+-- what is known after a step that gave the node x
+pub record Got (l : Lent) (x : ℕ) (l′ : Lent) : Type 0 where
+  pub sound : Sound l′
+  pub inside : x < count (l′ .desk)
+  pub grew : count (l .desk) ≤ count (l′ .desk)
+  pub stays : (k : ℕ) → k < count (l .desk) → treeIn l′ k ≡ treeIn l k
 
 -- a node that stood stands
-pub older : {n i n′ : ℕ} {m m′ : Memory} → Step n m i n′ m′ → {k : ℕ} → k < n → k < n′
-older p l = omega (arith, p .grew, l)
+pub older : {l l′ : Lent} {x : ℕ} → Got l x l′ → {k : ℕ} → k < count (l .desk) → k < count (l′ .desk)
+older p o = omega (arith, p .grew, o)
 
-after-both : {n i n′ : ℕ} {m m₁ : Memory} (m₂ : Memory) (r : Added) → Step n m i n′ m₁ → After r n′ m₁ m₂ → After r n m m₂
-after-both m₂ (Added.Node j q c) p a = record {
-  holds = a .holds;
-  inside = a .inside;
-  grew = omega (arith, p .grew, a .grew);
-  stays = λ k l. a .stays k (older p l) ∙ p .stays k l;
+both : {l l₁ l₂ : Lent} → Step l l₁ → Step l₁ l₂ → Step l l₂
+both p q = record {
+  sound = q .sound;
+  grew = omega (arith, p .grew, q .grew);
+  stays = λ k o. q .stays k (omega (arith, p .grew, o)) ∙ p .stays k o;
 }
-after-both m₂ (Added.Refused why) p a = tt
 
-pub named : {want want′ : Answer} {r : Added} {n : ℕ} {m m′ : Memory} → want ≡ want′ → Built want r n m m′ → Built want′ r n m m′
-named e b = record { answer = b .answer ∙ e; after = b .after }
+pub idle : {l : Lent} → Sound l → Step l l
+idle h = record { sound = h; grew = omega arith; stays = λ k o. refl }
 
-pub turned : {want : Answer} {q r : Added} {n : ℕ} {m m′ : Memory} → q ≡ r → Built want q n m m′ → Built want r n m m′
-turned e b = rw e at b
+pub named : {want want′ : Answer} {r : ℕ} {l l′ : Lent} → want ≡ want′ → Built want r l l′ → Built want′ r l l′
+named e b = record { answer = b .answer ∙ e; inside = b .inside; step = b .step }
 
-pub stays : {want : Answer} {m : Memory} {n i c : ℕ} → Holds m n → i < n → gives (treeAt m i) (stateOf m n c) ≡ want → Built want (Added.Node i n c) n m m
-stays h l e = record { answer = e; after = record { holds = h; inside = l; grew = omega arith; stays = λ k o. refl } }
+pub turned : {want : Answer} {q r : ℕ} {l l′ : Lent} → q ≡ r → Built want q l l′ → Built want r l l′
+turned {want} {l = l} {l′ = l′} e b = subst (λ r. Built want r l l′) e b
 
-pub refuses : {want : Answer} {why : Refusal} {n : ℕ} {m m′ : Memory} → refused why ≡ want → Built want (Added.Refused why) n m m′
-refuses e = record { answer = e; after = tt }
+pub stays : {want : Answer} {l : Lent} {i : ℕ} → Sound l → i < count (l .desk) → gives (treeIn l i) (stateIn l) ≡ want → Built want i l l
+stays {l = l} {i = i} h o e = record { answer = seen-node i l (small h o) ∙ e; inside = λ _. o; step = idle h }
 
-pub then-node : {want : Answer} {o r : Added} {x n′ c n : ℕ} {m m₁ m₂ : Memory} (next : Tree → State → Answer)
-    → Built want o n m m₁ → o ≡ Added.Node x n′ c
-    → (Step n m x n′ m₁ → Built (next (treeAt m₁ x) (stateOf m₁ n′ c)) r n′ m₁ m₂)
-    → Built (andThen want next) r n m m₂
+pub refuses : {want : Answer} {l : Lent} {r : ℕ} → Sound l → refusedFrom ≤ r → refused (refusalOn (r - refusedFrom) (l .desk)) (stateIn l) ≡ want → Built want r l l
+refuses {l = l} {r = r} h o e = record { answer = seen-refused r l o ∙ e; inside = λ x. absurd (omega (arith, o, x)); step = idle h }
+
+pub got : {want : Answer} {o : ℕ} {l l₁ : Lent} → Built want o l l₁ → o < refusedFrom → Got l o l₁
+got b e = record { sound = b .step .sound; inside = b .inside e; grew = b .step .grew; stays = b .step .stays }
+
+pub then-node : {want : Answer} {o r : ℕ} {l l₁ l₂ : Lent} (next : Tree → State → Answer)
+    → Built want o l l₁ → o < refusedFrom
+    → (Got l o l₁ → Built (next (treeIn l₁ o) (stateIn l₁)) r l₁ l₂)
+    → Built (andThen want next) r l l₂
 unfolding andThen
-then-node {r = r} {m₂ = m₂} next b e f =
-    let b′ = turned e b in
-    let d = f (b′ .after) in
-    record { answer = d .answer ∙ ap (λ w. andThen w next) (b′ .answer); after = after-both m₂ r (b′ .after) (d .after) }
+then-node {o = o} {l₁ = l₁} next b e f =
+    let d = f (got b e) in
+    record { answer = d .answer ∙ ap (λ w. andThen w next) (sym (seen-node o l₁ e) ∙ b .answer); inside = d .inside; step = both (b .step) (d .step) }
 
-pub then-refused : {want : Answer} {o : Added} {why : Refusal} {n : ℕ} {m m₁ : Memory} (next : Tree → State → Answer)
-    → Built want o n m m₁ → o ≡ Added.Refused why → Built (andThen want next) o n m m₁
+pub then-refused : {want : Answer} {o : ℕ} {l l₁ : Lent} (next : Tree → State → Answer) → Built want o l l₁ → refusedFrom ≤ o → Built (andThen want next) o l l₁
 unfolding andThen
-then-refused next b e =
-    let b′ = turned e b in
-    rw e (record { answer = ap (λ w. andThen w next) (b′ .answer); after = tt })
+then-refused {o = o} {l₁ = l₁} next b e =
+    record { answer = seen-refused o l₁ e ∙ ap (λ w. andThen w next) (sym (seen-refused o l₁ e) ∙ b .answer); inside = b .inside; step = b .step }
+
+-- ---- something is done to the desk: the nodes stand
+
+abbrev pub of : Memory → List ℕ → Lent
+of m desk = record { rows = m; desk = desk }
+
+module _ (m : Memory) {desk desk′ : List ℕ} where
+  pub sound-on : count desk′ ≡ count desk → length desk′ ≡ length desk → Sound (of m desk) → Sound (of m desk′)
+  sound-on e x h = record { holds = rw e (h .holds); long = x ∙ h .long }
+
+  pub on-desk : {want : Answer} {r : ℕ} {l : Lent} → count desk′ ≡ count desk → Built want r (of m desk′) l → Built want r (of m desk) l
+  on-desk e b = record {
+    answer = b .answer;
+    inside = b .inside;
+    step = record { sound = b .step .sound; grew = omega (arith, e, b .step .grew); stays = λ k o. b .step .stays k (omega (arith, e, o)) };
+  }
+
+  state-on : Alike desk desk′ → stateIn (of m desk′) ≡ stateIn (of m desk)
+  unfolding stateIn
+  state-on x = λ i. stateOf m (x .counted i) (x .called i)
+
+-- NEED: a refusal, of which the desk has what it carries
+pub asks : {operation : Operation} {x y : Complex} {r : ℕ} (m : Memory) {desk desk′ : List ℕ} → Asks operation x y r desk desk′ → Sound (of m desk)
+    → Built (refused (Refusal.Need operation x y) (stateIn (of m desk))) r (of m desk) (of m desk′)
+unfolding refusalOn
+asks m a h =
+    on-desk m (a .alike .counted)
+    (turned (sym (a .answer))
+    (refuses (sound-on m (a .alike .counted) (a .alike .long) h) (omega arith) (λ i. refused (a .need (h .long) i) (state-on m (a .alike) i))))

@@ -3,7 +3,7 @@ use mathlib.Core.Path.{_≡_, refl, sym, ap, _∙_, subst, fun-ext}
 use mathlib.Core.List.{List, [], _∷_, _++_}
 use mathlib.Core.Logic.{⊎-elim}
 use mathlib.Core.Bool.{Bool, true, false, cond}
-use Prim.Native.Nat.{ℕ, zero, suc, _+_, _*_, _/_, _≤_, _<_}
+use Prim.Native.Nat.{ℕ, zero, suc, _+_, _-_, _*_, _/_, _≤_, _<_}
 use native.Mathlib.Nat.{eq-or-lt-of-le}
 use native.Mathlib.Numerals.{add-one}
 use native.Mathlib.Omega.{arith}
@@ -17,27 +17,25 @@ use Rattle.expression.specs.Trees.{Tree, size, depth}
 use Rattle.expression.specs.Alike.{equal}
 use Rattle.expression.specs.Limits.{largest, deepest}
 use Rattle.expression.proofs.Likeness.{equal-refl}
-use Rattle.store.specs.declared.Added.{Added}
-use Rattle.store.specs.declared.Verdict.{Verdict}
 use Rattle.expression.specs.declared.node.Expression.{Expression}
 use Rattle.store.specs.declared.node.Fields.{Fields}
-use Rattle.store.specs.Words.{codeIn, sizeIn, depthIn, tagOf}
+use Rattle.store.specs.Words.{codeIn, sizeIn, depthIn, homeIn, tagOf}
 use Rattle.store.specs.Nodes.{fields, fieldsOf, expressionOf}
 use Rattle.expression.specs.Nodes.{Within, Sound}
-use Rattle.store.specs.Storing.{Answer, among, intern, result, refused, place}
-use Rattle.store.specs.Memory.{Memory, memory, room, fieldsOn, sizeOn, depthOn, fieldsAt, sizeAt, depthAt, headAt, classAt, keptAt, expressionAt, trees, treeAt, treeOf, linked, keptFor, stateOf}
-use Rattle.store.specs.Index.{keyOf, bucketOf, keyAt, bucketAt, latest, joined}
-use Rattle.store.specs.Held.{Right, Holds, Built, judged}
+use Rattle.store.specs.Storing.{State, Answer, gives, among, intern, result, refused, place}
+use Rattle.store.specs.Memory.{Memory, columns, room, fieldsOn, sizeOn, depthOn, fieldsAt, sizeAt, depthAt, homeOn, homeAt, headAt, classAt, keptAt, expressionAt, trees, treeAt, treeOf, linked, keptFor, stateOf}
+use Rattle.store.specs.Index.{keyOf, bucketOf, keyAt, bucketAt, headFor, latest, joined}
+use Rattle.store.specs.Held.{Right, Holds, judged}
+use Rattle.store.specs.Desk.{refusalOn}
 use Rattle.store.specs.Walk.{Walked}
 use Rattle.store.proofs.Places.{place-within, place-old, place-new, among-yes, among-no, latest-alike}
 use Rattle.store.proofs.Coding.{back, code-small}
 use Rattle.store.proofs.Trees.{length-trees, grown-alike, tree-own, trees-alike, tree-alike, Room, room-each}
 use Rattle.store.proofs.Keys.{key-alike}
-use Rattle.store.proofs.Walks.{bucket-below}
+use Rattle.store.proofs.Walks.{bucket-below, head-within, no-head, past-head, head-home, head-elsewhere}
 use Rattle.store.proofs.Packing.{Tagged, tagged}
 use Rattle.store.proofs.Seeking.{class-inside, found-tree, found-place, no-place, nowhere, found-class}
 use Rattle.store.proofs.Links.{Rest, length-joined, rest-old, class-new, kept-new, next-new, head-old, head-new}
-use Rattle.store.proofs.Building.{stays, refuses}
 
 -- what is kept by a number of a node that has the same tree in both
 pub linked-alike : (m m′ : Memory) (n k : ℕ) → ((i : ℕ) → i < n → treeAt m′ i ≡ treeAt m i) → k ≤ n → linked m′ k ≡ linked m k
@@ -51,37 +49,26 @@ truth false h = absurd h
 
 -- ---- the limits
 
-why-of : Verdict → Refusal → Refusal
-why-of Verdict.Allowed why = why
-why-of (Verdict.Refused why) other = why
-
-IsAllowed : Verdict → Type 0
-IsAllowed Verdict.Allowed = Unit {0}
-IsAllowed (Verdict.Refused why) = ⊥
-
-allowed-not-refused : {why : Refusal} → Verdict.Allowed ≡ Verdict.Refused why → ⊥
-unfolding IsAllowed
-allowed-not-refused x = subst IsAllowed x tt
-
--- a refusal by a verdict is the definition's
-refused-as : (A : Answer) (big deep roomy : Bool) {why : Refusal} → Verdict.Refused why ≡ judged big deep roomy
-    → refused why ≡ cond big (refused Refusal.Big) (cond deep (refused Refusal.Deep) (cond roomy A (refused Refusal.Room)))
-unfolding why-of
-refused-as A true deep roomy {why} x = ap (λ l. refused (why-of l why)) x
-refused-as A false true roomy {why} x = ap (λ l. refused (why-of l why)) x
-refused-as A false false true x = absurd (allowed-not-refused (sym x))
-refused-as A false false false {why} x = ap (λ l. refused (why-of l why)) x
+-- a number of `judged` that is not 0 is the refusal of the definition
+judged-refused : (A : Answer) (big deep roomy : Bool) (desk : List ℕ) (σ : State) → (judged big deep roomy ≡ 0 → ⊥)
+    → refused (refusalOn (judged big deep roomy) desk) σ ≡ cond big (refused Refusal.Big σ) (cond deep (refused Refusal.Deep σ) (cond roomy A (refused Refusal.Room σ)))
+unfolding refusalOn judged
+judged-refused A true deep roomy desk σ x = refl
+judged-refused A false true roomy desk σ x = refl
+judged-refused A false false true desk σ x = absurd (x refl)
+judged-refused A false false false desk σ x = refl
 
 pub record Limits (big deep roomy : Bool) : Type 0 where
   pub not-big : big ≡ false
   pub not-deep : deep ≡ false
   pub has-room : roomy ≡ true
 
-pub allowed-limits : (big deep roomy : Bool) → Verdict.Allowed ≡ judged big deep roomy → Limits big deep roomy
-allowed-limits true deep roomy x = absurd (allowed-not-refused x)
-allowed-limits false true roomy x = absurd (allowed-not-refused x)
+pub allowed-limits : (big deep roomy : Bool) → judged big deep roomy ≡ 0 → Limits big deep roomy
+unfolding judged
+allowed-limits true deep roomy x = absurd (omega (arith, x))
+allowed-limits false true roomy x = absurd (omega (arith, x))
 allowed-limits false false true x = record { not-big = refl; not-deep = refl; has-room = refl }
-allowed-limits false false false x = absurd (allowed-not-refused x)
+allowed-limits false false false x = absurd (omega (arith, x))
 
 latest-here : (f : ℕ → ℕ) (b n : ℕ) → f n ≡ b → latest f b (n + 1) ≡ n + 1
 unfolding latest
@@ -101,11 +88,11 @@ module _ {m : Memory} {n : ℕ} (h : Holds m n) (e : Expression) (s : Sound e) (
 
   -- ---- it stands
 
-  pub built-found : node < n → Built (intern t (stateOf m n calls)) (Added.Node node n calls) n m m
+  pub found-answer : node < n → gives (treeAt m node) (stateOf m n calls) ≡ intern t (stateOf m n calls)
   unfolding intern
-  built-found l =
+  found-answer l =
       let y = among-yes ts t (rw (found-place h e s w q l, length-trees m n) l) in
-      stays h l (rw (y, found-tree h e s w q l) refl)
+      rw (y, found-tree h e s w q l) refl
 
   module _ (o-node : n ≤ node) where
     absent : among ts t ≡ false
@@ -113,10 +100,12 @@ module _ {m : Memory} {n : ℕ} (h : Holds m n) (e : Expression) (s : Sound e) (
 
     -- ---- it is refused
 
-    pub built-refused : {why : Refusal} → Verdict.Refused why ≡ judged (ltb largest (size t)) (ltb deepest (depth t)) (ltb n (room m))
-        → Built (intern t (stateOf m n calls)) (Added.Refused why) n m m
+    pub refused-answer : (desk : List ℕ) {v : ℕ} → v ≡ judged (ltb largest (size t)) (ltb deepest (depth t)) (ltb n (room m)) → (v ≡ 0 → ⊥)
+        → refused (refusalOn v desk) (stateOf m n calls) ≡ intern t (stateOf m n calls)
     unfolding intern
-    built-refused x = refuses (rw (absent, length-trees m n) (refused-as _ (ltb largest (size t)) (ltb deepest (depth t)) (ltb n (room m)) x))
+    refused-answer desk {v} x y =
+        rw (x, absent, length-trees m n)
+        (judged-refused _ (ltb largest (size t)) (ltb deepest (depth t)) (ltb n (room m)) desk (stateOf m n calls) λ z. y (x ∙ z))
 
     -- ---- it is stored
 
@@ -126,11 +115,14 @@ module _ {m : Memory} {n : ℕ} (h : Holds m n) (e : Expression) (s : Sound e) (
         abbrev f : Fields
         f = fieldsOf e
 
+        abbrev head : ℕ
+        head = headFor m n bucket
+
         abbrev link′ : List ℕ
-        link′ = joined (m .link) n class bucket
+        link′ = joined (m .link) n class head bucket
 
         abbrev m′ : Memory
-        m′ = memory (set (m .tag) n (tagOf (f .code) z y)) (set (m .first) n (f .first)) (set (m .second) n (f .second)) link′
+        m′ = columns (set (m .tag) n (tagOf (f .code) z y bucket)) (set (m .first) n (f .first)) (set (m .second) n (f .second)) link′
 
         there : Room m (n + 1)
         there = room-each m (n + 1) (omega arith)
@@ -160,42 +152,53 @@ module _ {m : Memory} {n : ℕ} (h : Holds m n) (e : Expression) (s : Sound e) (
         sc : class < 4096
         sc = omega (arith, class-within, there .most)
 
+        sh : head < 8192
+        sh = omega (arith, head-within m n bucket, there .most)
+
         rest : (k : ℕ) → k < n → Rest (m .link) link′ k
-        rest k l = rest-old (m .link) n class bucket ln lb sn sc k λ d. omega arith
+        rest k l = rest-old (m .link) n class head bucket ln lb sn sc sh k λ d. omega arith
 
         -- the tag's fields
-        word : Tagged (tagOf (f .code) z y) (f .code) z y
-        word = tagged (f .code) z y (code-small e) (omega (arith, ez)) (omega (arith, ey))
+        word : Tagged (tagOf (f .code) z y bucket) (f .code) z y bucket
+        word = tagged (f .code) z y bucket (code-small e) (omega (arith, ez)) (omega (arith, ey)) (omega (arith, bucket-inside, room-each m (room m) (omega arith) .most))
 
         fields-old : (k : ℕ) → k < n → fieldsAt m′ k ≡ fieldsAt m k
         unfolding fieldsOn
         fields-old k l =
             let d : k ≡ n → ⊥ = λ x. omega arith in
-            rw (getD-set-other (m .tag) n k (tagOf (f .code) z y) 0 d, getD-set-other (m .first) n k (f .first) 0 d, getD-set-other (m .second) n k (f .second) 0 d) refl
+            rw (getD-set-other (m .tag) n k (tagOf (f .code) z y bucket) 0 d, getD-set-other (m .first) n k (f .first) 0 d, getD-set-other (m .second) n k (f .second) 0 d) refl
 
         fields-new : fieldsAt m′ n ≡ f
         unfolding fieldsOn
         fields-new =
-            let a = ap codeIn (getD-set-same (m .tag) n (tagOf (f .code) z y) 0 (omega (arith, there .tags))) ∙ word .code in
+            let a = ap codeIn (getD-set-same (m .tag) n (tagOf (f .code) z y bucket) 0 (omega (arith, there .tags))) ∙ word .code in
             let b = getD-set-same (m .first) n (f .first) 0 (omega (arith, there .firsts)) in
             let c = getD-set-same (m .second) n (f .second) 0 (omega (arith, there .seconds)) in
             λ i. fields (a i) (b i) (c i)
 
         size-old : (k : ℕ) → k < n → sizeAt m′ k ≡ sizeAt m k
         unfolding sizeOn
-        size-old k l = ap sizeIn (getD-set-other (m .tag) n k (tagOf (f .code) z y) 0 λ x. omega arith)
+        size-old k l = ap sizeIn (getD-set-other (m .tag) n k (tagOf (f .code) z y bucket) 0 λ x. omega arith)
 
         size-new : sizeAt m′ n ≡ z
         unfolding sizeOn
-        size-new = ap sizeIn (getD-set-same (m .tag) n (tagOf (f .code) z y) 0 (omega (arith, there .tags))) ∙ word .size
+        size-new = ap sizeIn (getD-set-same (m .tag) n (tagOf (f .code) z y bucket) 0 (omega (arith, there .tags))) ∙ word .size
 
         depth-old : (k : ℕ) → k < n → depthAt m′ k ≡ depthAt m k
         unfolding depthOn
-        depth-old k l = ap depthIn (getD-set-other (m .tag) n k (tagOf (f .code) z y) 0 λ x. omega arith)
+        depth-old k l = ap depthIn (getD-set-other (m .tag) n k (tagOf (f .code) z y bucket) 0 λ x. omega arith)
 
         depth-new : depthAt m′ n ≡ y
         unfolding depthOn
-        depth-new = ap depthIn (getD-set-same (m .tag) n (tagOf (f .code) z y) 0 (omega (arith, there .tags))) ∙ word .depth
+        depth-new = ap depthIn (getD-set-same (m .tag) n (tagOf (f .code) z y bucket) 0 (omega (arith, there .tags))) ∙ word .depth
+
+        home-old : (k : ℕ) → k < n → homeAt m′ k ≡ homeAt m k
+        unfolding homeOn
+        home-old k l = ap homeIn (getD-set-other (m .tag) n k (tagOf (f .code) z y bucket) 0 λ x. omega arith)
+
+        home-new : homeAt m′ n ≡ bucket
+        unfolding homeOn
+        home-new = ap homeIn (getD-set-same (m .tag) n (tagOf (f .code) z y bucket) 0 (omega (arith, there .tags))) ∙ word .home
 
         -- the trees
         expression-old : (k : ℕ) → k < n → expressionAt m′ k ≡ expressionAt m k
@@ -209,7 +212,7 @@ module _ {m : Memory} {n : ℕ} (h : Holds m n) (e : Expression) (s : Sound e) (
         trees-old : trees m′ n ≡ ts
         trees-old = trees-alike m m′ n fields-old
 
-        tree-old : (k : ℕ) → k < n → treeAt m′ k ≡ treeAt m k
+        pub tree-old : (k : ℕ) → k < n → treeAt m′ k ≡ treeAt m k
         tree-old = tree-alike m m′ n fields-old
 
         tree-new : treeAt m′ n ≡ t
@@ -222,7 +225,7 @@ module _ {m : Memory} {n : ℕ} (h : Holds m n) (e : Expression) (s : Sound e) (
         room-new : room m′ ≡ room m
         unfolding room
         room-new =
-            rw (length-set (m .tag) n (tagOf (f .code) z y), length-set (m .first) n (f .first), length-set (m .second) n (f .second), length-joined (m .link) n class bucket ln lb sn sc) refl
+            rw (length-set (m .tag) n (tagOf (f .code) z y bucket), length-set (m .first) n (f .first), length-set (m .second) n (f .second), length-joined (m .link) n class head bucket ln lb sn sc sh) refl
 
         -- the classes
         place-same : (u : Tree) → place (equal u) ts < n → place (equal u) (trees m′ (n + 1)) ≡ place (equal u) ts
@@ -233,7 +236,7 @@ module _ {m : Memory} {n : ℕ} (h : Holds m n) (e : Expression) (s : Sound e) (
 
         class-here : classAt m′ n ≡ place (equal t) (trees m′ (n + 1))
         class-here =
-            class-new (m .link) n class bucket ln lb sn sc
+            class-new (m .link) n class head bucket ln lb sn sc sh
             ∙ ⊎-elim
             (λ x. x ∙ sym (place-fresh t (sym class-is ∙ x) ∙ rw (truth (equal t t) (equal-refl t)) refl))
             (λ l. class-is ∙ sym (place-same t (omega (arith, l, class-is))))
@@ -261,6 +264,7 @@ module _ {m : Memory} {n : ℕ} (h : Holds m n) (e : Expression) (s : Sound e) (
               sized = rw (tree-old k l) (size-old k l ∙ g .sized);
               deep = rw (tree-old k l) (depth-old k l ∙ g .deep);
               limited = rw (tree-old k l) (g .limited);
+              home = home-old k l ∙ g .home ∙ sym (bucket-old k l);
               classed = rw (tree-old k l) (x .class ∙ g .classed ∙ sym (place-same (treeAt m k) p));
               kept = omega (arith, x .kept, g .kept);
               next = x .next ∙ g .next ∙ ap (λ b. latest (bucketAt m) b k) (sym (bucket-old k l)) ∙ latest-alike (bucketAt m) (bucketAt m′) _ k λ i o. sym (bucket-old i (omega arith));
@@ -273,10 +277,11 @@ module _ {m : Memory} {n : ℕ} (h : Holds m n) (e : Expression) (s : Sound e) (
           sized = rw tree-new (size-new ∙ ez);
           deep = rw tree-new (depth-new ∙ ey);
           limited = rw tree-new (record { sized = b; shallow = d });
+          home = home-new ∙ sym bucket-new;
           classed = rw tree-new class-here;
-          kept = omega (arith, kept-new (m .link) n class bucket ln lb sn sc);
+          kept = omega (arith, kept-new (m .link) n class head bucket ln lb sn sc sh);
           next =
-              next-new (m .link) n class bucket ln lb sn sc ∙ h .heads bucket bucket-inside
+              next-new (m .link) n class head bucket ln lb sn sc sh ∙ h .heads bucket bucket-inside
               ∙ ap (λ b. latest (bucketAt m) b n) (sym bucket-new) ∙ latest-alike (bucketAt m) (bucketAt m′) _ n λ i o. sym (bucket-old i o);
         }
 
@@ -295,18 +300,39 @@ module _ {m : Memory} {n : ℕ} (h : Holds m n) (e : Expression) (s : Sound e) (
             (λ x. refl))
             i l j
 
-        heads-new : (b : ℕ) → b < 2 * room m′ → headAt m′ b ≡ latest (bucketAt m′) b (n + 1)
+        -- a bucket that the new node does not join has the head that it had: a number that was none of the nodes may be the new node's now,
+        -- but that one is at home elsewhere
+        head-same : (b : ℕ) → (b ≡ bucket → ⊥) → headFor m′ (n + 1) b ≡ headFor m n b
+        head-same b x = go (headAt m b) refl (decLt n (headAt m b)) (ℕ-discrete (headAt m b) (n + 1))
+          where
+            here : headAt m b ≡ headAt m′ b
+            here = sym (head-old (m .link) n class head bucket ln lb sn sc sh b x)
+
+            go : (h : ℕ) → h ≡ headAt m b → Dec (n < headAt m b) → Dec (headAt m b ≡ n + 1) → headFor m′ (n + 1) b ≡ headFor m n b
+            go h e (yes l) (yes p) = sym (head-elsewhere m′ (n + 1) b here (omega (arith, p)) (λ y. x (sym y ∙ ap (λ k. homeAt m′ (k - 1)) p ∙ ap (homeAt m′) (omega arith) ∙ home-new))) ∙ past-head m n b refl l
+            go h e (yes l) (no p) = sym (past-head m′ (n + 1) b here (omega (arith, l, p))) ∙ past-head m n b refl l
+            go h e (no l) d = low (headAt m b) refl (ℕ-discrete (homeAt m (headAt m b - 1)) b)
+              where
+                low : (k : ℕ) → k ≡ headAt m b → Dec (homeAt m (headAt m b - 1) ≡ b) → headFor m′ (n + 1) b ≡ headFor m n b
+                low zero q r = sym (no-head m′ (n + 1) b here (sym q)) ∙ no-head m n b refl (sym q)
+                low (suc k) q (yes r) = sym (head-home m′ (n + 1) b here (omega (arith, l)) (home-old (headAt m b - 1) (omega (arith, l, q)) ∙ r)) ∙ head-home m n b refl (omega (arith, l)) r
+                low (suc k) q (no r) = sym (head-elsewhere m′ (n + 1) b here (omega (arith, l)) (λ y. r (sym (home-old (headAt m b - 1) (omega (arith, l, q))) ∙ y))) ∙ head-elsewhere m n b refl (omega (arith, l)) r
+
+        heads-new : (b : ℕ) → b < 2 * room m′ → headFor m′ (n + 1) b ≡ latest (bucketAt m′) b (n + 1)
         heads-new b l = go (ℕ-discrete b bucket)
           where
-            go : Dec (b ≡ bucket) → headAt m′ b ≡ latest (bucketAt m′) b (n + 1)
-            go (yes x) = rw x (head-new (m .link) n class bucket ln lb sn sc ∙ sym (latest-here (bucketAt m′) bucket n bucket-new))
+            go : Dec (b ≡ bucket) → headFor m′ (n + 1) b ≡ latest (bucketAt m′) b (n + 1)
+            go (yes x) =
+                rw x
+                (sym (head-home m′ (n + 1) bucket (sym (head-new (m .link) n class head bucket ln lb sn sc sh)) (omega arith) (ap (homeAt m′) (omega arith) ∙ home-new))
+                ∙ sym (latest-here (bucketAt m′) bucket n bucket-new))
             go (no x) =
-                head-old (m .link) n class bucket ln lb sn sc b x
+                head-same b x
                 ∙ h .heads b (rw (sym room-new) l)
                 ∙ latest-alike (bucketAt m) (bucketAt m′) b n (λ i o. sym (bucket-old i o))
                 ∙ sym (latest-past (bucketAt m′) b n λ v. x (sym v ∙ bucket-new))
 
-        holds-new : Holds m′ (n + 1)
+        pub holds-new : Holds m′ (n + 1)
         holds-new = record {
           fits = rw room-new (omega arith);
           each = each (Right m′ (n + 1)) right-old right-new;
@@ -325,7 +351,7 @@ module _ {m : Memory} {n : ℕ} (h : Holds m n) (e : Expression) (s : Sound e) (
         kept-fresh : (u : Tree) → place (equal u) ts ≡ n → (c : Bool) → equal u t ≡ c → keptFor m′ (n + 1) u ≡ keptFor m n u
         unfolding keptFor linked
         kept-fresh u x true y =
-            rw (place-fresh u x, y, x, lt-ltb n (n + 1) (omega arith), le-ltb n n (omega arith), kept-new (m .link) n class bucket ln lb sn sc) refl
+            rw (place-fresh u x, y, x, lt-ltb n (n + 1) (omega arith), le-ltb n n (omega arith), kept-new (m .link) n class head bucket ln lb sn sc sh) refl
         kept-fresh u x false y = rw (place-fresh u x, y, x, le-ltb (suc n) (n + 1) (omega arith), le-ltb n n (omega arith)) refl
 
         kept-same : keptFor m′ (n + 1) ≡ keptFor m n
@@ -335,9 +361,6 @@ module _ {m : Memory} {n : ℕ} (h : Holds m n) (e : Expression) (s : Sound e) (
             go u (yes l) = kept-old u l
             go u (no x) = kept-fresh u (omega (arith, x, place-within (equal u) ts, length-trees m n)) (equal u t) refl
 
-        pub built-new : Built (intern t (stateOf m n calls)) (Added.Node n (n + 1) calls) n m m′
+        pub new-answer : gives (treeAt m′ n) (stateOf m′ (n + 1) calls) ≡ intern t (stateOf m n calls)
         unfolding intern
-        built-new = record {
-          answer = rw (tree-new, room-new, trees-new, kept-same, absent, le-ltb largest (size t) b, le-ltb deepest (depth t) d, length-trees m n, lt-ltb n (room m) r) refl;
-          after = record { holds = holds-new; inside = omega arith; grew = omega arith; stays = tree-old };
-        }
+        new-answer = rw (tree-new, room-new, trees-new, kept-same, absent, le-ltb largest (size t) b, le-ltb deepest (depth t) d, length-trees m n, lt-ltb n (room m) r) refl

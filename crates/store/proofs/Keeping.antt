@@ -1,40 +1,39 @@
--- What `link` alone says and changes: equal trees, kept results, and the start of a store. Assumes nothing.
+-- What the links say and how they change: equal trees, kept results, and the start of a store. Assumes nothing.
 use mathlib.Core.Path.{_≡_, refl, sym, ap, _∙_, subst, fun-ext}
 use mathlib.Core.List.{List}
 use mathlib.Core.Bool.{Bool, true, false, cond}
-use Prim.Native.Nat.{ℕ, zero, suc, _-_, _%_, _/_, _≤_, _<_}
+use Prim.Native.Nat.{ℕ, suc, _≤_, _<_}
 use native.Mathlib.Omega.{arith}
 use native.Mathlib.Decide.{ℕ-discrete, decLt}
 use borrow.Author.Tests.{lt-ltb, le-ltb}
 use lib.Dec.{T, eqb, eqb→eq}
 use lib.Ieee.Fits.{eq→eqb}
-use lib.ListN.{length, getD, set, replicate, length-set, length-replicate}
+use lib.ListN.{length, getD, set, replicate, length-set}
 use Rattle.complex.proofs.Tests.{one-truth}
 use Rattle.expression.specs.Trees.{Tree, leaf, pi}
 use Rattle.expression.specs.Alike.{equal}
 use Rattle.expression.proofs.Likeness.{equal-sym, equal-trans}
-use Rattle.store.specs.declared.Added.{Added}
-use Rattle.store.specs.declared.Kept.{Kept}
-use Rattle.store.specs.Words.{headIn, withKept}
+use Rattle.store.specs.Words.{withKept}
 use Rattle.store.specs.Storing.{gives, keep, recall, result, place}
-use Rattle.store.specs.Memory.{Memory, memory, room, headOn, classOn, keptOn, classAt, keptAt, expressionAt, trees, treeAt, linked, keptFor, stateOf}
-use Rattle.store.specs.Index.{keyAt, bucketAt, latest}
-use Rattle.store.specs.Held.{Holds, Built, Recalls, Compares, Starts}
-use Rattle.memory.proofs.Slices.{getD-zeros}
+use Rattle.store.specs.Memory.{Memory, columns, memory, room, classOn, keptOn, classAt, keptAt, expressionAt, trees, treeAt, linked, keptFor, stateOf}
+use Rattle.store.specs.Index.{keyAt, bucketAt, headFor, latest, keptBy}
+use Rattle.store.specs.Held.{Holds, Lent, lent, stateIn, Sound, Built, Keeps, Recalls, Compares, Begun}
+use Rattle.store.specs.Desk.{count, callsOn}
 use Rattle.store.proofs.Places.{place-hit, latest-alike}
 use Rattle.store.proofs.Trees.{length-trees, trees-at, trees-alike, tree-alike, room-each}
 use Rattle.store.proofs.Seeking.{class-inside, equal-class, class-equal, class-is-equal, class-of-tree}
-use Rattle.store.proofs.Packing.{half-zero}
+use Rattle.store.proofs.Walks.{head-within}
 use Rattle.store.proofs.Links.{keeping-head, keeping-class, keeping-next, keeping-new, keeping-old}
 use Rattle.store.proofs.Growing.{linked-alike}
+use Rattle.store.proofs.Building.{seen-node, small as number-small}
 
 -- ---- equal trees
 
-pub compares : (link : List ℕ) (a b : ℕ) {x y : ℕ} → x ≡ classOn link a → y ≡ classOn link b → Compares link a b (eqb x y)
-compares link a b p q tag first second n h l o =
+pub compares : (m : Memory) (a b : ℕ) {x y : ℕ} → x ≡ classAt m a → y ≡ classAt m b → Compares m a b (eqb x y)
+compares m a b p q n h l o =
     rw (p, q)
-    (one-truth (eqb (classOn link a) (classOn link b)) _
-    (λ t. class-is-equal h a b l o (eqb→eq (classOn link a) (classOn link b) t))
+    (one-truth (eqb (classAt m a) (classAt m b)) _
+    (λ t. class-is-equal h a b l o (eqb→eq (classAt m a) (classAt m b) t))
     (λ t. eq→eqb (equal-class h a b l o t)))
 
 -- ---- what is kept for a node's tree
@@ -48,25 +47,15 @@ recall-is {m} {n} h e calls l =
 class-below : {m : Memory} {n : ℕ} (h : Holds m n) (e : ℕ) → e < n → classAt m e < n
 class-below h e l = omega (arith, class-inside h e l)
 
-pub recalls-nothing : (link : List ℕ) (e : ℕ) {x : ℕ} → x ≡ keptOn link (classOn link e) → x ≡ 0 → Recalls link e Kept.Nothing
-unfolding linked
-recalls-nothing link e p z tag first second n calls h l = (tt, sym (recall-is h e calls l ∙ rw (sym p ∙ z) refl))
-
-linked-above : (m : Memory) (k : ℕ) → (k ≡ 0 → ⊥) → linked m k ≡ result (treeAt m (k - 1))
-unfolding linked
-linked-above m zero q = absurd (q refl)
-linked-above m (suc k) q = ap (λ i. result (treeAt m i)) (omega arith)
-
-pub recalls-result : (link : List ℕ) (e : ℕ) {x : ℕ} → x ≡ keptOn link (classOn link e) → (x ≡ 0 → ⊥) → Recalls link e (Kept.Result (x - 1))
-recalls-result link e {x} p q tag first second n calls h l =
-    let m = memory tag first second link in
-    (omega (arith, q, p, h .each (classAt m e) (class-below h e l) .kept), sym (recall-is h e calls l ∙ rw (sym p) (linked-above m x q)))
+pub recalls : (m : Memory) (e : ℕ) {x : ℕ} → x ≡ keptAt m (classAt m e) → Recalls m e x
+recalls m e {x} p n calls h l =
+    (omega (arith, p, h .each (classAt m e) (class-below h e l) .kept), rw p (sym (recall-is h e calls l)))
 
 -- ---- a result is kept
 
-module _ (tag first second link : List ℕ) (n : ℕ) (h : Holds (memory tag first second link) n) (e r : ℕ) (le : e < n) (lr : r < n) where
+module _ (tag first second link : List ℕ) (n : ℕ) (h : Holds (columns tag first second link) n) (e r : ℕ) (le : e < n) (lr : r < n) where
   abbrev m : Memory
-  m = memory tag first second link
+  m = columns tag first second link
 
   abbrev c : ℕ
   c = classOn link e
@@ -75,7 +64,7 @@ module _ (tag first second link : List ℕ) (n : ℕ) (h : Holds (memory tag fir
   link′ = set link c (withKept (getD link c 0) r)
 
   abbrev m′ : Memory
-  m′ = memory tag first second link′
+  m′ = columns tag first second link′
 
   lc : c < n
   lc = class-below h e le
@@ -107,6 +96,10 @@ module _ (tag first second link : List ℕ) (n : ℕ) (h : Holds (memory tag fir
       go (yes p) = omega (arith, ap (keptAt m′) p, keeping-new link c r inside small)
       go (no q) = omega (arith, keeping-old link c r inside small k q, h .each k l .kept)
 
+  head-same : (b : ℕ) → headFor m′ n b ≡ headFor m n b
+  unfolding headFor
+  head-same b = rw (keeping-head link c r inside small b) refl
+
   holds-kept : Holds m′ n
   unfolding expressionAt
   holds-kept = record {
@@ -119,6 +112,7 @@ module _ (tag first second link : List ℕ) (n : ℕ) (h : Holds (memory tag fir
           sized = rw (tree-same k) (g .sized);
           deep = rw (tree-same k) (g .deep);
           limited = rw (tree-same k) (g .limited);
+          home = g .home ∙ sym (bucket-same k);
           classed = rw (tree-same k, trees-same) (keeping-class link c r inside small k ∙ g .classed);
           kept = kept-within k l;
           next =
@@ -127,7 +121,7 @@ module _ (tag first second link : List ℕ) (n : ℕ) (h : Holds (memory tag fir
         };
     apart = λ i j l o p. h .apart i j l o (sym (tree-same i) ∙ p ∙ tree-same j);
     heads = λ b l.
-        keeping-head link c r inside small b ∙ h .heads b (rw (sym room-same) l) ∙ latest-alike (bucketAt m) (bucketAt m′) b n λ i o. sym (bucket-same i);
+        head-same b ∙ h .heads b (rw (sym room-same) l) ∙ latest-alike (bucketAt m) (bucketAt m′) b n λ i o. sym (bucket-same i);
   }
 
   abbrev te : Tree
@@ -155,23 +149,36 @@ module _ (tag first second link : List ℕ) (n : ℕ) (h : Holds (memory tag fir
           (linked-alike m m′ n (keptAt m p) (λ i o. tree-same i) (h .each p l .kept))
       go (no q) = rw (trees-same, le-ltb (place (equal v) (trees m n)) n (omega (arith, q))) refl
 
-  pub kept-built : (calls : ℕ) → Built (gives (treeAt m r) (keep te (treeAt m r) (stateOf m n calls))) (Added.Node r n calls) n m m′
+  kept-answer : (calls : ℕ) → gives (treeAt m′ r) (stateOf m′ n calls) ≡ gives (treeAt m r) (keep te (treeAt m r) (stateOf m n calls))
   unfolding keep
-  kept-built calls = record {
-    answer = let f : keptFor m′ n ≡ (λ v. cond (equal te v) (result (treeAt m r)) (keptFor m n v)) = fun-ext λ v. kept-here v (equal te v) refl in rw (tree-same r, room-same, trees-same, f) refl;
-    after = record { holds = holds-kept; inside = lr; grew = omega arith; stays = λ k l. tree-same k };
-  }
+  kept-answer calls =
+      let f : keptFor m′ n ≡ (λ v. cond (equal te v) (result (treeAt m r)) (keptFor m n v)) = fun-ext λ v. kept-here v (equal te v) refl in
+      rw (tree-same r, room-same, trees-same, f) refl
+
+pub keeps : (m : Memory) (e r : ℕ) {m′ : Memory} → m′ ≡ keptBy m e r → Keeps m m′ e r
+unfolding stateIn
+keeps m e r {m′} x desk h le lr =
+    let n = count desk in
+    let k = holds-kept (m .tag) (m .first) (m .second) (m .link) n (h .holds) e r le lr in
+    let s : Sound (record { rows = keptBy m e r; desk = desk }) = record { holds = k; long = h .long } in
+    rw x
+    (record {
+      answer = seen-node r (record { rows = keptBy m e r; desk = desk }) (number-small h lr) ∙ kept-answer (m .tag) (m .first) (m .second) (m .link) n (h .holds) e r le lr (callsOn desk);
+      inside = λ _. lr;
+      step = record { sound = s; grew = omega arith; stays = λ i o. tree-same (m .tag) (m .first) (m .second) (m .link) n (h .holds) e r le lr i };
+    })
 
 -- ---- the start of a store
 
-pub starts : (link : List ℕ) → Starts link (replicate (length link) 0)
-unfolding room trees keptFor place latest headOn
-starts link tag first second = record {
-  holds = record {
-    fits = omega arith;
-    each = λ k l. absurd (omega arith);
-    apart = λ i j l. absurd (omega arith);
-    heads = λ b l. ap (headIn b) (getD-zeros (length link) (b / 2)) ∙ half-zero (eqb (b % 2) 0);
-  };
-  begins = λ calls. rw (length-replicate {A = ℕ} (length link) 0) refl;
+pub holds-none : (m : Memory) → Holds m 0
+unfolding trees place latest
+holds-none m = record {
+  fits = omega arith;
+  each = λ k l. absurd (omega arith);
+  apart = λ i j l. absurd (omega arith);
+  heads = λ b l. omega (arith, head-within m 0 b);
 }
+
+pub starts : {desk desk′ : List ℕ} → desk′ ≡ replicate 272 0 → (store : List (List ℕ)) → Begun (lent store desk) (lent store desk′)
+unfolding stateIn trees keptFor count callsOn place
+starts y store = rw y (record { sound = record { holds = holds-none (memory store); long = refl }; begins = refl })

@@ -7,7 +7,9 @@ mod Walks
 mod Packing
 pub mod Seeking
 mod Links
+pub mod Rows
 pub mod Building
+pub mod Asking
 mod Growing
 mod Adding
 mod Keeping

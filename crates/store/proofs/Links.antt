@@ -24,14 +24,6 @@ same-word : (link link′ : List ℕ) (k : ℕ) → getD link′ k 0 ≡ getD li
 unfolding classOn keptOn nextOn
 same-word link link′ k e = record { class = ap classIn e; kept = ap keptIn e; next = ap nextIn e }
 
-head-small : (link : List ℕ) (b : ℕ) → headOn link b < 8192
-unfolding headOn
-head-small link b = go (eqb (b % 2) 0)
-  where
-    go : (c : Bool) → cond c (getD link (b / 2) 0 % 8192) (getD link (b / 2) 0 / 8192 % 8192) < 8192
-    go true = mod-lt (getD link (b / 2) 0) (omega arith)
-    go false = mod-lt (getD link (b / 2) 0 / 8192) (omega arith)
-
 -- a word with the same heads, in its place
 same-heads : (link : List ℕ) (c v : ℕ) → c < length link → v % 8192 ≡ getD link c 0 % 8192 → v / 8192 % 8192 ≡ getD link c 0 / 8192 % 8192
     → (b : ℕ) → headOn (set link c v) b ≡ headOn link b
@@ -42,22 +34,22 @@ same-heads link c v l e d b = go (ℕ-discrete (b / 2) c)
     go (yes p) = rw (p, getD-set-same link c v 0 l) (half-same (eqb (b % 2) 0) v (getD link c 0) e d)
     go (no q) = ap (headIn b) (getD-set-other link c (b / 2) v 0 q)
 
-module _ (link : List ℕ) (n class bucket : ℕ) (ln : n < length link) (lb : bucket / 2 < length link) (sn : n < 8191) (sc : class < 4096) where
+module _ (link : List ℕ) (n class head bucket : ℕ) (ln : n < length link) (lb : bucket / 2 < length link) (sn : n < 8191) (sc : class < 4096) (sh : head < 8192) where
   abbrev own : List ℕ
-  own = withOwn link n class bucket
+  own = withOwn link n class head
 
   length-own : length own ≡ length link
   unfolding withOwn
   length-own = length-set link n _
 
-  pub length-joined : length (joined link n class bucket) ≡ length link
+  pub length-joined : length (joined link n class head bucket) ≡ length link
   unfolding joined
   length-joined = length-set own (bucket / 2) _ ∙ length-own
 
-  word : Linked (withNode (getD link n 0) class (headOn link bucket)) (getD link n 0 % 8192) (getD link n 0 / 8192 % 8192) class 0 (headOn link bucket)
-  word = with-node (getD link n 0) class (headOn link bucket) sc (head-small link bucket)
+  word : Linked (withNode (getD link n 0) class head) (getD link n 0 % 8192) (getD link n 0 / 8192 % 8192) class 0 head
+  word = with-node (getD link n 0) class head sc sh
 
-  own-word : getD own n 0 ≡ withNode (getD link n 0) class (headOn link bucket)
+  own-word : getD own n 0 ≡ withNode (getD link n 0) class head
   unfolding withOwn
   own-word = getD-set-same link n _ 0 ln
 
@@ -79,15 +71,15 @@ module _ (link : List ℕ) (n class bucket : ℕ) (ln : n < length link) (lb : b
   abbrev old : ℕ
   old = getD own c 0
 
-  set-word : getD (joined link n class bucket) c 0 ≡ withHalf even old n
+  set-word : getD (joined link n class head bucket) c 0 ≡ withHalf even old n
   unfolding joined
   set-word = getD-set-same own c _ 0 (rw length-own lb)
 
-  joined-rest : (k : ℕ) → Rest own (joined link n class bucket) k
+  joined-rest : (k : ℕ) → Rest own (joined link n class head bucket) k
   unfolding joined classOn keptOn nextOn
   joined-rest k = go (ℕ-discrete k c)
     where
-      go : Dec (k ≡ c) → Rest own (joined link n class bucket) k
+      go : Dec (k ≡ c) → Rest own (joined link n class head bucket) k
       go (yes p) =
           let r = half-rest even old n sn in
           rw p (record { class = ap classIn set-word ∙ r .class; kept = ap keptIn set-word ∙ r .kept; next = ap nextIn set-word ∙ r .next })
@@ -95,33 +87,33 @@ module _ (link : List ℕ) (n class bucket : ℕ) (ln : n < length link) (lb : b
 
   -- ---- what the links are then
 
-  pub rest-old : (k : ℕ) → (k ≡ n → ⊥) → Rest link (joined link n class bucket) k
+  pub rest-old : (k : ℕ) → (k ≡ n → ⊥) → Rest link (joined link n class head bucket) k
   rest-old k q =
       let a = joined-rest k in
       let b = own-old k q in
       record { class = a .class ∙ b .class; kept = a .kept ∙ b .kept; next = a .next ∙ b .next }
 
-  pub class-new : classOn (joined link n class bucket) n ≡ class
+  pub class-new : classOn (joined link n class head bucket) n ≡ class
   unfolding classOn
   class-new = joined-rest n .class ∙ ap classIn own-word ∙ word .class
 
-  pub kept-new : keptOn (joined link n class bucket) n ≡ 0
+  pub kept-new : keptOn (joined link n class head bucket) n ≡ 0
   unfolding keptOn
   kept-new = joined-rest n .kept ∙ ap keptIn own-word ∙ word .kept
 
-  pub next-new : nextOn (joined link n class bucket) n ≡ headOn link bucket
+  pub next-new : nextOn (joined link n class head bucket) n ≡ head
   unfolding nextOn
   next-new = joined-rest n .next ∙ ap nextIn own-word ∙ word .next
 
-  pub head-old : (b : ℕ) → (b ≡ bucket → ⊥) → headOn (joined link n class bucket) b ≡ headOn link b
+  pub head-old : (b : ℕ) → (b ≡ bucket → ⊥) → headOn (joined link n class head bucket) b ≡ headOn link b
   unfolding joined headOn
   head-old b q = go (ℕ-discrete (b / 2) c) ∙ own-head b
     where
-      go : Dec (b / 2 ≡ c) → headIn b (getD (joined link n class bucket) (b / 2) 0) ≡ headIn b (getD own (b / 2) 0)
+      go : Dec (b / 2 ≡ c) → headIn b (getD (joined link n class head bucket) (b / 2) 0) ≡ headIn b (getD own (b / 2) 0)
       go (yes p) = rw (p, set-word) (half-other even (eqb (b % 2) 0) old n sn (siblings b bucket p q))
       go (no x) = ap (headIn b) (getD-set-other own c (b / 2) _ 0 x)
 
-  pub head-new : headOn (joined link n class bucket) bucket ≡ n + 1
+  pub head-new : headOn (joined link n class head bucket) bucket ≡ n + 1
   unfolding headOn
   head-new = rw set-word (half-new even old n sn)
 

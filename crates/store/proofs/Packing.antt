@@ -6,7 +6,7 @@ use Prim.Native.Nat.{ℕ, _+_, _*_, _%_, _/_, _≤_, _<_}
 use native.Mathlib.Nat.{div-div-eq-div-mul}
 use native.Mathlib.Omega.{arith}
 use lib.Dec.{T, eqb, eqb→eq, eqb-refl}
-use Rattle.store.specs.Words.{codeIn, sizeIn, depthIn, tagOf, classIn, keptIn, nextIn, withNode, withKept}
+use Rattle.store.specs.Words.{codeIn, sizeIn, depthIn, homeIn, tagOf, classIn, keptIn, nextIn, withNode, withKept}
 use Rattle.store.specs.Memory.{sizeOn, depthOn}
 
 -- ---- bounds of what is read
@@ -21,13 +21,14 @@ depth-small tag k e = omega arith
 
 -- ---- a tag
 
-pub record Tagged (w c s d : ℕ) : Type 0 where
+pub record Tagged (w c s d h : ℕ) : Type 0 where
   pub code : codeIn w ≡ c
   pub size : sizeIn w ≡ s
   pub depth : depthIn w ≡ d
+  pub home : homeIn w ≡ h
 
-pub tagged : (c s d : ℕ) → c < 64 → s ≤ 1000000 → d ≤ 64 → Tagged (tagOf c s d) c s d
-tagged c s d l m o = record { code = omega arith; size = omega arith; depth = omega arith }
+pub tagged : (c s d h : ℕ) → c < 64 → s ≤ 1000000 → d ≤ 64 → h < 8192 → Tagged (tagOf c s d h) c s d h
+tagged c s d h l m o p = record { code = omega arith; size = omega arith; depth = omega arith; home = omega arith }
 
 -- ---- a link: its fields, with the heads of an even and of an odd bucket
 

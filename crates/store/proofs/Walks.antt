@@ -1,21 +1,58 @@
 -- A walk through a chain of the index: what has been passed, how it begins, goes on and ends. Assumes nothing.
 use mathlib.Core.Path.{_≡_, refl, sym, ap, _∙_, subst}
 use mathlib.Core.Logic.{⊎-elim}
-use mathlib.Core.Bool.{Bool, true, false}
+use mathlib.Core.Bool.{Bool, true, false, cond}
 use Prim.Native.Nat.{ℕ, zero, suc, _-_, _*_, _%_, _≤_, _<_, min}
 use native.Mathlib.Nat.{eq-or-lt-of-le, mod-lt, mod-eq-of-lt, mul-comm, mul-lt-mul-of-pos-left, mul-le-mul, div-lt-iff-lt-mul}
 use native.Mathlib.Omega.{arith}
 use native.Mathlib.Decide.{ℕ-discrete, decLt}
+use borrow.Author.Tests.{lt-ltb, le-ltb, eq-eqb, ne-eqb, ltb-false}
+use lib.Dec.{ltb, eqb}
 use lib.ListN.{getD}
 use Rattle.store.specs.declared.index.Meeting.{Meeting}
 use Rattle.store.specs.declared.node.Fields.{Fields}
 use Rattle.store.specs.Words.{codeIn}
-use Rattle.store.specs.Memory.{Memory, room, fieldsOn, fieldsAt, headAt, classAt, nextAt}
-use Rattle.store.specs.Index.{keyAs, keyOf, hash, bucketOf, keyAt, bucketAt, latest}
+use Rattle.store.specs.Memory.{Memory, room, fieldsOn, fieldsAt, headAt, homeAt, classAt, nextAt}
+use Rattle.store.specs.Index.{keyAs, keyOf, hash, bucketOf, keyAt, bucketAt, headFor, latest}
 use Rattle.store.specs.Held.{Holds}
 use Rattle.store.specs.Walk.{Kinship, kin, stranger, Meets, Walked, Tells}
 use Rattle.store.proofs.Trees.{room-each}
 use Rattle.store.proofs.Places.{latest-within, latest-hit, latest-miss}
+
+-- ---- the head of a bucket
+
+-- one of the n, plus one, or 0
+pub head-within : (m : Memory) (n b : ℕ) → headFor m n b ≤ n
+unfolding headFor
+head-within m n b = go (ltb n (headAt m b)) refl (eqb (homeAt m (headAt m b - 1)) b)
+  where
+    go : (c : Bool) → ltb n (headAt m b) ≡ c → (e : Bool) → cond c 0 (cond e (headAt m b) 0) ≤ n
+    go true x e = omega arith
+    go false x true = ltb-false n (headAt m b) x
+    go false x false = omega arith
+
+-- where the word has none, or none of the n, or one that is at home elsewhere
+pub no-head : (m : Memory) (n b : ℕ) {h : ℕ} → h ≡ headAt m b → h ≡ 0 → _≡_ {A = ℕ} 0 (headFor m n b)
+unfolding headFor
+no-head m n b e z = rw (sym e ∙ z) (none (ltb n 0) (eqb (homeAt m (0 - 1)) b))
+  where
+    none : (c d : Bool) → _≡_ {A = ℕ} 0 (cond c 0 (cond d 0 0))
+    none true d = refl
+    none false true = refl
+    none false false = refl
+
+pub past-head : (m : Memory) (n b : ℕ) {h : ℕ} → h ≡ headAt m b → n < h → _≡_ {A = ℕ} 0 (headFor m n b)
+unfolding headFor
+past-head m n b e l = rw (lt-ltb n (headAt m b) (omega (arith, e, l))) refl
+
+pub head-home : (m : Memory) (n b : ℕ) {h : ℕ} → h ≡ headAt m b → h ≤ n → homeAt m (h - 1) ≡ b → h ≡ headFor m n b
+unfolding headFor
+head-home m n b e l x = rw (le-ltb n (headAt m b) (omega (arith, e, l)), eq-eqb (homeAt m (headAt m b - 1)) b (ap (λ k. homeAt m (k - 1)) (sym e) ∙ x)) e
+
+pub head-elsewhere : (m : Memory) (n b : ℕ) {h : ℕ} → h ≡ headAt m b → h ≤ n → (homeAt m (h - 1) ≡ b → ⊥) → _≡_ {A = ℕ} 0 (headFor m n b)
+unfolding headFor
+head-elsewhere m n b e l x =
+    rw (le-ltb n (headAt m b) (omega (arith, e, l)), ne-eqb (homeAt m (headAt m b - 1)) b (λ y. x (ap (λ k. homeAt m (k - 1)) e ∙ y))) refl
 
 -- what a Boolean answer tells
 pub told : {A : Type 0} {b : Bool} → b ≡ true → Tells b A → A
@@ -55,12 +92,12 @@ module _ {m : Memory} {n : ℕ} (h : Holds m n) (f key : Fields) (k : key ≡ ke
 
   module _ (bucket : ℕ) (e : bucket ≡ bucketOf (room m) key) where
     -- the walk begins at the head of the bucket
-    pub begins : (at : ℕ) → at ≡ min (headAt m bucket) n → Passed m n f key bucket at n
+    pub begins : (at : ℕ) → at ≡ headFor m n bucket → Passed m n f key bucket at n
     begins at d =
         ⊎-elim
         (λ z. record {
-          within = omega arith;
-          bucketed = λ o. absurd (omega arith);
+          within = omega (arith, d, head-within m n bucket);
+          bucketed = λ o. absurd (omega (arith, d, z, o, head-within m n bucket));
           none = λ j a l. absurd (omega arith);
           kinship = stranger refl λ j a l. absurd (omega arith);
         })
@@ -72,7 +109,7 @@ module _ {m : Memory} {n : ℕ} (h : Holds m n) (f key : Fields) (k : key ≡ ke
             let r : 0 < room m = omega (arith, h .fits) in
             let l : bucket < 2 * room m = rw e (bucket-below (room m) key r (omega (arith, room-each m (room m) (omega arith) .most))) in
             let w = latest-within (bucketAt m) bucket n in
-            let d′ : at ≡ latest (bucketAt m) bucket n = d ∙ omega (arith, h .heads bucket l, w) in
+            let d′ : at ≡ latest (bucketAt m) bucket n = d ∙ h .heads bucket l in
             rw d′
             (record {
               within = w;

@@ -1,22 +1,21 @@
--- When the slices hold a store, and what a function that builds in it ensures. Only connecting.
-use Prim.Native.Nat.{ℕ, _*_, _≤_, _<_}
+-- When what is lent holds a store, and what a function that builds in it ensures. Only connecting.
+use Prim.Native.Nat.{ℕ, _-_, _*_, _≤_, _<_}
 use mathlib.Core.Path.{_≡_}
 use mathlib.Core.Bool.{Bool, cond}
 use mathlib.Core.List.{List}
-use Rattle.expression.specs.declared.refusal.Refusal.{Refusal}
-use Rattle.expression.specs.Trees.{size, depth}
+use lib.Dec.{ltb}
+use lib.ListN.{length}
+use Rattle.memory.specs.Layout.{deskWords}
+use Rattle.expression.specs.Trees.{Tree, size, depth}
 use Rattle.expression.specs.Alike.{equal}
 use Rattle.expression.specs.Limits.{Limited}
 use Rattle.expression.specs.declared.node.Expression.{Expression}
-use Rattle.store.specs.declared.Added.{Added}
-use Rattle.store.specs.declared.Kept.{Kept}
-use Rattle.store.specs.declared.Verdict.{Verdict}
 use Rattle.store.specs.Nodes.{fieldsOf}
 use Rattle.expression.specs.Nodes.{Within}
-use Rattle.store.specs.Storing as Storing
-use Rattle.store.specs.Storing.{Answer, gives, refused, intern, keep, recall, nothing, result, fresh, place}
-use Rattle.store.specs.Memory.{Memory, memory, room, fieldsAt, sizeAt, depthAt, headAt, classAt, keptAt, nextAt, expressionAt, trees, treeAt, treeOf, stateOf}
-use Rattle.store.specs.Index.{bucketAt, latest}
+use Rattle.store.specs.Storing.{State, Answer, gives, refused, intern, keep, recall, fresh, place}
+use Rattle.store.specs.Memory.{Memory, memory, room, fieldsAt, sizeAt, depthAt, homeAt, classAt, keptAt, nextAt, expressionAt, trees, treeAt, treeOf, linked, stateOf}
+use Rattle.store.specs.Index.{bucketAt, headFor, latest}
+use Rattle.store.specs.Desk.{count, callsOn, refusalOn, refusedFrom}
 
 -- what is right of node k, one of n
 pub record Right (m : Memory) (n k : ℕ) : Type 0 where
@@ -25,6 +24,7 @@ pub record Right (m : Memory) (n k : ℕ) : Type 0 where
   pub sized : sizeAt m k ≡ size (treeAt m k)
   pub deep : depthAt m k ≡ depth (treeAt m k)
   pub limited : Limited (treeAt m k)
+  pub home : homeAt m k ≡ bucketAt m k
   pub classed : classAt m k ≡ place (equal (treeAt m k)) (trees m n)
   pub kept : keptAt m k ≤ n
   pub next : nextAt m k ≡ latest (bucketAt m) (bucketAt m k) k
@@ -34,76 +34,71 @@ pub record Holds (m : Memory) (n : ℕ) : Type 0 where
   pub fits : n ≤ room m
   pub each : (k : ℕ) → k < n → Right m n k
   pub apart : (i j : ℕ) → i < n → j < n → treeAt m i ≡ treeAt m j → i ≡ j
-  pub heads : (b : ℕ) → b < 2 * room m → headAt m b ≡ latest (bucketAt m) b n
+  pub heads : (b : ℕ) → b < 2 * room m → headFor m n b ≡ latest (bucketAt m) b n
 
--- from n nodes in m to n′ nodes in m′, of which one is at i: the nodes that stood have the trees that they had
-pub record Step (n : ℕ) (m : Memory) (i n′ : ℕ) (m′ : Memory) : Type 0 where
-  pub holds : Holds m′ n′
-  pub inside : i < n′
-  pub grew : n ≤ n′
-  pub stays : (k : ℕ) → k < n → treeAt m′ k ≡ treeAt m k
+-- all that is lent to what builds
+pub record Lent : Type 0 where
+  pub rows : Memory
+  pub desk : List ℕ
 
--- an answer of the code, as one on trees
-abbrev pub seen : Added → Memory → Answer
-seen (Added.Node i n calls) m = gives (treeAt m i) (stateOf m n calls)
-seen (Added.Refused why) m = refused why
+abbrev pub lent : (store : List (List ℕ)) (desk : List ℕ) → Lent
+lent store desk = record { rows = memory store; desk = desk }
 
--- after a refusal nothing is said of the slices, which are only cleared then
-abbrev pub After : Added → ℕ → Memory → Memory → Type 0
-After (Added.Node i n′ calls) n m m′ = Step n m i n′ m′
-After (Added.Refused why) n m m′ = Unit {0}
+abbrev pub treeIn : Lent → ℕ → Tree
+treeIn l k = treeAt (l .rows) k
 
--- what each function that builds ensures, where it started from n nodes in m: it answers `want`
-pub record Built (want : Answer) (r : Added) (n : ℕ) (m m′ : Memory) : Type 0 where
-  pub answer : seen r m′ ≡ want
-  pub after : After r n m m′
+unfoldable pub stateIn : Lent → State
+stateIn l = stateOf (l .rows) (count (l .desk)) (callsOn (l .desk))
 
--- adding a node: where n nodes are a store and the operands are among them, the tree is stored as the definition says
-abbrev pub Adds : (n : ℕ) (e : Expression) (calls : ℕ) (r : Added) (m m′ : Memory) → Type 0
-Adds n e calls r m m′ = Holds m n → Within n e → Built (intern (treeOf m e) (stateOf m n calls)) r n m m′
+-- what is lent holds a store
+pub record Sound (l : Lent) : Type 0 where
+  pub holds : Holds (l .rows) (count (l .desk))
+  pub long : length (l .desk) ≡ deskWords
 
--- the limits in 01's order
-abbrev pub judged : (big deep room : Bool) → Verdict
-judged big deep room = cond big (Verdict.Refused Refusal.Big) (cond deep (Verdict.Refused Refusal.Deep) (cond room Verdict.Allowed (Verdict.Refused Refusal.Room)))
+-- the nodes that stood have the trees that they had
+pub record Step (l l′ : Lent) : Type 0 where
+  pub sound : Sound l′
+  pub grew : count (l .desk) ≤ count (l′ .desk)
+  pub stays : (k : ℕ) → k < count (l .desk) → treeIn l′ k ≡ treeIn l k
 
--- ---- what the functions of `link` alone ensure, whatever the other slices are
+-- an answer of the code, one word, as one on trees
+unfoldable pub seen : ℕ → Lent → Answer
+seen r l = cond (ltb r refusedFrom) (gives (treeIn l r) (stateIn l)) (refused (refusalOn (r - refusedFrom) (l .desk)) (stateIn l))
+
+-- what each function that builds ensures, from l to l′: it answers `want`; a node is one of those that stand; and a store is held, after a
+-- refusal too
+pub record Built (want : Answer) (r : ℕ) (l l′ : Lent) : Type 0 where
+  pub answer : seen r l′ ≡ want
+  pub inside : r < refusedFrom → r < count (l′ .desk)
+  pub step : Step l l′
+
+-- the same of what starts from a store and is about nodes that stand
+abbrev pub Builds : (Of : Lent → Type 0) (want : Lent → State → Answer) (r : ℕ) (l l′ : Lent) → Type 0
+Builds Of want r l l′ = Sound l → Of l → Built (want l (stateIn l)) r l l′
+
+-- adding a node: where its operands stand, the tree is stored as the definition says
+abbrev pub Adds : (e : Expression) (r : ℕ) (l l′ : Lent) → Type 0
+Adds e = Builds (λ l. Within (count (l .desk)) e) (λ l. intern (treeOf (l .rows) e))
+
+-- the limits in 01's order, by their numbers; 0 if none is passed
+unfoldable pub judged : (big deep room : Bool) → ℕ
+judged big deep room = cond big 6 (cond deep 7 (cond room 0 8))
 
 -- from m to m′ the result r of e is kept
-abbrev pub KeepsFrom : (m m′ : Memory) (e r : ℕ) → Type 0
-KeepsFrom m m′ e r =
-    (n calls : ℕ) → Holds m n → e < n → r < n
-    → Built (gives (treeAt m r) (keep (treeAt m e) (treeAt m r) (stateOf m n calls))) (Added.Node r n calls) n m m′
+abbrev pub Keeps : (m m′ : Memory) (e r : ℕ) → Type 0
+Keeps m m′ e r =
+    (desk : List ℕ) → Sound (record { rows = m; desk = desk }) → e < count desk → r < count desk
+    → Built (gives (treeAt m r) (keep (treeAt m e) (treeAt m r) (stateIn (record { rows = m; desk = desk })))) r (record { rows = m; desk = desk }) (record { rows = m′; desk = desk })
 
-abbrev pub Keeps : (link link′ : List ℕ) (e r : ℕ) → Type 0
-Keeps link link′ e r = (tag first second : List ℕ) → KeepsFrom (memory tag first second link) (memory tag first second link′) e r
-
--- a kept result of the code, as one on trees; and that it is one of the nodes
-abbrev pub keptSeen : Kept → Memory → Storing.Kept
-keptSeen Kept.Nothing m = nothing
-keptSeen (Kept.Result i) m = result (treeAt m i)
-
-abbrev pub KeptIn : ℕ → Kept → Type 0
-KeptIn n Kept.Nothing = Unit {0}
-KeptIn n (Kept.Result i) = i < n
-
--- r is what is kept for the tree of e
-abbrev pub RecallsIn : (m : Memory) (e : ℕ) (r : Kept) → Type 0
-RecallsIn m e r = (n calls : ℕ) → Holds m n → e < n → KeptIn n r × (keptSeen r m ≡ recall (treeAt m e) (stateOf m n calls))
-
-abbrev pub Recalls : (link : List ℕ) (e : ℕ) (r : Kept) → Type 0
-Recalls link e r = (tag first second : List ℕ) → RecallsIn (memory tag first second link) e r
+-- r is 0 or the number, plus one, of the node that is kept for the tree of e
+abbrev pub Recalls : (m : Memory) (e r : ℕ) → Type 0
+Recalls m e r = (n calls : ℕ) → Holds m n → e < n → (r ≤ n) × (linked m r ≡ recall (treeAt m e) (stateOf m n calls))
 
 -- r says whether the trees of a and b are equal
-abbrev pub ComparesIn : (m : Memory) (a b : ℕ) (r : Bool) → Type 0
-ComparesIn m a b r = (n : ℕ) → Holds m n → a < n → b < n → r ≡ equal (treeAt m a) (treeAt m b)
+abbrev pub Compares : (m : Memory) (a b : ℕ) (r : Bool) → Type 0
+Compares m a b r = (n : ℕ) → Holds m n → a < n → b < n → r ≡ equal (treeAt m a) (treeAt m b)
 
-abbrev pub Compares : (link : List ℕ) (a b : ℕ) (r : Bool) → Type 0
-Compares link a b r = (tag first second : List ℕ) → ComparesIn (memory tag first second link) a b r
-
--- there is a store with no node and nothing kept, with as much room
-pub record Begun (m m′ : Memory) : Type 0 where
-  pub holds : Holds m′ 0
-  pub begins : (calls : ℕ) → stateOf m′ 0 calls ≡ fresh (room m) calls
-
-abbrev pub Starts : (link link′ : List ℕ) → Type 0
-Starts link link′ = (tag first second : List ℕ) → Begun (memory tag first second link) (memory tag first second link′)
+-- there is a store with no node and nothing kept, with as much room, and no call was made
+pub record Begun (l l′ : Lent) : Type 0 where
+  pub sound : Sound l′
+  pub begins : stateIn l′ ≡ fresh (room (l .rows)) 0

@@ -1,8 +1,9 @@
--- The definitions that the contracts of `store` cite. To believe: Storing. The others only connect slices with trees.
+-- The definitions that the contracts of `store` cite. To believe: Storing. The others only connect rows and desk with trees.
 pub mod Words
 pub mod Nodes
 pub mod Storing
 pub mod Memory
+pub mod Desk
 pub mod Index
 pub mod Held
 pub mod Walk

@@ -1,28 +1,44 @@
--- What the four slices hold, read as numbered nodes and as trees. Only connecting: no definition on trees rests on this page.
+-- What the lent rows hold, read as numbered nodes and as trees. Only connecting: no definition on trees rests on this page.
 use Prim.Native.Nat.{ℕ, zero, suc, _/_, min}
-use mathlib.Core.List.{List, [], _∷_, _++_}
+use mathlib.Core.List.{List, [], _∷_, _++_, map}
 use mathlib.Core.Bool.{Bool, cond}
-use lib.ListN.{length, getD, replicate}
+use lib.ListN.{length, getD, set}
 use lib.Dec.{ltb}
 use Rattle.expression.specs.Trees.{Tree, leaf, pi}
 use Rattle.expression.specs.Alike.{equal}
 use Rattle.expression.specs.declared.node.Expression.{Expression}
 use Rattle.store.specs.declared.node.Fields.{Fields}
-use Rattle.store.specs.Words.{codeIn, sizeIn, depthIn, headIn, classIn, keptIn, nextIn}
+use Rattle.store.specs.Words.{codeIn, sizeIn, depthIn, homeIn, headIn, classIn, keptIn, nextIn}
 use Rattle.store.specs.Nodes.{fields, expressionOf}
 use Rattle.expression.specs.Nodes.{grown}
 use Rattle.store.specs.Storing.{Kept, nothing, result, State, state, place}
 
+-- the nodes, a list for each of the four words of a row
 pub record Memory : Type 0 where
   pub tag : List ℕ
   pub first : List ℕ
   pub second : List ℕ
   pub link : List ℕ
 
-abbrev pub memory : List ℕ → List ℕ → List ℕ → List ℕ → Memory
-memory tag first second link = record { tag = tag; first = first; second = second; link = link }
+abbrev pub columns : (tag first second link : List ℕ) → Memory
+columns tag first second link = record { tag = tag; first = first; second = second; link = link }
 
--- the fields of node k, each from the slice that has it
+-- word k of each row
+unfoldable pub column : ℕ → List (List ℕ) → List ℕ
+column k rows = map (λ row. getD row k 0) rows
+
+-- the lent rows as nodes. It stays shut: the laws of proofs/Rows alone open it
+unfoldable pub memory : (rows : List (List ℕ)) → Memory
+memory rows = columns (column 0 rows) (column 1 rows) (column 2 rows) (column 3 rows)
+
+-- node i becomes these words, or its link this one; past the end nothing does
+abbrev pub withRow : Memory → (i tag first second link : ℕ) → Memory
+withRow m i tag first second link = columns (set (m .tag) i tag) (set (m .first) i first) (set (m .second) i second) (set (m .link) i link)
+
+abbrev pub withLink : Memory → (i link : ℕ) → Memory
+withLink m i link = columns (m .tag) (m .first) (m .second) (set (m .link) i link)
+
+-- the fields of node k, each from the word that has it
 unfoldable pub fieldsOn : (tag first second : List ℕ) → ℕ → Fields
 fieldsOn tag first second k = fields (codeIn (getD tag k 0)) (getD first k 0) (getD second k 0)
 
@@ -31,6 +47,9 @@ sizeOn tag k = sizeIn (getD tag k 0)
 
 unfoldable pub depthOn : (tag : List ℕ) → ℕ → ℕ
 depthOn tag k = depthIn (getD tag k 0)
+
+unfoldable pub homeOn : (tag : List ℕ) → ℕ → ℕ
+homeOn tag k = homeIn (getD tag k 0)
 
 unfoldable pub headOn : (link : List ℕ) → ℕ → ℕ
 headOn link b = headIn b (getD link (b / 2) 0)
@@ -45,7 +64,7 @@ unfoldable pub nextOn : (link : List ℕ) → ℕ → ℕ
 nextOn link k = nextIn (getD link k 0)
 
 module _ (m : Memory) where
-  -- "The store's capacity is the shortest work slice, at most 4096"
+  -- how many nodes there is room for
   unfoldable pub room : ℕ
   room = min (min (min (length (m .tag)) (length (m .first))) (min (length (m .second)) (length (m .link)))) 4096
 
@@ -57,6 +76,9 @@ module _ (m : Memory) where
 
   abbrev pub depthAt : ℕ → ℕ
   depthAt = depthOn (m .tag)
+
+  abbrev pub homeAt : ℕ → ℕ
+  homeAt = homeOn (m .tag)
 
   abbrev pub headAt : ℕ → ℕ
   headAt = headOn (m .link)
@@ -97,7 +119,3 @@ module _ (m : Memory) where
 
   abbrev pub stateOf : (n calls : ℕ) → State
   stateOf n calls = state room (trees n) (keptFor n) calls
-
--- zero over the whole length of each slice
-abbrev pub cleared : Memory → Memory
-cleared m = memory (replicate (length (m .tag)) 0) (replicate (length (m .first)) 0) (replicate (length (m .second)) 0) (replicate (length (m .link)) 0)

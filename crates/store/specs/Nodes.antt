@@ -1,4 +1,4 @@
--- How a node stands in the slices: its fields, and the node that fields are. Only connecting.
+-- How a node stands in its row: its fields, and the node that fields are. Only connecting.
 use Prim.Native.Nat.{ℕ, zero, suc, _%_, _/_}
 use Rattle.complex.specs.Bits.{bitsOf}
 use Rattle.complex.specs.Constants.{ofParts}

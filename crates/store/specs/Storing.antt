@@ -19,15 +19,15 @@ pub data Kept : Type 0 where
 pub data State : Type 0 where
   state : (room : ℕ) (stored : List Tree) (kept : Tree → Kept) (calls : ℕ) → State
 
--- an answer: a tree, which is stored then, with the state; or a refusal
+-- an answer: a tree, which is stored then; or a refusal. Each with the state then
 pub data Answer : Type 0 where
   gives : Tree → State → Answer
-  refused : Refusal → Answer
+  refused : Refusal → State → Answer
 
 -- one step after another; a refusal is passed on
 unfoldable pub andThen : Answer → (Tree → State → Answer) → Answer
 andThen (gives t s) next = next t s
-andThen (refused why) next = refused why
+andThen (refused why s) next = refused why s
 
 -- "A node is new if no stored node has the same kind, operator, children and bits"
 unfoldable pub among : List Tree → Tree → Bool
@@ -43,10 +43,10 @@ place test (t ∷ ts) = cond (test t) 0 (suc (place test ts))
 unfoldable pub intern : Tree → State → Answer
 intern t (state room stored kept calls) =
     cond (among stored t) (gives t (state room stored kept calls))
-    (cond (ltb largest (size t)) (refused Refusal.Big)
-    (cond (ltb deepest (depth t)) (refused Refusal.Deep)
+    (cond (ltb largest (size t)) (refused Refusal.Big (state room stored kept calls))
+    (cond (ltb deepest (depth t)) (refused Refusal.Deep (state room stored kept calls))
     (cond (ltb (length stored) room) (gives t (state room (stored ++ (t ∷ [])) kept calls))
-    (refused Refusal.Room))))
+    (refused Refusal.Room (state room stored kept calls)))))
 
 -- what is kept for a tree
 unfoldable pub recall : Tree → State → Kept

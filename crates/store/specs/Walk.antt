@@ -4,8 +4,9 @@ use mathlib.Core.Path.{_≡_}
 use mathlib.Core.Bool.{Bool, true, false}
 use Rattle.store.specs.declared.index.Meeting.{Meeting}
 use Rattle.store.specs.declared.node.Fields.{Fields}
-use Rattle.store.specs.Memory.{Memory, fieldsAt, classAt}
-use Rattle.store.specs.Index.{keyAt}
+use Rattle.store.specs.Memory.{Memory, room, fieldsAt, classAt}
+use Rattle.store.specs.Index.{keyOf, bucketOf, keyAt}
+use Rattle.store.specs.Held.{Holds}
 
 -- the class of a node with this key; or n, where none of the nodes from `from` on has it
 pub data Kinship (m : Memory) (n : ℕ) (key : Fields) (from class : ℕ) : Type 0 where
@@ -24,6 +25,10 @@ pub record Walked (m : Memory) (n : ℕ) (f key : Fields) (node class : ℕ) : T
   pub own : node < n → fieldsAt m node ≡ f
   pub none : n ≤ node → (j : ℕ) → j < n → fieldsAt m j ≡ f → ⊥
   pub kinship : n ≤ node → Kinship m n key 0 class
+
+-- the same where n nodes are a store, and the key and the bucket are those of the fields
+abbrev pub Finds : (m : Memory) (n : ℕ) (f key : Fields) (bucket node class : ℕ) → Type 0
+Finds m n f key bucket node class = Holds m n → key ≡ keyOf (classAt m) f → bucket ≡ bucketOf (room m) key → Walked m n f key node class
 
 -- a Boolean answer to a question
 abbrev pub Tells : Bool → Type 0 → Type 0

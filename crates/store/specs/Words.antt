@@ -7,7 +7,7 @@ use lib.Dec.{eqb}
 abbrev pub codeOf : (kind operator : ℕ) → ℕ
 codeOf kind operator = kind % 8 + 8 * (operator % 8)
 
--- tag: code, size, depth
+-- tag: code, size, depth, and the bucket that is the node's home
 abbrev pub codeIn : ℕ → ℕ
 codeIn w = w % 64
 
@@ -17,8 +17,11 @@ sizeIn w = w / 64 % 1048576
 abbrev pub depthIn : ℕ → ℕ
 depthIn w = w / 67108864 % 128
 
-abbrev pub tagOf : (code size depth : ℕ) → ℕ
-tagOf code size depth = code % 64 + 64 * (size % 1048576) + 67108864 * (depth % 128)
+abbrev pub homeIn : ℕ → ℕ
+homeIn w = w / 8589934592 % 8192
+
+abbrev pub tagOf : (code size depth home : ℕ) → ℕ
+tagOf code size depth home = code % 64 + 64 * (size % 1048576) + 67108864 * (depth % 128) + 8589934592 * (home % 8192)
 
 -- link: the heads of the two buckets 2k and 2k + 1; the node's class, kept result, next in its bucket
 abbrev pub headIn : (bucket w : ℕ) → ℕ

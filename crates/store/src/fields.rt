@@ -1,8 +1,9 @@
-// The fields of the two packed words of a node. `tag` has the code, size and depth; its upper 31 bits are free.
+// The fields of the two packed words of a node. `tag` has the code, size and depth, and the bucket that is the node's home; its
+// upper 18 bits are free.
 // `link` has the heads of the two buckets 2k and 2k + 1, for node k, and the node's class, kept result and next
 // in its bucket. Heads, results and nexts are numbers of nodes plus one, so that 0 says none.
 ghost use mathlib.Core.Path.{_≡_};
-ghost use Rattle.store.specs.Words.{codeIn, sizeIn, depthIn, headIn, classIn, keptIn, nextIn};
+ghost use Rattle.store.specs.Words.{codeIn, sizeIn, depthIn, homeIn, headIn, classIn, keptIn, nextIn};
 ghost use Rattle.store.specs.Words as Words;
 
 // The kind by the tape's opcodes, and eight times the operator's or function's number.
@@ -30,10 +31,16 @@ pub fn depth_in(tag: u64) -> u64
     tag / 67108864 % 128
 }
 
-pub fn tag_of(code: u64, size: u64, depth: u64) -> u64
-    ensures { λ r. ⌜ r ≡ Words.tagOf code size depth ⌝ }
+pub fn home_in(tag: u64) -> u64
+    ensures { λ r. ⌜ r ≡ homeIn tag ⌝ }
 {
-    code % 64 + 64 * (size % 1048576) + 67108864 * (depth % 128)
+    tag / 8589934592 % 8192
+}
+
+pub fn tag_of(code: u64, size: u64, depth: u64, home: u64) -> u64
+    ensures { λ r. ⌜ r ≡ Words.tagOf code size depth home ⌝ }
+{
+    code % 64 + 64 * (size % 1048576) + 67108864 * (depth % 128) + 8589934592 * (home % 8192)
 }
 
 // The head of a bucket, from the word that has it: two buckets share a word.

@@ -1,12 +1,15 @@
-// The store: expressions as numbered nodes in four lent slices, each tree once. Whatever the slices hold,
-// every function here is safe; where they hold a store (`Holds`), it does what its definition on trees says.
+// The store: expressions as numbered nodes in lent rows, each tree once, with a desk beside them. Whatever rows and desk hold,
+// every function here is safe; where they hold a store (`Sound`), it does what its definition on trees says.
 ghost use mathlib.Core.Path.{_≡_};
-ghost use Prim.Native.Nat.{_+_, max};
+ghost use mathlib.Core.List.{List};
+ghost use Prim.Native.Nat.{ℕ, _+_, max};
 ghost use Rattle.expression.specs.Nodes.{measureFrom};
-ghost use Rattle.store.specs.Memory.{memory, sizeOn, depthOn, cleared};
-ghost use Rattle.store.specs.Held.{Adds, judged, Keeps, Recalls, Compares, Starts};
+ghost use Rattle.store.specs.Memory.{memory, sizeAt, depthAt};
+ghost use Rattle.store.specs.Held.{lent, Adds, judged, Keeps, Recalls, Compares, Begun};
+use desk::REFUSED;
+use desk::stand;
+use desk::standing;
 use expression::node::Expression;
-use expression::refusal::Refusal;
 use fields::kept_in;
 use fields::tag_of;
 use fields::with_kept;
@@ -14,53 +17,36 @@ use index::bucket_of;
 use index::enter;
 use index::find;
 use index::key_of;
-use memory::put;
-use memory::read;
-use memory::zero;
+use memory::layout::DESK_WORDS;
 use node::fields_of;
 use reading::class_at;
 use reading::depth_at;
 use reading::size_at;
 use room::capacity;
+use words::link_at;
+use words::put_link;
 
+pub mod desk;
 mod fields;
 mod index;
 pub mod node;
 pub mod reading;
 mod room;
+pub mod words;
 
 // 01's limits of a new node.
 const LARGEST: u64 = 1_000_000;
 
 const DEEPEST: u64 = 64;
 
-// The answer of all that builds: a node with the count of nodes then, or a refusal. `calls` is the number of
-// simplify calls so far; storing passes it on.
-pub enum Added {
-    Node { at: usize, nodes: usize, calls: u64 },
-    Refused(Refusal),
-}
-
-// A kept result, if there is one.
-pub enum Kept {
-    Nothing,
-    Result(usize),
-}
-
-// Whether a new node is within 01's limits.
-enum Verdict {
-    Allowed,
-    Refused(Refusal),
-}
-
 // The size of the tree of a node.
-fn size_of(tag: &[u64], e: Expression) -> u64
-    ensures { λ r. ⌜ r ≡ measureFrom _+_ (sizeOn (now (tag .entry))) e ⌝ }
+fn size_of(store: &[[u64; 4]], e: Expression) -> u64
+    ensures { λ r. ⌜ r ≡ measureFrom _+_ (sizeAt (memory (now (store .entry)))) e ⌝ }
 {
     match e {
-        Expression::FunctionCall(_, child) => 1 + size_at(tag, child),
-        Expression::Prefix(_, child) => 1 + size_at(tag, child),
-        Expression::Infix(_, left, right) => 1 + (size_at(tag, left) + size_at(tag, right)),
+        Expression::FunctionCall(_, child) => 1 + size_at(store, child),
+        Expression::Prefix(_, child) => 1 + size_at(store, child),
+        Expression::Infix(_, left, right) => 1 + (size_at(store, left) + size_at(store, right)),
         Expression::Number(_) => 1,
         Expression::PiConstant => 1,
         Expression::Variable(_) => 1,
@@ -69,14 +55,14 @@ fn size_of(tag: &[u64], e: Expression) -> u64
 }
 
 // The depth of the tree of a node.
-fn depth_of(tag: &[u64], e: Expression) -> u64
-    ensures { λ r. ⌜ r ≡ measureFrom max (depthOn (now (tag .entry))) e ⌝ }
+fn depth_of(store: &[[u64; 4]], e: Expression) -> u64
+    ensures { λ r. ⌜ r ≡ measureFrom max (depthAt (memory (now (store .entry)))) e ⌝ }
 {
     match e {
-        Expression::FunctionCall(_, child) => 1 + depth_at(tag, child),
-        Expression::Prefix(_, child) => 1 + depth_at(tag, child),
+        Expression::FunctionCall(_, child) => 1 + depth_at(store, child),
+        Expression::Prefix(_, child) => 1 + depth_at(store, child),
         Expression::Infix(_, left, right) => {
-            1 + greater(depth_at(tag, left), depth_at(tag, right))
+            1 + greater(depth_at(store, left), depth_at(store, right))
         }
         Expression::Number(_) => 1,
         Expression::PiConstant => 1,
@@ -91,106 +77,75 @@ fn greater(a: u64, b: u64) -> u64
     if a < b { b } else { a }
 }
 
-// The limits in 01's order: 6, 7, 8.
-fn judge(big: bool, deep: bool, room: bool) -> Verdict
+// The limits in 01's order, by their numbers: 6, 7, 8; or 0.
+fn judge(big: bool, deep: bool, room: bool) -> usize
     ensures { λ r. ⌜ r ≡ judged big deep room ⌝ }
 {
     if big {
-        return Verdict::Refused(Refusal::Big);
+        return 6;
     }
     if deep {
-        return Verdict::Refused(Refusal::Deep);
+        return 7;
     }
     if room {
-        return Verdict::Allowed;
+        return 0;
     }
-    Verdict::Refused(Refusal::Room)
+    8
 }
 
 // The node of a tree: the one that stands, or a new one within the limits.
-pub fn add(
-    tag: &mut [u64],
-    first: &mut [u64],
-    second: &mut [u64],
-    link: &mut [u64],
-    n: usize,
-    e: Expression,
-    calls: u64,
-) -> Added
-    ensures { λ r. ⌜ Adds n e calls r (memory (now (tag .entry)) (now (first .entry)) (now (second .entry)) (now (link .entry))) (memory (now (tag .exit)) (now (first .exit)) (now (second .exit)) (now (link .exit))) ⌝ }
+pub fn add(store: &mut [[u64; 4]], desk: &mut [u64; DESK_WORDS], e: Expression) -> usize
+    ensures { λ r. ⌜ Adds e r (lent (now (store .entry)) (now (desk .entry))) (lent (now (store .exit)) (now (desk .exit))) ⌝ }
 {
+    let n = standing(desk);
     let f = fields_of(e);
-    let most = capacity(tag, first, second, link);
-    let key = key_of(link, f);
+    let most = capacity(store);
+    let key = key_of(store, f);
     let bucket = bucket_of(most, key);
-    let found = find(tag, first, second, link, n, f, key, bucket);
+    let found = find(store, n, f, key, bucket);
     let at = found.node;
     if at < n {
-        return Added::Node {
-            at,
-            nodes: n,
-            calls,
-        };
+        return at;
     }
-    let size = size_of(tag, e);
-    let depth = depth_of(tag, e);
+    let size = size_of(store, e);
+    let depth = depth_of(store, e);
     let verdict = judge(LARGEST < size, DEEPEST < depth, n < most);
-    if let Verdict::Refused(why) = verdict {
-        return Added::Refused(why);
+    if verdict != 0 {
+        return REFUSED + verdict;
     }
-    put(tag, n, tag_of(f.code, size, depth));
-    put(first, n, f.first);
-    put(second, n, f.second);
-    enter(link, n, found.class, bucket);
-    Added::Node {
-        at: n,
-        nodes: n + 1,
-        calls,
-    }
+    let tag = tag_of(f.code, size, depth, bucket as u64);
+    enter(store, n, tag, f.first, f.second, found.class, bucket);
+    stand(desk, n + 1);
+    n
 }
 
 // The result of e, kept for all trees equal to that of e.
-pub fn keep(link: &mut [u64], e: usize, result: usize)
-    ensures { λ _. ⌜ Keeps (now (link .entry)) (now (link .exit)) e result ⌝ }
+pub fn keep(store: &mut [[u64; 4]], e: usize, result: usize)
+    ensures { λ _. ⌜ Keeps (memory (now (store .entry))) (memory (now (store .exit))) e result ⌝ }
 {
-    let class = class_at(link, e) as usize;
-    let word = read(link, class);
-    put(link, class, with_kept(word, result as u64));
+    let class = class_at(store, e) as usize;
+    let word = link_at(store, class);
+    put_link(store, class, with_kept(word, result as u64));
 }
 
-// The result that is kept for the tree of e.
-pub fn kept_at(link: &[u64], e: usize) -> Kept
-    ensures { λ r. ⌜ Recalls (now (link .entry)) e r ⌝ }
+// The number, plus one, of the node that is kept for the tree of e; 0 if there is none.
+pub fn kept_at(store: &[[u64; 4]], e: usize) -> usize
+    ensures { λ r. ⌜ Recalls (memory (now (store .entry))) e r ⌝ }
 {
-    let class = class_at(link, e) as usize;
-    let kept = kept_in(read(link, class));
-    if kept == 0 {
-        Kept::Nothing
-    } else {
-        Kept::Result((kept - 1) as usize)
-    }
+    let class = class_at(store, e) as usize;
+    kept_in(link_at(store, class)) as usize
 }
 
 // Whether two nodes have equal trees.
-pub fn equal_at(link: &[u64], a: usize, b: usize) -> bool
-    ensures { λ r. ⌜ Compares (now (link .entry)) a b r ⌝ }
+pub fn equal_at(store: &[[u64; 4]], a: usize, b: usize) -> bool
+    ensures { λ r. ⌜ Compares (memory (now (store .entry))) a b r ⌝ }
 {
-    class_at(link, a) == class_at(link, b)
+    class_at(store, a) == class_at(store, b)
 }
 
-// A store with no node, whatever the slices held.
-pub fn start(link: &mut [u64])
-    ensures { λ _. ⌜ Starts (now (link .entry)) (now (link .exit)) ⌝ }
+// A store with no node, whatever rows and desk held: the rows stay as they are.
+pub fn start(desk: &mut [u64; DESK_WORDS])
+    ensures { λ _. ⌜ ((store : List (List ℕ)) → Begun (lent store (now (desk .entry))) (lent store (now (desk .exit)))) ⌝ }
 {
-    zero(link);
-}
-
-// All four slices zero over their whole length.
-pub fn clear(tag: &mut [u64], first: &mut [u64], second: &mut [u64], link: &mut [u64])
-    ensures { λ _. ⌜ memory (now (tag .exit)) (now (first .exit)) (now (second .exit)) (now (link .exit)) ≡ cleared (memory (now (tag .entry)) (now (first .entry)) (now (second .entry)) (now (link .entry))) ⌝ }
-{
-    zero(tag);
-    zero(first);
-    zero(second);
-    zero(link);
+    *desk = [0; DESK_WORDS];
 }

@@ -1,4 +1,4 @@
-// How a node stands in the slices: its fields, and the node that fields are.
+// How a node stands in its row: its fields, and the node that fields are.
 ghost use mathlib.Core.Path.{_≡_};
 ghost use Rattle.store.specs.Nodes.{fields, fieldsOf, expressionOf};
 ghost use Rattle.expression.specs.Nodes.{Sound};

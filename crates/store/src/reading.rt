@@ -1,40 +1,43 @@
-// What is read of a node, whatever the slices hold.
+// What is read of a node, whatever the rows hold.
 ghost use mathlib.Core.Path.{_≡_};
 ghost use Rattle.expression.specs.Nodes.{operandsOf};
 ghost use Rattle.store.specs.Nodes.{expressionOf};
-ghost use Rattle.store.specs.Memory.{fieldsOn, sizeOn, depthOn, classOn};
+ghost use Rattle.store.specs.Memory.{memory, fieldsAt, sizeAt, depthAt, classAt, expressionAt};
 use super::fields::class_in;
 use super::fields::code_in;
 use super::fields::depth_in;
 use super::fields::size_in;
 use super::node::Fields;
 use super::node::expression_of;
+use super::words::first_at;
+use super::words::link_at;
+use super::words::second_at;
+use super::words::tag_at;
 use expression::node::Expression;
 use expression::node::Operands;
-use memory::read;
 
-pub fn fields_at(tag: &[u64], first: &[u64], second: &[u64], i: usize) -> Fields
-    ensures { λ r. ⌜ r ≡ fieldsOn (now (tag .entry)) (now (first .entry)) (now (second .entry)) i ⌝ }
+pub fn fields_at(store: &[[u64; 4]], i: usize) -> Fields
+    ensures { λ r. ⌜ r ≡ fieldsAt (memory (now (store .entry))) i ⌝ }
 {
     Fields {
-        code: code_in(read(tag, i)),
-        first: read(first, i),
-        second: read(second, i),
+        code: code_in(tag_at(store, i)),
+        first: first_at(store, i),
+        second: second_at(store, i),
     }
 }
 
 // Kind, operator, operands, variable, region and index, number: the node as an expression.
-pub fn expression_at(tag: &[u64], first: &[u64], second: &[u64], i: usize) -> Expression
-    ensures { λ r. ⌜ r ≡ expressionOf (fieldsOn (now (tag .entry)) (now (first .entry)) (now (second .entry)) i) ⌝ }
+pub fn expression_at(store: &[[u64; 4]], i: usize) -> Expression
+    ensures { λ r. ⌜ r ≡ expressionAt (memory (now (store .entry))) i ⌝ }
 {
-    expression_of(fields_at(tag, first, second, i))
+    expression_of(fields_at(store, i))
 }
 
 // The operands of a node, by its kind alone: no expression is made of it.
-pub fn operands_at(tag: &[u64], first: &[u64], second: &[u64], i: usize) -> Operands
-    ensures { λ r. ⌜ r ≡ operandsOf (expressionOf (fieldsOn (now (tag .entry)) (now (first .entry)) (now (second .entry)) i)) ⌝ }
+pub fn operands_at(store: &[[u64; 4]], i: usize) -> Operands
+    ensures { λ r. ⌜ r ≡ operandsOf (expressionAt (memory (now (store .entry))) i) ⌝ }
 {
-    operands_in(fields_at(tag, first, second, i))
+    operands_in(fields_at(store, i))
 }
 
 fn operands_in(f: Fields) -> Operands
@@ -54,21 +57,21 @@ fn operands_in(f: Fields) -> Operands
     }
 }
 
-pub fn size_at(tag: &[u64], i: usize) -> u64
-    ensures { λ r. ⌜ r ≡ sizeOn (now (tag .entry)) i ⌝ }
+pub fn size_at(store: &[[u64; 4]], i: usize) -> u64
+    ensures { λ r. ⌜ r ≡ sizeAt (memory (now (store .entry))) i ⌝ }
 {
-    size_in(read(tag, i))
+    size_in(tag_at(store, i))
 }
 
-pub fn depth_at(tag: &[u64], i: usize) -> u64
-    ensures { λ r. ⌜ r ≡ depthOn (now (tag .entry)) i ⌝ }
+pub fn depth_at(store: &[[u64; 4]], i: usize) -> u64
+    ensures { λ r. ⌜ r ≡ depthAt (memory (now (store .entry))) i ⌝ }
 {
-    depth_in(read(tag, i))
+    depth_in(tag_at(store, i))
 }
 
 // Equal trees have one class: the number of the first of them.
-pub fn class_at(link: &[u64], i: usize) -> u64
-    ensures { λ r. ⌜ r ≡ classOn (now (link .entry)) i ⌝ }
+pub fn class_at(store: &[[u64; 4]], i: usize) -> u64
+    ensures { λ r. ⌜ r ≡ classAt (memory (now (store .entry))) i ⌝ }
 {
-    class_in(read(link, i))
+    class_in(link_at(store, i))
 }

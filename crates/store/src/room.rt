@@ -1,9 +1,9 @@
-// How many nodes the lent slices have room for.
+// How many nodes the lent rows have room for.
 ghost use mathlib.Core.Path.{_≡_};
 ghost use Prim.Native.Nat.{min};
 ghost use Rattle.store.specs.Memory.{memory, room};
 
-// "The store's capacity is the shortest work slice, at most 4096."
+// "The store's capacity is the shortest work slice, at most 4096": one slice has all the rows.
 const MOST: usize = 4096;
 
 pub fn least(a: usize, b: usize) -> usize
@@ -12,15 +12,8 @@ pub fn least(a: usize, b: usize) -> usize
     if a < b { a } else { b }
 }
 
-// How many nodes the slices have room for.
-pub fn capacity(tag: &[u64], first: &[u64], second: &[u64], link: &[u64]) -> usize
-    ensures { λ r. ⌜ r ≡ room (memory (now (tag .entry)) (now (first .entry)) (now (second .entry)) (now (link .entry))) ⌝ }
+pub fn capacity(store: &[[u64; 4]]) -> usize
+    ensures { λ r. ⌜ r ≡ room (memory (now (store .entry))) ⌝ }
 {
-    least(
-        least(
-            least(tag.len(), first.len()),
-            least(second.len(), link.len()),
-        ),
-        MOST,
-    )
+    least(store.len(), MOST)
 }

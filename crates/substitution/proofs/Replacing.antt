@@ -1,22 +1,21 @@
 -- What substituting does at a node, by its operands: each return of `substitute_variables` and of what it calls. Assumes nothing.
 use mathlib.Core.Path.{_≡_, refl, sym, ap, _∙_, subst}
 use mathlib.Core.List.{List, [], _∷_}
-use Prim.Native.Nat.{ℕ, _<_, _+_, _*_}
+use Prim.Native.Nat.{ℕ, _+_, _*_, _≤_, _<_}
 use native.Mathlib.Omega.{arith}
+use native.Mathlib.Decide.{decLt}
 use lib.ListN.{getD}
 use denote.Enum.Declared.{tagOf}
 use types.Run.{OneOf, miss}
-use Rattle.expression.specs.declared.refusal.Refusal.{Refusal}
 use Rattle.expression.specs.Trees.{Tree, leaf, number, pi, variable, cell, functionCall, prefixed, infixed}
-use Rattle.store.specs.declared.Added.{Added}
 use Rattle.expression.specs.declared.node.Expression.{Expression}
 use Rattle.expression.proofs.node.Expression.{the-type}
-use Rattle.store.specs.Nodes.{expressionOf}
 use Rattle.expression.specs.Nodes.{grown, Within, operandsOf, withOperands}
 use Rattle.store.specs.Storing.{State, Answer, gives, andThen, intern}
-use Rattle.store.specs.Memory.{Memory, fieldsAt, treeAt, treeOf, stateOf}
-use Rattle.store.specs.Held.{Step, Built}
-use Rattle.store.proofs.Building.{older, named, turned, stays, then-node, then-refused}
+use Rattle.store.specs.Memory.{Memory, expressionAt, treeAt, treeOf}
+use Rattle.store.specs.Desk.{count, refusedFrom}
+use Rattle.store.specs.Held.{Lent, treeIn, stateIn, Built}
+use Rattle.store.proofs.Building.{Got, older, named, turned, stays, then-node, then-refused}
 use Rattle.memory.proofs.Values.{upTo-alike}
 use Rattle.expression.proofs.Under.{IsNothing, IsOne, IsTwo, nothing-under, one-under, two-under, within-one, within-two}
 use Rattle.memory.specs.Layout.{swapsFrom}
@@ -25,7 +24,7 @@ use Rattle.listing.specs.Listings.{swap, names, nothing, swapFor}
 use Rattle.listing.specs.Tables.{Lists, swapTrees}
 use Rattle.expression.specs.declared.node.Operands.{Operands}
 use Rattle.substitution.specs.Substituting.{putIn, putInLeaf, substitute}
-use Rattle.substitution.specs.Run.{Rebuilds}
+use Rattle.substitution.specs.Run.{PutsIn, Rebuilds}
 use Rattle.store.proofs.Stored.{within-node, tree-of-node}
 
 -- ---- the tree of an operation on other operands
@@ -172,69 +171,78 @@ module _ (m : Memory) {n node : ℕ} (l : node < n) (e : Expression) (tree : tre
 
 -- ---- the s lines after a step
 
-module _ {m m′ : Memory} {table : List ℕ} {n n′ swaps i : ℕ} (li : Lists m table n 0 swaps) (p : Step n m i n′ m′) where
-  lists-on : Lists m′ table n′ 0 swaps
-  lists-on = record { holds = p .holds; nodes = λ k o. absurd (omega (arith, o)); named = λ k o. older p (li .named k o); ascends = li .ascends }
+module _ {l l′ : Lent} {table : List ℕ} {swaps i : ℕ} (li : Lists l table 0 swaps) (p : Got l i l′) where
+  lists-on : Lists l′ table 0 swaps
+  lists-on = record { sound = p .sound; nodes = λ k o. absurd (omega (arith, o)); named = λ k o. older p (li .named k o); ascends = li .ascends }
 
-  swaps-on : swapTrees m′ table swaps ≡ swapTrees m table swaps
+  swaps-on : swapTrees (l′ .rows) table swaps ≡ swapTrees (l .rows) table swaps
   swaps-on = upTo-alike swaps _ _ (λ k o. ap (swap (getD table (swapsFrom + 2 * k) 0)) (p .stays (getD table (swapsFrom + 2 * k + 1) 0) (li .named k o)))
 
 -- ---- an operation on what its last operand became
 
-rebuilt-built : {want : Answer} {n : ℕ} {m m₁ m₂ : Memory} (e : Expression) (left : ℕ) (t : Tree) (x r : Added) → Built want x n m m₁
-    → ((i k : ℕ) → Step n m i k m₁ → LeftIn e m₁ k left t) → Rebuilds e left x r m₁ m₂ → Built (andThen want (λ u s. intern (wrap e t u) s)) r n m m₂
-rebuilt-built {m₁ = m₁} e left t (Added.Node i k c) r b l q =
-    then-node (λ u s. intern (wrap e t u) s) b refl λ p.
-    named (ap (λ u. intern u (stateOf m₁ k c)) (rebuilt-tree m₁ e left i ∙ wrap-left e m₁ k left t (treeAt m₁ i) (l i k p)))
-    (q (p .holds) (within-rebuilt e m₁ k left i t (l i k p) (p .inside)))
-rebuilt-built e left t (Added.Refused why) r b l q =
-    turned (sym q) (record { answer = then-refused (λ u s. intern (wrap e t u) s) b refl .answer; after = tt })
+rebuilt-built : {want : Answer} {l l₁ l₂ : Lent} (e : Expression) (left : ℕ) (t : Tree) (x r : ℕ) → Built want x l l₁
+    → (Got l x l₁ → LeftIn e (l₁ .rows) (count (l₁ .desk)) left t) → Rebuilds e left x r l₁ l₂ → Built (andThen want (λ u s. intern (wrap e t u) s)) r l l₂
+rebuilt-built {want} {l} {l₁} {l₂} e left t x r b f q = go (decLt x refusedFrom)
+  where
+    go : Dec (x < refusedFrom) → Built (andThen want (λ u s. intern (wrap e t u) s)) r l l₂
+    go (yes h) =
+        then-node (λ u s. intern (wrap e t u) s) b h λ p.
+        named (ap (λ u. intern u (stateIn l₁)) (rebuilt-tree (l₁ .rows) e left x ∙ wrap-left e (l₁ .rows) (count (l₁ .desk)) left t (treeIn l₁ x) (f p)))
+        (q .added h (p .sound) (within-rebuilt e (l₁ .rows) (count (l₁ .desk)) left x t (f p) (p .inside)))
+    go (no h) =
+        let o : refusedFrom ≤ x = omega (arith, h) in
+        turned (sym (q .passed o .0)) (subst (λ l₂. Built (andThen want (λ u s. intern (wrap e t u) s)) x l l₂) (sym (q .passed o .1)) (then-refused (λ u s. intern (wrap e t u) s) b o))
 
 -- ---- the returns of `substitute_variables`
 
-module _ {m : Memory} {table : List ℕ} {n swaps node : ℕ} (li : Lists m table n 0 swaps) (l : node < n) {e : Expression} (e-is : e ≡ expressionOf (fieldsAt m node))
+module _ {l : Lent} {table : List ℕ} {swaps node : ℕ} (li : Lists l table 0 swaps) (o : node < count (l .desk)) {e : Expression} (e-is : e ≡ expressionAt (l .rows) node)
     {operands : Operands} (o-is : operands ≡ operandsOf e) where
+  in-node : Within node e
+  in-node = within-node (li .sound .holds) o e-is refl
+
+  of-tree : treeOf (l .rows) e ≡ treeIn l node
+  of-tree = tree-of-node (li .sound .holds) o e-is refl
+
   pub one-inside : {a : ℕ} → operands ≡ Operands.One a → a < node
-  one-inside {a} told = within-one node e a (sym o-is ∙ told) (within-node (li .holds) l e-is refl)
+  one-inside {a} told = within-one node e a (sym o-is ∙ told) in-node
 
   pub two-inside : {a b : ℕ} → operands ≡ Operands.Two a b → (a < node) × (b < node)
-  two-inside {a} {b} told = within-two node e a b (sym o-is ∙ told) (within-node (li .holds) l e-is refl)
+  two-inside {a} {b} told = within-two node e a b (sym o-is ∙ told) in-node
 
-  module _ (calls : ℕ) where
-    of-node : {w : Answer} → w ≡ substitute (swapTrees m table swaps) (treeOf m e) (stateOf m n calls)
-        → w ≡ substitute (swapTrees m table swaps) (treeAt m node) (stateOf m n calls)
-    of-node p = p ∙ ap (λ t. substitute (swapTrees m table swaps) t (stateOf m n calls)) (tree-of-node (li .holds) l e-is refl)
+  of-node : {w : Answer} → w ≡ substitute (swapTrees (l .rows) table swaps) (treeOf (l .rows) e) (stateIn l)
+      → w ≡ substitute (swapTrees (l .rows) table swaps) (treeIn l node) (stateIn l)
+  of-node p = p ∙ ap (λ t. substitute (swapTrees (l .rows) table swaps) t (stateIn l)) of-tree
 
-    pub leaf-built : {r : ℕ} → (r < n) × ((s : State) → gives (treeAt m r) s ≡ substitute (swapTrees m table swaps) (treeAt m node) s)
-        → Built (substitute (swapTrees m table swaps) (treeAt m node) (stateOf m n calls)) (Added.Node r n calls) n m m
-    leaf-built p = stays (li .holds) (p .0) (p .1 (stateOf m n calls))
+  pub leaf-built : {r : ℕ} → swaps ≤ 256 → operands ≡ Operands.Nothing → PutsIn table swaps e node r
+      → Built (substitute (swapTrees (l .rows) table swaps) (treeIn l node) (stateIn l)) r l l
+  leaf-built few told puts = let p = puts l few li o of-tree (sym o-is ∙ told) in stays (li .sound) (p .0) (p .1 (stateIn l))
 
-    pub one-built : {a : ℕ} {x r : Added} {m₁ m₂ : Memory} → operands ≡ Operands.One a
-        → Built (substitute (swapTrees m table swaps) (treeAt m a) (stateOf m n calls)) x n m m₁ → Rebuilds e 0 x r m₁ m₂
-        → Built (substitute (swapTrees m table swaps) (treeAt m node) (stateOf m n calls)) r n m m₂
-    unfolding from-one
-    one-built {a} {x} {r} {m₁} told b q =
-        let o = sym o-is ∙ told in
-        named (of-node (one-step (swapTrees m table swaps) m (stateOf m n calls) e a (leaf pi) o))
-        (rebuilt-built e 0 (leaf pi) x r b (λ i k p. left-none e a o m₁ k 0 (leaf pi)) q)
+  pub one-built : {a x r : ℕ} {l₁ l₂ : Lent} → operands ≡ Operands.One a
+      → Built (substitute (swapTrees (l .rows) table swaps) (treeIn l a) (stateIn l)) x l l₁ → Rebuilds e 0 x r l₁ l₂
+      → Built (substitute (swapTrees (l .rows) table swaps) (treeIn l node) (stateIn l)) r l l₂
+  unfolding from-one
+  one-built {a} {x} {r} {l₁} told b q =
+      let z = sym o-is ∙ told in
+      named (of-node (one-step (swapTrees (l .rows) table swaps) (l .rows) (stateIn l) e a (leaf pi) z))
+      (rebuilt-built e 0 (leaf pi) x r b (λ p. left-none e a z (l₁ .rows) (count (l₁ .desk)) 0 (leaf pi)) q)
 
-    module _ {a b : ℕ} {x : Added} {m₁ : Memory} (told : operands ≡ Operands.Two a b)
-        (first : Built (substitute (swapTrees m table swaps) (treeAt m a) (stateOf m n calls)) x n m m₁) where
-      as-two : andThen (substitute (swapTrees m table swaps) (treeAt m a) (stateOf m n calls)) (from-left (swapTrees m table swaps) m (stateOf m n calls) e b)
-          ≡ substitute (swapTrees m table swaps) (treeAt m node) (stateOf m n calls)
-      as-two = of-node (two-step (swapTrees m table swaps) m (stateOf m n calls) e a b (sym o-is ∙ told))
+  module _ {a b left : ℕ} {l₁ : Lent} (told : operands ≡ Operands.Two a b)
+      (first : Built (substitute (swapTrees (l .rows) table swaps) (treeIn l a) (stateIn l)) left l l₁) where
+    as-two : andThen (substitute (swapTrees (l .rows) table swaps) (treeIn l a) (stateIn l)) (from-left (swapTrees (l .rows) table swaps) (l .rows) (stateIn l) e b)
+        ≡ substitute (swapTrees (l .rows) table swaps) (treeIn l node) (stateIn l)
+    as-two = of-node (two-step (swapTrees (l .rows) table swaps) (l .rows) (stateIn l) e a b (sym o-is ∙ told))
 
-      pub two-refused : {why : Refusal} → x ≡ Added.Refused why → Built (substitute (swapTrees m table swaps) (treeAt m node) (stateOf m n calls)) x n m m₁
-      two-refused q = named as-two (then-refused (from-left (swapTrees m table swaps) m (stateOf m n calls) e b) first q)
+    pub two-refused : refusedFrom ≤ left → Built (substitute (swapTrees (l .rows) table swaps) (treeIn l node) (stateIn l)) left l l₁
+    two-refused h = named as-two (then-refused (from-left (swapTrees (l .rows) table swaps) (l .rows) (stateIn l) e b) first h)
 
-      pub two-built : {left k c : ℕ} {y r : Added} {m₂ m₃ : Memory} → x ≡ Added.Node left k c
-          → (Lists m₁ table k 0 swaps → b < k → Built (substitute (swapTrees m₁ table swaps) (treeAt m₁ b) (stateOf m₁ k c)) y k m₁ m₂)
-          → Rebuilds e left y r m₂ m₃ → Built (substitute (swapTrees m table swaps) (treeAt m node) (stateOf m n calls)) r n m m₃
-      unfolding from-left from-one
-      two-built {left} {k} {c} {y} {r} {m₂} at second q =
-          named as-two (then-node (from-left (swapTrees m table swaps) m (stateOf m n calls) e b) first at λ p.
-          let inside : b < n = omega (arith, two-inside told .1, l) in
-          let same : substitute (swapTrees m₁ table swaps) (treeAt m₁ b) (stateOf m₁ k c) ≡ substitute (swapTrees m table swaps) (treeAt m b) (stateOf m₁ k c)
-          = λ v. substitute (swaps-on li p v) (p .stays b inside v) (stateOf m₁ k c) in
-          rebuilt-built e left (treeAt m₁ left) y r (named same (second (lists-on li p) (older p inside)))
-          (λ i j p₂. left-in e m₂ j left (treeAt m₁ left) (older p₂ (p .inside)) (p₂ .stays left (p .inside))) q)
+    pub two-built : {y r : ℕ} {l₂ l₃ : Lent} → left < refusedFrom
+        → (Lists l₁ table 0 swaps → b < count (l₁ .desk) → Built (substitute (swapTrees (l₁ .rows) table swaps) (treeIn l₁ b) (stateIn l₁)) y l₁ l₂)
+        → Rebuilds e left y r l₂ l₃ → Built (substitute (swapTrees (l .rows) table swaps) (treeIn l node) (stateIn l)) r l l₃
+    unfolding from-left from-one
+    two-built {y} {r} {l₂} h second q =
+        named as-two (then-node (from-left (swapTrees (l .rows) table swaps) (l .rows) (stateIn l) e b) first h λ p.
+        let inside : b < count (l .desk) = omega (arith, two-inside told .1, o) in
+        let same : substitute (swapTrees (l₁ .rows) table swaps) (treeIn l₁ b) (stateIn l₁) ≡ substitute (swapTrees (l .rows) table swaps) (treeIn l b) (stateIn l₁)
+        = λ v. substitute (swaps-on li p v) (p .stays b inside v) (stateIn l₁) in
+        rebuilt-built e left (treeIn l₁ left) y r (named same (second (lists-on li p) (older p inside)))
+        (λ p₂. left-in e (l₂ .rows) (count (l₂ .desk)) left (treeIn l₁ left) (older p₂ (p .inside)) (p₂ .stays left (p .inside))) q)

@@ -10,9 +10,8 @@ use borrow.Author.Tests.{lt-ltb, le-ltb}
 use Rattle.expression.specs.declared.refusal.Refusal.{Refusal}
 use Rattle.expression.specs.Trees.{Tree, leaf, functionCall, prefixed, infixed, measure, size}
 use Rattle.expression.specs.declared.node.Expression.{Expression}
-use Rattle.store.specs.Nodes.{expressionOf}
 use Rattle.expression.specs.Nodes.{grown, operandsOf}
-use Rattle.store.specs.Memory.{Memory, fieldsAt, treeAt, treeOf}
+use Rattle.store.specs.Memory.{Memory, expressionAt, treeAt, treeOf}
 use Rattle.store.specs.Held.{Holds}
 use Rattle.store.proofs.Stored.{read-node}
 use Rattle.text.specs.Writing.{Put}
@@ -84,7 +83,7 @@ steps-two m (Expression.Infix o c d) a b q =
 
 -- ---- the returns of `emit`
 
-module _ {m : Memory} {n node : ℕ} (h : Holds m n) (l : node < n) {e : Expression} (e-is : e ≡ expressionOf (fieldsAt m node)) {operands : Operands} (o-is : operands ≡ operandsOf e) where
+module _ {m : Memory} {n node : ℕ} (h : Holds m n) (l : node < n) {e : Expression} (e-is : e ≡ expressionAt m node) {operands : Operands} (o-is : operands ≡ operandsOf e) where
   pub one-inside : {a : ℕ} → operands ≡ Operands.One a → a < node
   one-inside {a} told = within-one node e a (sym o-is ∙ told) (read-node h node l e-is .0)
 

@@ -1,4 +1,4 @@
--- What the functions of `tape` ensure on slices and on the player's array. Only connecting.
+-- What the functions of `tape` ensure on rows, bytes and the player's array. Only connecting.
 use mathlib.Core.Path.{_≡_}
 use Prim.Native.Nat.{ℕ, zero, suc, _+_, _≤_, _<_}
 use mathlib.Core.List.{List, [], _∷_}
@@ -8,7 +8,7 @@ use lib.Ieee.{nan}
 use Rattle.complex.specs.declared.Complex.{Complex}
 use Rattle.expression.specs.Trees.{number, pi, variable, cell}
 use Rattle.expression.specs.declared.node.Expression.{Expression}
-use Rattle.store.specs.Memory.{Memory, memory, treeAt}
+use Rattle.store.specs.Memory.{Memory, treeAt}
 use Rattle.store.specs.Held.{Holds}
 use Rattle.text.specs.Writing.{Put}
 use Rattle.writing.specs.declared.Written.{Written}
@@ -37,19 +37,13 @@ stepFor (Expression.Infix o a b) = Step.Infix o
 abbrev pub Places : (out : List ℕ) (at : ℕ) (s : Step) (r : ℕ) (out′ : List ℕ) → Type 0
 Places out at s r out′ = at + 24 ≤ length out → Put out at (encoded s) r out′
 
-abbrev pub EmitsFrom : (m : Memory) (node below at r : ℕ) (out out′ : List ℕ) → Type 0
-EmitsFrom m node below at r out out′ =
+-- the tape of a node's tree, where there is room
+abbrev pub Emits : (m : Memory) (node below at r : ℕ) (out out′ : List ℕ) → Type 0
+Emits m node below at r out out′ =
     (n : ℕ) → Holds m n → node < n → node < below → at + length (tape (treeAt m node)) ≤ length out → Put out at (tape (treeAt m node)) r out′
 
--- the tape of a node's tree, where there is room, whatever the fourth slice
-abbrev pub Emits : (tag first second : List ℕ) (node below at r : ℕ) (out out′ : List ℕ) → Type 0
-Emits tag first second node below at r out out′ = (link : List ℕ) → EmitsFrom (memory tag first second link) node below at r out out′
-
-abbrev pub CompilesFrom : (m : Memory) (root nodes : ℕ) (r : Written) (out out′ : List ℕ) → Type 0
-CompilesFrom m root nodes r out out′ = Holds m nodes → root < nodes → _≡_ {A = Written × List ℕ} (r, out′) (compiled (treeAt m root) out)
-
-abbrev pub Compiles : (tag first second : List ℕ) (root nodes : ℕ) (r : Written) (out out′ : List ℕ) → Type 0
-Compiles tag first second root nodes r out out′ = (link : List ℕ) → CompilesFrom (memory tag first second link) root nodes r out out′
+abbrev pub Compiles : (m : Memory) (root nodes : ℕ) (r : Written) (out out′ : List ℕ) → Type 0
+Compiles m root nodes r out out′ = Holds m nodes → root < nodes → _≡_ {A = Written × List ℕ} (r, out′) (compiled (treeAt m root) out)
 
 -- ---- checking
 

@@ -1,6 +1,7 @@
 // What is done at a node for which nothing is kept, and how calls are counted: rules of simplifying that are decided by the
 // node and the limit alone. Nothing is built or simplified here.
 ghost use mathlib.Core.Path.{_≡_};
+ghost use Rattle.store.specs.Desk.{callsOn, withCalls};
 ghost use Rattle.tasks.specs.Tasks.{oneMore};
 ghost use Rattle.tasks.specs.Deciding.{Decides};
 use expression::ExpressionFunction;
@@ -8,6 +9,9 @@ use expression::InfixOperator;
 use expression::PrefixOperator;
 use expression::node::Expression;
 use limit::Limit;
+use memory::layout::DESK_WORDS;
+use store::desk::calls_made;
+use store::desk::set_calls;
 
 pub mod limit;
 
@@ -32,6 +36,14 @@ pub fn one_more(calls: u64) -> u64
     } else {
         calls
     }
+}
+
+// The same on the desk.
+pub fn count_call(desk: &mut [u64; DESK_WORDS])
+    ensures { λ _. ⌜ now (desk .exit) ≡ withCalls (now (desk .entry)) (oneMore (callsOn (now (desk .entry)))) ⌝ }
+{
+    let calls = one_more(calls_made(desk));
+    set_calls(desk, calls);
 }
 
 // "pi gives its number, even at limit 0; limit 0 gives the node; leaves give themselves. Otherwise the operation runs."

@@ -5,14 +5,16 @@
 --   bits 0 to 24: a count of bytes
 --   bits 25 to 35, 36 to 46 and 47 to 57: the counts of variables, cells and function values
 --   bits 25 to 56: the number of simplify calls
-use Prim.Native.Nat.{ℕ, _+_, _*_, _%_}
+use Prim.Native.Nat.{ℕ, _+_, _-_, _*_, _%_}
 use mathlib.Core.List.{List}
+use mathlib.Core.Bool.{cond}
 use lib.ListN.{set}
+use lib.Dec.{ltb}
 use Rattle.complex.specs.declared.Complex.{Complex}
 use Rattle.complex.specs.Bits.{bitsOf}
 use Rattle.expression.specs.declared.refusal.Refusal.{Refusal}
 use Rattle.expression.specs.Refusals.{numberOf, placeOf}
-use Rattle.store.specs.declared.Added.{Added}
+use Rattle.store.specs.Desk.{count, callsOn, refusedFrom, refusalOn}
 use Rattle.listing.specs.declared.Listing.{Listing}
 use Rattle.writing.specs.declared.Written.{Written}
 use Rattle.sheet.specs.declared.Counts.{Counts}
@@ -41,23 +43,22 @@ countsOf rows = 33554432 * (rows .variables % 2048) + 68719476736 * (rows .cells
 abbrev pub callsOf : ℕ → ℕ
 callsOf calls = 33554432 * (calls % 4294967296)
 
--- ---- answers that are one number
+-- ---- answers that are one number; the count of nodes and the number of calls stand on the desk
 
-abbrev pub addedOf : Added → ℕ
-addedOf (Added.Node at nodes calls) = nodeOf at nodes + callsOf calls
-addedOf (Added.Refused why) = refusedOf why
+unfoldable pub builtOf : (desk : List ℕ) (built : ℕ) → ℕ
+builtOf desk built = cond (ltb built refusedFrom) (nodeOf built (count desk) + callsOf (callsOn desk)) (refusedOf (refusalOn (built - refusedFrom) desk))
 
-abbrev pub listingOf : Listing → ℕ
-listingOf (Listing.Read root nodes swaps) = nodeOf root nodes
-listingOf (Listing.Refused why) = refusedOf why
+abbrev pub listingOf : (desk : List ℕ) → Listing → ℕ
+listingOf desk (Listing.Read root swaps) = nodeOf root (count desk)
+listingOf desk (Listing.Refused why) = refusedOf why
 
 abbrev pub sheetOf : Sheet → ℕ
 sheetOf (Sheet.Read rows) = countsOf rows
 sheetOf (Sheet.Refused why) = refusedOf why
 
-abbrev pub jobOf : Job → ℕ
-jobOf (Job.Ready root nodes rows) = nodeOf root nodes + countsOf rows
-jobOf (Job.Refused why) = refusedOf why
+abbrev pub jobOf : (desk : List ℕ) → Job → ℕ
+jobOf desk (Job.Ready root rows) = nodeOf root (count desk) + countsOf rows
+jobOf desk (Job.Refused why) = refusedOf why
 
 abbrev pub writtenOf : Written → ℕ
 writtenOf (Written.Bytes bytes) = bytesOf bytes

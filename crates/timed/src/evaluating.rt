@@ -1,18 +1,18 @@
 // Evaluating: a node of what was read, and the whole call.
+ghost use Rattle.store.specs.Memory.{memory};
 ghost use Rattle.calls.specs.Lent.{work};
 ghost use Rattle.timed.specs.Packed.{rowCounts};
 ghost use Rattle.timed.specs.Promises.{EvaluatesNode, EvaluatesTexts};
 use super::packing::counted;
 use super::packing::put_evaluated;
 use calls::answer_of;
+use memory::layout::DESK_WORDS;
 use memory::layout::TABLE_WORDS;
 
 // The words of `value` are the bits of the value's parts.
 #[no_mangle]
 pub extern "C" fn timed_evaluate(
-    tag: &[u64],
-    first: &[u64],
-    second: &[u64],
+    store: &[[u64; 4]],
     table: &[u64],
     variables: usize,
     cells: usize,
@@ -21,12 +21,12 @@ pub extern "C" fn timed_evaluate(
     below: usize,
     value: &mut [u64],
 ) -> u64
-    ensures { λ r. ⌜ EvaluatesNode (now (tag .entry)) (now (first .entry)) (now (second .entry)) (now (table .entry)) (rowCounts variables cells functions) node below r (now (value .entry)) (now (value .exit)) ⌝ }
+    ensures { λ r. ⌜ EvaluatesNode (memory (now (store .entry))) (now (table .entry)) (rowCounts variables cells functions) node below r (now (value .entry)) (now (value .exit)) ⌝ }
 {
     let counts = counted(variables, cells, functions);
     put_evaluated(
         value,
-        answer_of(evaluation::evaluate(tag, first, second, table, counts, node, below)),
+        answer_of(evaluation::evaluate(store, table, counts, node, below)),
     )
 }
 
@@ -35,17 +35,12 @@ pub extern "C" fn timed_evaluate(
 pub extern "C" fn timed_evaluate_texts(
     list: &[u8],
     values: &[u8],
-    tag: &mut [u64],
-    first: &mut [u64],
-    second: &mut [u64],
-    link: &mut [u64],
+    store: &mut [[u64; 4]],
+    desk: &mut [u64; DESK_WORDS],
     table: &mut [u64; TABLE_WORDS],
     value: &mut [u64],
 ) -> u64
-    ensures { λ r. ⌜ EvaluatesTexts (now (list .entry)) (now (values .entry)) (work (now (tag .entry)) (now (first .entry)) (now (second .entry)) (now (link .entry)) (now (table .entry))) r (now (value .entry)) (now (value .exit)) (work (now (tag .exit)) (now (first .exit)) (now (second .exit)) (now (link .exit)) (now (table .exit))) ⌝ }
+    ensures { λ r. ⌜ EvaluatesTexts (now (list .entry)) (now (values .entry)) (work (now (store .entry)) (now (desk .entry)) (now (table .entry))) r (now (value .entry)) (now (value .exit)) (work (now (store .exit)) (now (desk .exit)) (now (table .exit))) ⌝ }
 {
-    put_evaluated(
-        value,
-        calls::evaluate(list, values, tag, first, second, link, table),
-    )
+    put_evaluated(value, calls::evaluate(list, values, store, desk, table))
 }

@@ -2,7 +2,7 @@
 ghost use Prim.Native.Nat.{_≤_};
 ghost use lib.ListN.{length};
 ghost use Rattle.memory.specs.Layout.{tableWords};
-ghost use Rattle.store.specs.Memory.{memory};
+ghost use Rattle.store.specs.Held.{lent};
 ghost use Rattle.timed.specs.Promises.{ReadsListing, ReadsSheet, ReadsTexts};
 use super::packing::packed_job;
 use super::packing::packed_listing;
@@ -11,6 +11,7 @@ use super::packing::refused;
 use calls::frame::read_job;
 use expression::refusal::Refusal;
 use listing::read_listing;
+use memory::layout::DESK_WORDS;
 use memory::put;
 use node_lines::Line;
 use node_lines::read_node;
@@ -21,16 +22,15 @@ use store::node::fields_of;
 #[no_mangle]
 pub extern "C" fn timed_read_listing(
     text: &[u8],
-    tag: &mut [u64],
-    first: &mut [u64],
-    second: &mut [u64],
-    link: &mut [u64],
+    store: &mut [[u64; 4]],
+    desk: &mut [u64; DESK_WORDS],
     table: &mut [u64],
 ) -> u64
     requires { ⌜ tableWords ≤ length (now table) ⌝ }
-    ensures { λ r. ⌜ ReadsListing (now (text .entry)) r (memory (now (tag .entry)) (now (first .entry)) (now (second .entry)) (now (link .entry))) (memory (now (tag .exit)) (now (first .exit)) (now (second .exit)) (now (link .exit))) (now (table .exit)) ⌝ }
+    ensures { λ r. ⌜ ReadsListing (now (text .entry)) r (lent (now (store .entry)) (now (desk .entry))) (lent (now (store .exit)) (now (desk .exit))) (now (table .exit)) ⌝ }
 {
-    packed_listing(read_listing(text, false, tag, first, second, link, table))
+    let answer = read_listing(text, false, store, desk, table);
+    packed_listing(desk, answer)
 }
 
 // Three words for each line.
@@ -75,14 +75,13 @@ pub extern "C" fn timed_read_sheet(text: &[u8], table: &mut [u64]) -> u64
 pub extern "C" fn timed_read_job(
     list: &[u8],
     values: &[u8],
-    tag: &mut [u64],
-    first: &mut [u64],
-    second: &mut [u64],
-    link: &mut [u64],
+    store: &mut [[u64; 4]],
+    desk: &mut [u64; DESK_WORDS],
     table: &mut [u64],
 ) -> u64
     requires { ⌜ tableWords ≤ length (now table) ⌝ }
-    ensures { λ r. ⌜ ReadsTexts (now (list .entry)) (now (values .entry)) r (memory (now (tag .entry)) (now (first .entry)) (now (second .entry)) (now (link .entry))) (memory (now (tag .exit)) (now (first .exit)) (now (second .exit)) (now (link .exit))) (now (table .exit)) ⌝ }
+    ensures { λ r. ⌜ ReadsTexts (now (list .entry)) (now (values .entry)) r (lent (now (store .entry)) (now (desk .entry))) (lent (now (store .exit)) (now (desk .exit))) (now (table .exit)) ⌝ }
 {
-    packed_job(read_job(list, values, tag, first, second, link, table))
+    let job = read_job(list, values, store, desk, table);
+    packed_job(desk, job)
 }

@@ -2,7 +2,7 @@
 ghost use mathlib.Core.Path.{_≡_};
 ghost use Prim.Native.Nat.{ℕ};
 ghost use mathlib.Core.List.{List};
-ghost use Rattle.timed.specs.Packed.{refusedOf, nodeOf, countsOf, addedOf, listingOf, sheetOf, jobOf, writtenOf, simplifiedOf, checkedOf, withValue, valueOf, rowCounts};
+ghost use Rattle.timed.specs.Packed.{refusedOf, nodeOf, countsOf, builtOf, listingOf, sheetOf, jobOf, writtenOf, simplifiedOf, checkedOf, withValue, valueOf, rowCounts};
 use calls::Evaluated;
 use calls::Job;
 use calls::Simplified;
@@ -10,10 +10,14 @@ use complex::Complex;
 use complex::bits::to_bits;
 use expression::refusal::Refusal;
 use listing::Listing;
+use memory::layout::DESK_WORDS;
 use memory::put;
 use sheet::Counts;
 use sheet::Sheet;
-use store::Added;
+use store::desk::REFUSED;
+use store::desk::calls_made;
+use store::desk::refusal_of;
+use store::desk::standing;
 use tape::Checked;
 use writing::Written;
 
@@ -21,12 +25,12 @@ use writing::Written;
 const ABOVE: u64 = 33554432;
 
 // 2^58, where a refusal's number begins.
-const REFUSED: u64 = 288230376151711744;
+const REFUSAL: u64 = 288230376151711744;
 
 pub fn refused(why: Refusal) -> u64
     ensures { λ r. ⌜ r ≡ refusedOf why ⌝ }
 {
-    REFUSED * (why.number() % 32) + why.place() % 65536
+    REFUSAL * (why.number() % 32) + why.place() % 65536
 }
 
 fn packed_node(at: usize, nodes: usize) -> u64
@@ -43,26 +47,21 @@ fn packed_counts(counts: Counts) -> u64
         + 4194304 * ABOVE * (counts.functions as u64 % 2048)
 }
 
-pub fn packed_added(answer: Added) -> u64
-    ensures { λ r. ⌜ r ≡ addedOf answer ⌝ }
+// An answer of what builds, one number already, with the desk as it is then: a node, the count of nodes and the number of calls.
+pub fn packed_built(desk: &[u64; DESK_WORDS], built: usize) -> u64
+    ensures { λ r. ⌜ r ≡ builtOf (now (desk .entry)) built ⌝ }
 {
-    match answer {
-        Added::Node { at, nodes, calls } => {
-            packed_node(at, nodes) + ABOVE * (calls % 4294967296)
-        }
-        Added::Refused(why) => refused(why),
+    if REFUSED <= built {
+        return refused(refusal_of(desk, built));
     }
+    packed_node(built, standing(desk)) + ABOVE * (calls_made(desk) % 4294967296)
 }
 
-pub fn packed_listing(answer: Listing) -> u64
-    ensures { λ r. ⌜ r ≡ listingOf answer ⌝ }
+pub fn packed_listing(desk: &[u64; DESK_WORDS], answer: Listing) -> u64
+    ensures { λ r. ⌜ r ≡ listingOf (now (desk .entry)) answer ⌝ }
 {
     match answer {
-        Listing::Read {
-            root,
-            nodes,
-            swaps: _,
-        } => packed_node(root, nodes),
+        Listing::Read { root, swaps: _ } => packed_node(root, standing(desk)),
         Listing::Refused(why) => refused(why),
     }
 }
@@ -76,15 +75,11 @@ pub fn packed_sheet(answer: Sheet) -> u64
     }
 }
 
-pub fn packed_job(job: Job) -> u64
-    ensures { λ r. ⌜ r ≡ jobOf job ⌝ }
+pub fn packed_job(desk: &[u64; DESK_WORDS], job: Job) -> u64
+    ensures { λ r. ⌜ r ≡ jobOf (now (desk .entry)) job ⌝ }
 {
     match job {
-        Job::Ready {
-            root,
-            nodes,
-            counts,
-        } => packed_node(root, nodes) + packed_counts(counts),
+        Job::Ready { root, counts } => packed_node(root, standing(desk)) + packed_counts(counts),
         Job::Refused(why) => refused(why),
     }
 }

@@ -1,5 +1,6 @@
 // Tapes: compiling a node of what was read, checking, playing, and the whole call that plays.
 ghost use mathlib.Core.Path.{_≡_};
+ghost use Rattle.store.specs.Memory.{memory};
 ghost use Rattle.tape.specs.declared.Checked.{Checked as CheckedTape};
 ghost use Rattle.tape.specs.Tapes as Tapes;
 ghost use Rattle.timed.specs.Packed.{checkedOf, rowCounts};
@@ -24,16 +25,14 @@ pub extern "C" fn timed_check(tape: &[u8]) -> u64
 
 #[no_mangle]
 pub extern "C" fn timed_compile(
-    tag: &[u64],
-    first: &[u64],
-    second: &[u64],
+    store: &[[u64; 4]],
     node: usize,
     nodes: usize,
     out: &mut [u8],
 ) -> u64
-    ensures { λ r. ⌜ CompilesNode (now (tag .entry)) (now (first .entry)) (now (second .entry)) node nodes r (now (out .entry)) (now (out .exit)) ⌝ }
+    ensures { λ r. ⌜ CompilesNode (memory (now (store .entry))) node nodes r (now (out .entry)) (now (out .exit)) ⌝ }
 {
-    packed_written(compile(tag, first, second, node, nodes, out))
+    packed_written(compile(store, node, nodes, out))
 }
 
 // A sound tape, under a sheet that was read.

@@ -15,10 +15,9 @@ use Rattle.expression.specs.Trees.{Tree, leaf, pi, functionCall, prefixed, infi
 use Rattle.expression.specs.Alike.{identical}
 use Rattle.expression.proofs.Likeness.{identical-sym, identical-trans}
 use Rattle.expression.specs.declared.node.Expression.{Expression}
-use Rattle.store.specs.Nodes.{expressionOf}
 use Rattle.expression.specs.Nodes.{grown, Within}
 use Rattle.store.specs.Storing.{state, fresh, among, place, nothing}
-use Rattle.store.specs.Memory.{Memory, room, fieldsAt, trees, treeAt, treeOf}
+use Rattle.store.specs.Memory.{Memory, room, expressionAt, trees, treeAt, treeOf}
 use Rattle.store.specs.Held.{Holds}
 use Rattle.store.proofs.Places.{place-within, place-hit, place-first, among-no, among-yes}
 use Rattle.store.proofs.Stored.{as-many, stored, proper, limited, read-node}
@@ -45,9 +44,9 @@ module _ {m : Memory} {n : ℕ} (h : Holds m n) where
   all-stored : (b k : ℕ) → k < b → k < n → AllIn (trees m n) (treeAt m k)
   all-stored zero k l o = absurd (omega arith)
   all-stored (suc b) k l o =
-      let p = read-node h {r = expressionOf (fieldsAt m k)} k o refl in
+      let p = read-node h {r = expressionAt m k} k o refl in
       subst (AllIn (trees m n)) (p .1)
-      (grown-all m (trees m n) k (expressionOf (fieldsAt m k)) (p .0) (λ j q. all-stored b j (omega arith) (omega arith))
+      (grown-all m (trees m n) k (expressionAt m k) (p .0) (λ j q. all-stored b j (omega arith) (omega arith))
       (subst (λ t. among (trees m n) t ≡ true) (sym (p .1)) (stored h k o)))
 
 -- ---- what is listed comes from there
@@ -131,7 +130,7 @@ module _ {m : Memory} {n root : ℕ} (h : Holds m n) (inside : root < n) where
       rw (as-many h) at (fits-in (trees m n) (order (treeAt m root)) (finished-laid (treeAt m root) [] empty (proper h root) (limited h root inside) .0)
       (from-finished (trees m n) (treeAt m root) [] (all-stored h (suc root) root (omega arith) inside) (λ k l. absurd (omega arith))))
 
-  -- what was written from a store, of any node, reads back into slices with as much room
+  -- what was written from a store, of any node, reads back into rows with as much room
   pub written-reads-back : length (order (treeAt m root)) ≤ 1024 → (substituting : Bool) (room′ : ℕ) → room m ≤ room′
       → listing substituting (textOf (treeAt m root)) (fresh room′ 0) ≡ accepted (treeAt m root) [] (state room′ (order (treeAt m root)) (λ u. nothing) 0)
   written-reads-back few substituting room′ as-much =

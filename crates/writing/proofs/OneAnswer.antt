@@ -5,8 +5,8 @@ use Prim.Native.Nat.{ℕ, _<_}
 use Rattle.store.specs.Memory.{Memory}
 use Rattle.store.specs.Held.{Holds}
 use Rattle.writing.specs.declared.Written.{Written}
-use Rattle.writing.specs.Ordering.{WritesFrom}
+use Rattle.writing.specs.Ordering.{Writes}
 
 pub one-written : {m : Memory} {n root : ℕ} {r r′ : Written} (out : List ℕ) {out₁ out₂ : List ℕ} → Holds m n → root < n
-    → WritesFrom m root r out out₁ → WritesFrom m root r′ out out₂ → _≡_ {A = Written × List ℕ} (r, out₁) (r′, out₂)
+    → Writes m root r out out₁ → Writes m root r′ out out₂ → _≡_ {A = Written × List ℕ} (r, out₁) (r′, out₂)
 one-written {n = n} out h o p q = p n h o ∙ sym (q n h o)

@@ -1,4 +1,4 @@
--- The text of the lines that a table orders is that of the tree. Assumes nothing.
+-- The text of the lines that a table orders is that of the tree, and each return of `lined`. Assumes nothing.
 use mathlib.Core.Path.{_≡_, refl, sym, ap, _∙_, subst}
 use mathlib.Core.List.{List, [], _∷_, _++_, append-assoc, append-nil}
 use mathlib.Core.Logic.{⊎-elim}
@@ -14,69 +14,86 @@ use Rattle.expression.specs.declared.refusal.Refusal.{Refusal}
 use Rattle.expression.specs.Trees.{Tree, leaf, pi}
 use Rattle.expression.specs.Alike.{identical}
 use Rattle.expression.specs.declared.node.Expression.{Expression}
-use Rattle.store.specs.Nodes.{expressionOf}
+use Rattle.expression.specs.declared.node.Operands.{Operands}
 use Rattle.expression.specs.Nodes.{operandsOf, withOperands, grown, Within}
 use Rattle.store.specs.Storing.{among, place}
-use Rattle.store.specs.Memory.{Memory, fieldsAt, treeAt, treeOf}
+use Rattle.store.specs.Memory.{Memory, expressionAt, treeAt, treeOf}
 use Rattle.store.specs.Held.{Holds}
 use Rattle.store.proofs.Places.{place-within, among-no}
 use Rattle.store.proofs.Stored.{read-node}
-use Rattle.store.proofs.Trees.{within-more}
+use Rattle.store.proofs.Trees.{within-more, room-each}
 use Rattle.memory.specs.Keys.{upTo}
 use Rattle.memory.proofs.Values.{length-upTo, at-upTo, upTo-snoc}
 use Rattle.text.specs.Writing.{line, Put}
 use Rattle.text.proofs.Putting.{put-then}
 use Rattle.writing.specs.declared.Written.{Written}
 use Rattle.writing.specs.Order.{order, lineFields, text, textOf, written}
-use Rattle.writing.specs.Ordering.{AllIn, empty, Listed, visited, Visited, noChild, textFields, lineText, lineAt, linesText}
-use Rattle.memory.specs.Layout.{tableWords, placesFrom}
-use Rattle.listing.specs.Tables.{movedTo, moved, entryAt, lineTrees}
-use Rattle.listing.proofs.Taking.{entry-is}
+use Rattle.writing.specs.Ordering.{AllIn, empty, Listed, visited, Visited, noChild, textFields, lineText, linedTo, linedBy, lineAt, linesText}
+use Rattle.memory.specs.Layout.{tableWords}
+use Rattle.listing.specs.Tables.{lineTrees}
 use Rattle.writing.proofs.Orders.{laid-all, all-is, true-not-false}
-use Rattle.writing.proofs.Visiting.{place-of, room-small}
+use Rattle.writing.proofs.Visiting.{place-of, room-small, expression-kept}
 
 pub from-zero : (n : ℕ) → 0 + n ≡ n
 from-zero n = omega arith
 
 -- ---- the first lines
 
-module _ (tag first second table : List ℕ) where
-  pub more-text : (i : ℕ) → linesText tag first second table (i + 1) ≡ linesText tag first second table i ++ lineText (lineAt tag first second table i)
+module _ (rows : Memory) (table : List ℕ) where
+  pub more-text : (i : ℕ) → linesText rows table (i + 1) ≡ linesText rows table i ++ lineText (lineAt rows table i)
   unfolding linesText
   more-text i = rw add-one
 
-  pub more-length : (i : ℕ) → length (linesText tag first second table (i + 1)) ≡ length (linesText tag first second table i) + length (lineText (lineAt tag first second table i))
-  more-length i = rw (more-text i) (length-append (linesText tag first second table i) (lineText (lineAt tag first second table i)))
+  pub more-length : (i : ℕ) → length (linesText rows table (i + 1)) ≡ length (linesText rows table i) + length (lineText (lineAt rows table i))
+  more-length i = rw (more-text i) (length-append (linesText rows table i) (lineText (lineAt rows table i)))
 
-  grows : (i k : ℕ) → length (linesText tag first second table i) ≤ length (linesText tag first second table (i + k))
+  grows : (i k : ℕ) → length (linesText rows table i) ≤ length (linesText rows table (i + k))
   grows i zero = let z : i + 0 ≡ i = omega arith in rw z (omega arith)
   grows i (suc k) = let z : i + suc k ≡ (i + k) + 1 = omega arith in rw z (omega (arith, grows i k, more-length (i + k)))
 
   -- the next line fits where all lines do
-  pub line-fits : (i count room : ℕ) → i < count → length (linesText tag first second table count) ≤ room
-      → length (linesText tag first second table i) + length (lineText (lineAt tag first second table i)) ≤ room
+  pub line-fits : (i count room : ℕ) → i < count → length (linesText rows table count) ≤ room
+      → length (linesText rows table i) + length (lineText (lineAt rows table i)) ≤ room
   line-fits i count room h f =
       let z : (i + 1) + (count - (i + 1)) ≡ count = omega arith in
       omega (arith, more-length i, rw z at (grows (i + 1) (count - (i + 1))))
 
-  pub no-text : (e : List ℕ) → Put e 0 (linesText tag first second table 0) 0 e
+  pub no-text : (e : List ℕ) → Put e 0 (linesText rows table 0) 0 e
   unfolding linesText
   no-text e = record { place = refl; stored = refl }
 
-  pub no-length : 0 ≡ length (linesText tag first second table 0)
+  pub no-length : 0 ≡ length (linesText rows table 0)
   unfolding linesText
   no-length = refl
 
-  pub next-text : {e x y : List ℕ} {at next : ℕ} (i : ℕ) → Put e 0 (linesText tag first second table i) at x → Put x at (lineText (lineAt tag first second table i)) next y
-      → Put e 0 (linesText tag first second table (i + 1)) next y
+  pub next-text : {e x y : List ℕ} {at next : ℕ} (i : ℕ) → Put e 0 (linesText rows table i) at x → Put x at (lineText (lineAt rows table i)) next y
+      → Put e 0 (linesText rows table (i + 1)) next y
   next-text i a b = rw (more-text i) (put-then a b)
 
   -- a loop has reached the last line
-  pub all-counted : {count i total : ℕ} → i ≤ count → count ≤ i → total ≡ length (linesText tag first second table i) → total ≡ length (linesText tag first second table count)
+  pub all-counted : {count i total : ℕ} → i ≤ count → count ≤ i → total ≡ length (linesText rows table i) → total ≡ length (linesText rows table count)
   all-counted {count} {i} p q e = let z : i ≡ count = omega arith in rw z at e
 
-  pub all-written : {e x : List ℕ} {count i at : ℕ} → i ≤ count → count ≤ i → Put e 0 (linesText tag first second table i) at x → Put e 0 (linesText tag first second table count) at x
+  pub all-written : {e x : List ℕ} {count i at : ℕ} → i ≤ count → count ≤ i → Put e 0 (linesText rows table i) at x → Put e 0 (linesText rows table count) at x
   all-written {count = count} {i = i} p q e = let z : i ≡ count = omega arith in rw z at e
+
+-- ---- each return of `lined`, where `o` are the node's operands
+
+module _ (link : List ℕ) (e : Expression) {o : Operands} (o-is : o ≡ operandsOf e) where
+  told-as : {o′ : Operands} → o ≡ o′ → linedTo link e o′ ≡ linedBy link e
+  told-as q = ap (linedTo link e) (sym q ∙ o-is)
+
+  pub lined-none : o ≡ Operands.Nothing → e ≡ linedBy link e
+  unfolding linedTo
+  lined-none q = told-as q
+
+  pub lined-one : {a b : ℕ} {r : Expression} → o ≡ Operands.One a → b ≡ getD link a 0 → r ≡ withOperands e 0 b → r ≡ linedBy link e
+  unfolding linedTo
+  lined-one q b-is r-is = r-is ∙ rw b-is (told-as q)
+
+  pub lined-two : {a b c d : ℕ} {r : Expression} → o ≡ Operands.Two a b → c ≡ getD link a 0 → d ≡ getD link b 0 → r ≡ withOperands e c d → r ≡ linedBy link e
+  unfolding linedTo
+  lined-two q c-is d-is r-is = r-is ∙ rw (c-is, d-is) (told-as q)
 
 -- ---- as lines of the tree
 
@@ -85,20 +102,20 @@ unfolding text
 text-snoc lines [] t = append-nil (line (lineFields lines t))
 text-snoc lines (s ∷ ts) t = ap (λ (l : List ℕ). line (lineFields lines s) ++ l) (text-snoc lines ts t) ∙ sym (append-assoc (line (lineFields lines s)) (text lines ts) (line (lineFields lines t)))
 
-module _ {m : Memory} {n : ℕ} (h : Holds m n) {table : List ℕ} {count : ℕ} (l : Listed m n table count) where
+module _ {m : Memory} {n : ℕ} (h : Holds m n) {rows : Memory} {table : List ℕ} {count : ℕ} (l : Listed m n rows table count) where
   lines-long : length (lineTrees m table count) ≡ count
   lines-long = length-upTo count (λ k. treeAt m (getD table k 0))
 
-  -- the table has the line of each tree that is listed
-  mark-of : (c : ℕ) → c < n → among (lineTrees m table count) (treeAt m c) ≡ true → entryAt table placesFrom c ≡ place (identical (treeAt m c)) (lineTrees m table count)
+  -- the link of each node that is listed is its line
+  mark-of : (c : ℕ) → c < n → among (lineTrees m table count) (treeAt m c) ≡ true → getD (rows .link) c 0 ≡ place (identical (treeAt m c)) (lineTrees m table count)
   mark-of c o e =
       ⊎-elim (λ z. true-not-false (sym e ∙ among-no (lineTrees m table count) (treeAt m c) z))
       (λ p. let q : place (identical (treeAt m c)) (lineTrees m table count) < count = rw lines-long at p in
-      entry-is table placesFrom c (omega (arith, o, room-small h)) ∙ (rw (place-of h l c o q) at (l .marks (place (identical (treeAt m c)) (lineTrees m table count)) q)))
+      rw (place-of h l c o q) at (l .marks (place (identical (treeAt m c)) (lineTrees m table count)) q))
       (eq-or-lt-of-le (place-within (identical (treeAt m c)) (lineTrees m table count)))
 
-  fields-are : (e : Expression) → Within n e → AllIn (lineTrees m table count) (treeOf m e) → lineFields (lineTrees m table count) (treeOf m e) ≡ textFields (moved table 4096 e)
-  unfolding lineFields textFields grown operandsOf withOperands movedTo
+  fields-are : (e : Expression) → Within n e → AllIn (lineTrees m table count) (treeOf m e) → lineFields (lineTrees m table count) (treeOf m e) ≡ textFields (linedBy (rows .link) e)
+  unfolding lineFields textFields grown operandsOf withOperands linedTo
   fields-are (Expression.Number z) w a = refl
   fields-are Expression.PiConstant w a = refl
   fields-are (Expression.Variable v) w a = refl
@@ -107,31 +124,38 @@ module _ {m : Memory} {n : ℕ} (h : Holds m n) {table : List ℕ} {count : ℕ}
   fields-are (Expression.Prefix o c) w a = rw (mark-of c w (all-is _ (treeAt m c) (a .1)))
   fields-are (Expression.Infix o c d) w a = rw (mark-of c (w .0) (all-is _ (treeAt m c) (a .1 .0)), mark-of d (w .1) (all-is _ (treeAt m d) (a .1 .1)))
 
-  line-is : (i : ℕ) → i < count → lineText (lineAt (m .tag) (m .first) (m .second) table i) ≡ line (lineFields (lineTrees m table count) (treeAt m (getD table i 0)))
+  line-is : (i : ℕ) → i < count → lineText (lineAt rows table i) ≡ line (lineFields (lineTrees m table count) (treeAt m (getD table i 0)))
   unfolding lineAt lineText
   line-is i o =
       let node = getD table i 0 in
-      let p = read-node h {r = expressionOf (fieldsAt m node)} node (l .nodes i o) refl in
+      let p = read-node h {r = expressionAt m node} node (l .nodes i o) refl in
       let a = subst (AllIn (lineTrees m table count)) (at-upTo count (λ k. treeAt m (getD table k 0)) (leaf pi) i o) (laid-all (l .laid) i (rw lines-long o)) in
-      let w = within-more node n (expressionOf (fieldsAt m node)) (omega (arith, l .nodes i o)) (p .0) in
-      ap line (sym (fields-are (expressionOf (fieldsAt m node)) w (subst (AllIn (lineTrees m table count)) (sym (p .1)) a)) ∙ ap (lineFields (lineTrees m table count)) (p .1))
+      let w = within-more node n (expressionAt m node) (omega (arith, l .nodes i o)) (p .0) in
+      rw (expression-kept m rows (l .same) node) (ap line (sym (fields-are (expressionAt m node) w (subst (AllIn (lineTrees m table count)) (sym (p .1)) a)) ∙ ap (lineFields (lineTrees m table count)) (p .1)))
 
-  first-lines : (i : ℕ) → i ≤ count → linesText (m .tag) (m .first) (m .second) table i ≡ text (lineTrees m table count) (lineTrees m table i)
+  first-lines : (i : ℕ) → i ≤ count → linesText rows table i ≡ text (lineTrees m table count) (lineTrees m table i)
   unfolding linesText text upTo
   first-lines zero o = refl
   first-lines (suc i) o =
       rw (first-lines i (omega arith), line-is i (omega arith)) (sym (ap (text (lineTrees m table count)) (upTo-snoc i _) ∙ text-snoc (lineTrees m table count) (lineTrees m table i) (treeAt m (getD table i 0))))
 
-  pub all-lines : linesText (m .tag) (m .first) (m .second) table count ≡ text (lineTrees m table count) (lineTrees m table count)
+  pub all-lines : linesText rows table count ≡ text (lineTrees m table count) (lineTrees m table count)
   all-lines = first-lines count (omega arith)
 
 -- ---- the answer
 
-pub none-listed : (m : Memory) (n : ℕ) (table : List ℕ) → tableWords ≤ length table → Listed m n table 0
+pub none-listed : (m : Memory) (n : ℕ) (table : List ℕ) → Holds m n → tableWords ≤ length table → Listed m n m table 0
 unfolding upTo
-none-listed m n table h = record { long = h; nodes = λ k o. absurd (omega arith); laid = empty; marks = λ k o. absurd (omega arith) }
+none-listed m n table h o = record {
+  same = refl;
+  links = room-each m n (h .fits) .links;
+  long = o;
+  nodes = λ k o. absurd (omega arith);
+  laid = empty;
+  marks = λ k o. absurd (omega arith);
+}
 
-module _ {m : Memory} {n : ℕ} (h : Holds m n) {root count : ℕ} {table₀ table : List ℕ} (inside : root < n) (v : Visited m n table₀ root noChild 0 count table) where
+module _ {m : Memory} {n : ℕ} (h : Holds m n) {root count : ℕ} {rows : Memory} {table₀ table : List ℕ} (inside : root < n) (v : Visited m n table₀ root noChild 0 count rows table) where
   order-is : lineTrees m table count ≡ order (treeAt m root)
   unfolding visited upTo
   order-is = v .done ∙ rw (lt-ltb root noChild (omega (arith, inside, room-small h)))
@@ -139,7 +163,7 @@ module _ {m : Memory} {n : ℕ} (h : Holds m n) {root count : ℕ} {table₀ tab
   pub count-is : length (order (treeAt m root)) ≡ count
   count-is = ap length (sym order-is) ∙ length-upTo count (λ k. treeAt m (getD table k 0))
 
-  pub text-is : linesText (m .tag) (m .first) (m .second) table count ≡ textOf (treeAt m root)
+  pub text-is : linesText rows table count ≡ textOf (treeAt m root)
   text-is = all-lines h (v .listed) ∙ ap (λ ts. text ts ts) order-is
 
   pub too-long : (out : List ℕ) → 1024 < count → (Written.Refused (Refusal.LongList 0), out) ≡ written (treeAt m root) out
@@ -147,13 +171,13 @@ module _ {m : Memory} {n : ℕ} (h : Holds m n) {root count : ℕ} {table₀ tab
   too-long out o = rw (count-is, lt-ltb 1024 count o)
 
   module _ (few : count ≤ 1024) where
-    pub no-room : (out : List ℕ) (size : ℕ) → size ≡ length (linesText (m .tag) (m .first) (m .second) table count) → length out < size
+    pub no-room : (out : List ℕ) (size : ℕ) → size ≡ length (linesText rows table count) → length out < size
         → (Written.Refused Refusal.OutRoom, out) ≡ written (treeAt m root) out
     unfolding written
     no-room out size e o = rw (count-is, le-ltb 1024 count few, lt-ltb (length out) (length (textOf (treeAt m root))) (omega (arith, o, e, ap length text-is)))
 
-    pub wrote : (out out′ : List ℕ) (r size : ℕ) → size ≡ length (linesText (m .tag) (m .first) (m .second) table count) → size ≤ length out
-        → Put out 0 (linesText (m .tag) (m .first) (m .second) table count) r out′ → (Written.Bytes r, out′) ≡ written (treeAt m root) out
+    pub wrote : (out out′ : List ℕ) (r size : ℕ) → size ≡ length (linesText rows table count) → size ≤ length out
+        → Put out 0 (linesText rows table count) r out′ → (Written.Bytes r, out′) ≡ written (treeAt m root) out
     unfolding written
     wrote out out′ r size e o p =
         let t = textOf (treeAt m root) in

@@ -19,7 +19,7 @@ use Rattle.expression.specs.declared.node.Expression.{Expression}
 use Rattle.store.specs.Nodes.{expressionOf}
 use Rattle.expression.specs.Nodes.{operandsOf, grown, Within}
 use Rattle.store.specs.Storing.{among, place}
-use Rattle.store.specs.Memory.{Memory, fieldsAt, treeAt, treeOf}
+use Rattle.store.specs.Memory.{Memory, columns, withLink, fieldsAt, expressionAt, treeAt, treeOf}
 use Rattle.store.specs.Held.{Holds}
 use Rattle.store.proofs.Places.{place-within, place-hit, place-first, among-yes, among-no}
 use Rattle.store.proofs.Stored.{proper, limited, one-node, read-node}
@@ -27,10 +27,8 @@ use Rattle.store.proofs.Trees.{room-each}
 use Rattle.memory.proofs.Values.{length-upTo, at-upTo, upTo-grown}
 use Rattle.writing.specs.declared.order.Children.{Children}
 use Rattle.writing.specs.Order.{once, finished}
-use Rattle.writing.specs.Ordering.{AllIn, noChild, childrenIn, childrenOf, Tells, Enters, Listed, visited, Visited}
-use Rattle.memory.specs.Layout.{placesFrom}
-use Rattle.listing.specs.Tables.{entryAt, lineTrees}
-use Rattle.listing.proofs.Taking.{entry-is}
+use Rattle.writing.specs.Ordering.{AllIn, noChild, childrenIn, childrenOf, mostRows, Tells, Entered, Enters, Listed, visited, Visited}
+use Rattle.listing.specs.Tables.{lineTrees}
 use Rattle.writing.proofs.Orders.{once-new, done-already, finished-laid, laid-all, not-yet, true-not-false}
 
 -- ---- no more numbers below n than n
@@ -68,7 +66,7 @@ pigeon (suc n) (suc c) f b inj = omega (arith, pigeon n c g below apart)
 
 -- ---- a tree is among the listed ones if and only if its node is listed
 
-module _ {m : Memory} {n : ℕ} (h : Holds m n) {table : List ℕ} {count : ℕ} (l : Listed m n table count) where
+module _ {m : Memory} {n : ℕ} (h : Holds m n) {rows : Memory} {table : List ℕ} {count : ℕ} (l : Listed m n rows table count) where
   done-at : (k : ℕ) → k < count → getD (lineTrees m table count) k (leaf pi) ≡ treeAt m (getD table k 0)
   done-at k o = at-upTo count (λ k. treeAt m (getD table k 0)) (leaf pi) k o
 
@@ -95,7 +93,7 @@ module _ {m : Memory} {n : ℕ} (h : Holds m n) {table : List ℕ} {count : ℕ}
 
 -- ---- the children of a node
 
-module _ (m : Memory) (node : ℕ) (small : node < placesFrom) where
+module _ (m : Memory) (node : ℕ) (small : node < mostRows) where
   none-visited : (done : List Tree) → visited m noChild node done ≡ done
   unfolding visited
   none-visited done = rw (le-ltb noChild node (omega (arith, small)))
@@ -132,30 +130,40 @@ module _ (m : Memory) (node : ℕ) (small : node < placesFrom) where
         (not-yet (treeAt m b) (infixed o (treeAt m a) (treeAt m b)) (finished (treeAt m a) done) (each b) p (omega arith)
         (not-yet (treeAt m a) (infixed o (treeAt m a) (treeAt m b)) done (each a) p (omega arith) e))
 
+-- ---- the rows
+
+-- what the rows of a store are but for the links: each node is as it is there
+module _ (m rows : Memory) (same : rows ≡ columns (m .tag) (m .first) (m .second) (rows .link)) where
+  pub expression-kept : (k : ℕ) → expressionAt rows k ≡ expressionAt m k
+  unfolding expressionAt
+  expression-kept k = ap (λ (q : Memory). expressionOf (fieldsAt q k)) same
+
+  link-put : (i link : ℕ) {rows′ : Memory} → rows′ ≡ withLink rows i link → rows′ ≡ columns (m .tag) (m .first) (m .second) (rows′ .link)
+  link-put i link e =
+      let f = e ∙ ap (λ (q : Memory). withLink q i link) same in
+      f ∙ sym (ap (λ (q : Memory). columns (m .tag) (m .first) (m .second) (q .link)) f)
+
 -- ---- the returns
 
-pub room-small : {m : Memory} {n : ℕ} → Holds m n → n ≤ placesFrom
+pub room-small : {m : Memory} {n : ℕ} → Holds m n → n ≤ mostRows
 room-small {m} {n} h = room-each m n (h .fits) .most
 
-module _ {m : Memory} {n : ℕ} (h : Holds m n) {table : List ℕ} {node below count : ℕ} (in-range : node < below → node < n) (l : Listed m n table count) where
-  pub visit-none : below ≤ node → Visited m n table node below count count table
+module _ {m : Memory} {n : ℕ} (h : Holds m n) {rows : Memory} {table : List ℕ} {node below count : ℕ} (in-range : node < below → node < n) (l : Listed m n rows table count) where
+  pub visit-none : below ≤ node → Visited m n table node below count count rows table
   unfolding visited
   visit-none o = record { listed = l; done = rw (le-ltb node below o) }
 
   module _ (o : node < below) where
-    node-small : node < placesFrom
+    node-small : node < mostRows
     node-small = omega (arith, in-range o, room-small h)
 
-    mark : entryAt table placesFrom node ≡ getD table (placesFrom + node) 0
-    mark = entry-is table placesFrom node node-small
-
-    module _ {r : Bool} (t : Tells table node count r) where
-      pub visit-found : r ≡ true → Visited m n table node below count count table
+    module _ {r : Bool} (t : Tells rows table node count r) where
+      pub visit-found : r ≡ true → Visited m n table node below count count rows table
       unfolding visited
       visit-found e = record { listed = l; done = rw (lt-ltb node below o) (sym (done-already (treeAt m node) (lineTrees m table count) all)) }
         where
           k : ℕ
-          k = entryAt table placesFrom node
+          k = getD (rows .link) node 0
 
           go : (b c : Bool) → ltb k count ≡ b → eqb (getD table k 0) node ≡ c → true ≡ cond b c false → (k < count) × (getD table k 0 ≡ node)
           go true true p q z = (ltb→lt k count (subst T (sym p) tt), eqb→eq (getD table k 0) node (subst T (sym q) tt))
@@ -173,11 +181,12 @@ module _ {m : Memory} {n : ℕ} (h : Holds m n) {table : List ℕ} {node below c
       -- no line has the node
       unlisted : r ≡ false → (k : ℕ) → k < count → getD table k 0 ≡ node → ⊥
       unlisted e k p q =
-          let z : entryAt table placesFrom node ≡ k = mark ∙ (rw q at (l .marks k p)) in
+          let z : getD (rows .link) node 0 ≡ k = rw q at (l .marks k p) in
           true-not-false (sym (sym e ∙ t ∙ rw (z, lt-ltb k count p, q, eq-eqb node node refl)))
 
-      module _ {e : Expression} {c : Children} {left right r′ : ℕ} {table₁ table₂ table₃ : List ℕ} (new : r ≡ false) (e-is : e ≡ expressionOf (fieldsAt m node)) (c-is : c ≡ childrenOf e)
-          (v₁ : Visited m n table (c .left) node count left table₁) (v₂ : Visited m n table₁ (c .right) node left right table₂) (enters : Enters table₂ node right r′ table₃) where
+      module _ {e : Expression} {c : Children} {left right r′ : ℕ} {rows₁ rows₂ rows₃ : Memory} {table₁ table₂ table₃ : List ℕ} (new : r ≡ false) (e-is : e ≡ expressionAt rows node) (c-is : c ≡ childrenOf e)
+          (v₁ : Visited m n table (c .left) node count left rows₁ table₁) (v₂ : Visited m n table₁ (c .right) node left right rows₂ table₂)
+          (enters : Enters rows₂ table₂ node right r′ rows₃ table₃) where
         inside : node < n
         inside = in-range o
 
@@ -185,7 +194,7 @@ module _ {m : Memory} {n : ℕ} (h : Holds m n) {table : List ℕ} {node below c
         tree = treeAt m node
 
         parts : Within node e × (treeOf m e ≡ treeAt m node)
-        parts = read-node h node inside e-is
+        parts = read-node h node inside (e-is ∙ expression-kept m rows (l .same) node)
 
         done₂ : lineTrees m table₂ right ≡ visited m (childrenOf e .right) node (visited m (childrenOf e .left) node (lineTrees m table count))
         done₂ = rw (← c-is) (v₂ .done ∙ ap (visited m (c .right) node) (v₁ .done))
@@ -199,10 +208,10 @@ module _ {m : Memory} {n : ℕ} (h : Holds m n) {table : List ℕ} {node below c
         unlisted₂ : (k : ℕ) → k < right → getD table₂ k 0 ≡ node → ⊥
         unlisted₂ k p q = true-not-false (sym (listed-among h (v₂ .listed) node k p q) ∙ new₂)
 
-        l₂ : Listed m n table₂ right
+        l₂ : Listed m n rows₂ table₂ right
         l₂ = v₂ .listed
 
-        room-left : right < placesFrom
+        room-left : right < mostRows
         room-left = omega (arith, room-small h, pigeon n (right + 1) f below-n apart)
           where
             f : ℕ → ℕ
@@ -227,30 +236,28 @@ module _ {m : Memory} {n : ℕ} (h : Holds m n) {table : List ℕ} {node below c
                 go : Dec (i < right) → Dec (j < right) → i ≡ j
                 go (yes x) (yes y) =
                     let w : getD table₂ i 0 ≡ getD table₂ j 0 = sym (f-old i x) ∙ z ∙ f-old j y in
-                    sym (l₂ .marks i x) ∙ ap (λ a. getD table₂ (placesFrom + a) 0) w ∙ l₂ .marks j y
+                    sym (l₂ .marks i x) ∙ ap (λ a. getD (rows₂ .link) a 0) w ∙ l₂ .marks j y
                 go (yes x) (no y) = absurd (unlisted₂ i x (sym (f-old i x) ∙ z ∙ f-new j (omega arith)))
                 go (no x) (yes y) = absurd (unlisted₂ j y (sym (f-old j y) ∙ sym z ∙ f-new i (omega arith)))
                 go (no x) (no y) = omega arith
 
-        count-is : r′ ≡ right + 1
-        count-is = enters .entered room-left node-small .0
+        entered : Entered rows₂ table₂ node right r′ rows₃ table₃
+        entered = enters room-left
 
-        table-is : table₃ ≡ set (set table₂ right node) (placesFrom + node) right
-        table-is = enters .entered room-left node-small .1
-
-        kept : (k : ℕ) → (k ≡ right → ⊥) → (k ≡ placesFrom + node → ⊥) → getD table₃ k 0 ≡ getD table₂ k 0
-        kept k p q = rw table-is (getD-set-other (set table₂ right node) (placesFrom + node) k right 0 q ∙ getD-set-other table₂ right k node 0 p)
+        links-are : rows₃ .link ≡ set (rows₂ .link) node right
+        links-are = ap (λ (q : Memory). q .link) (entered .marked)
 
         kept-line : (k : ℕ) → k < right → getD table₃ k 0 ≡ getD table₂ k 0
-        kept-line k p = kept k (λ z. omega (arith, z, p)) (λ z. omega (arith, z, p, room-left))
+        kept-line k p = rw (entered .put) (getD-set-other table₂ right k node 0 (λ z. omega (arith, z, p)))
 
         at-end : getD table₃ right 0 ≡ node
-        at-end =
-            rw table-is (getD-set-other (set table₂ right node) (placesFrom + node) right right 0 (λ z. omega (arith, z, room-left))
-            ∙ getD-set-same table₂ right node 0 (omega (arith, l₂ .long, room-left)))
+        at-end = rw (entered .put) (getD-set-same table₂ right node 0 (omega (arith, l₂ .long, room-left)))
 
-        at-mark : getD table₃ (placesFrom + node) 0 ≡ right
-        at-mark = rw table-is (getD-set-same (set table₂ right node) (placesFrom + node) right 0 (omega (arith, l₂ .long, node-small, length-set table₂ right node)))
+        kept-mark : (k : ℕ) → (k ≡ node → ⊥) → getD (rows₃ .link) k 0 ≡ getD (rows₂ .link) k 0
+        kept-mark k p = rw links-are (getD-set-other (rows₂ .link) node k right 0 p)
+
+        at-mark : getD (rows₃ .link) node 0 ≡ right
+        at-mark = rw links-are (getD-set-same (rows₂ .link) node right 0 (omega (arith, l₂ .links, inside)))
 
         lines-are : lineTrees m table₃ (right + 1) ≡ finished (treeAt m node) (lineTrees m table count)
         lines-are =
@@ -260,11 +267,13 @@ module _ {m : Memory} {n : ℕ} (h : Holds m n) {table : List ℕ} {node below c
             ∙ subst (λ t. once t (visited m (childrenOf e .right) node (visited m (childrenOf e .left) node (lineTrees m table count))) ≡ finished t (lineTrees m table count)) (parts .1)
             (sym (finished-by m node node-small e (lineTrees m table count) (parts .0)))
 
-        pub visit-entered : Visited m n table node below count r′ table₃
+        pub visit-entered : Visited m n table node below count r′ rows₃ table₃
         unfolding visited
-        visit-entered = rw count-is (record {
+        visit-entered = rw (entered .next) (record {
           listed = record {
-            long = rw table-is (omega (arith, l₂ .long, length-set (set table₂ right node) (placesFrom + node) right, length-set table₂ right node));
+            same = link-put m rows₂ (l₂ .same) node right (entered .marked);
+            links = rw links-are (omega (arith, l₂ .links, length-set (rows₂ .link) node right));
+            long = rw (entered .put) (omega (arith, l₂ .long, length-set table₂ right node));
             nodes = λ k p. node-at k p (decLt k right);
             laid = rw lines-are (finished-laid (treeAt m node) (lineTrees m table count) (l .laid) (proper h node) (limited h node inside) .0);
             marks = λ k p. mark-at k p (decLt k right);
@@ -276,7 +285,6 @@ module _ {m : Memory} {n : ℕ} (h : Holds m n) {table : List ℕ} {node below c
             node-at k p (yes y) = rw (kept-line k y) (l₂ .nodes k y)
             node-at k p (no y) = let z : k ≡ right = omega arith in rw (z, at-end) inside
 
-            mark-at : (k : ℕ) → k < right + 1 → Dec (k < right) → getD table₃ (placesFrom + getD table₃ k 0) 0 ≡ k
-            mark-at k p (yes y) =
-                rw (kept-line k y) (kept (placesFrom + getD table₂ k 0) (λ z. omega (arith, z, room-left)) (λ z. unlisted₂ k y (omega (arith, z))) ∙ l₂ .marks k y)
+            mark-at : (k : ℕ) → k < right + 1 → Dec (k < right) → getD (rows₃ .link) (getD table₃ k 0) 0 ≡ k
+            mark-at k p (yes y) = rw (kept-line k y) (kept-mark (getD table₂ k 0) (unlisted₂ k y) ∙ l₂ .marks k y)
             mark-at k p (no y) = let z : k ≡ right = omega arith in rw (z, at-end) at-mark

@@ -1,4 +1,4 @@
--- What the table says while the nodes of a tree are put in order. Only connecting.
+-- What the table and the links say while the nodes of a tree are put in order. Only connecting.
 use mathlib.Core.Path.{_≡_}
 use Prim.Native.Nat.{ℕ, zero, suc, _+_, _≤_, _<_}
 use mathlib.Core.List.{List, [], _∷_, _++_}
@@ -9,18 +9,17 @@ use Rattle.expression.specs.Trees.{Tree, leaf, number, pi, variable, cell, func
 use Rattle.expression.specs.Limits.{Limited, Proper}
 use Rattle.store.specs.Storing.{among}
 use Rattle.expression.specs.declared.node.Expression.{Expression}
-use Rattle.store.specs.Nodes.{expressionOf}
-use Rattle.store.specs.Memory.{Memory, memory, fieldsOn, treeAt}
+use Rattle.store.specs.Memory.{Memory, columns, withLink, expressionAt, treeAt}
 use Rattle.store.specs.Held.{Holds}
 use Rattle.expression.specs.declared.node.Operands.{Operands}
-use Rattle.expression.specs.Nodes.{operandsOf}
-use Rattle.memory.specs.Layout.{tableWords, placesFrom}
+use Rattle.expression.specs.Nodes.{operandsOf, withOperands}
+use Rattle.memory.specs.Layout.{tableWords}
 use Rattle.writing.specs.declared.order.Children.{Children}
 use Rattle.writing.specs.declared.Written.{Written}
 use Rattle.writing.specs.Order.{finished, leafFields, written}
 use Rattle.spelling.specs.Names.{functionName, prefixName, infixName}
 use Rattle.text.specs.Writing.{inDecimal, line}
-use Rattle.listing.specs.Tables.{lineTrees, entryAt, moved}
+use Rattle.listing.specs.Tables.{lineTrees}
 
 -- ---- lists of trees
 
@@ -59,36 +58,46 @@ childrenIn (Operands.Two a b) = children a b
 abbrev pub childrenOf : Expression → Children
 childrenOf e = childrenIn (operandsOf e)
 
--- whether the table's line of a node is that node's
-abbrev pub Tells : (table : List ℕ) (node count : ℕ) → Bool → Type 0
-Tells table node count r = r ≡ cond (ltb (entryAt table placesFrom node) count) (eqb (getD table (entryAt table placesFrom node) 0) node) false
+-- a store has at most so many nodes
+abbrev pub mostRows : ℕ
+mostRows = 4096
+
+-- whether the node of a node's line is that node
+abbrev pub Tells : (rows : Memory) (table : List ℕ) (node count : ℕ) → Bool → Type 0
+Tells rows table node count r = r ≡ cond (ltb (getD (rows .link) node 0) count) (eqb (getD table (getD (rows .link) node 0) 0) node) false
 
 -- a node is put at the end
-pub record Enters (table : List ℕ) (node count r : ℕ) (table′ : List ℕ) : Type 0 where
-  pub entered : count < placesFrom → node < placesFrom → (r ≡ count + 1) × (table′ ≡ set (set table count node) (placesFrom + node) count)
+pub record Entered (rows : Memory) (table : List ℕ) (node count r : ℕ) (rows′ : Memory) (table′ : List ℕ) : Type 0 where
+  pub next : r ≡ count + 1
+  pub marked : rows′ ≡ withLink rows node count
+  pub put : table′ ≡ set table count node
 
--- the first `count` nodes of the table are such as a listing has them, and each is found by its line
-pub record Listed (m : Memory) (n : ℕ) (table : List ℕ) (count : ℕ) : Type 0 where
+abbrev pub Enters : (rows : Memory) (table : List ℕ) (node count r : ℕ) (rows′ : Memory) (table′ : List ℕ) → Type 0
+Enters rows table node count r rows′ table′ = count < mostRows → Entered rows table node count r rows′ table′
+
+-- the rows are those of a store, but for the links; the first `count` nodes of the table are such as a listing has them, and the link of each
+-- is its line
+pub record Listed (m : Memory) (n : ℕ) (rows : Memory) (table : List ℕ) (count : ℕ) : Type 0 where
+  pub same : rows ≡ columns (m .tag) (m .first) (m .second) (rows .link)
+  pub links : n ≤ length (rows .link)
   pub long : tableWords ≤ length table
   pub nodes : (k : ℕ) → k < count → getD table k 0 < n
   pub laid : Laid (lineTrees m table count)
-  pub marks : (k : ℕ) → k < count → getD table (placesFrom + getD table k 0) 0 ≡ k
+  pub marks : (k : ℕ) → k < count → getD (rows .link) (getD table k 0) 0 ≡ k
 
 -- the trees that are done after a node
 unfoldable pub visited : (m : Memory) (node below : ℕ) (done : List Tree) → List Tree
 visited m node below done = cond (ltb node below) (finished (treeAt m node) done) done
 
 -- from a table to the next
-pub record Visited (m : Memory) (n : ℕ) (table : List ℕ) (node below count r : ℕ) (table′ : List ℕ) : Type 0 where
-  pub listed : Listed m n table′ r
+pub record Visited (m : Memory) (n : ℕ) (table : List ℕ) (node below count r : ℕ) (rows′ : Memory) (table′ : List ℕ) : Type 0 where
+  pub listed : Listed m n rows′ table′ r
   pub done : lineTrees m table′ r ≡ visited m node below (lineTrees m table count)
 
-abbrev pub VisitsFrom : (m : Memory) (table : List ℕ) (node below count r : ℕ) (table′ : List ℕ) → Type 0
-VisitsFrom m table node below count r table′ =
-    (n : ℕ) → Holds m n → (node < below → node < n) → Listed m n table count → Visited m n table node below count r table′
-
-abbrev pub Visits : (tag first second table : List ℕ) (node below count r : ℕ) (table′ : List ℕ) → Type 0
-Visits tag first second table node below count r table′ = (link : List ℕ) → VisitsFrom (memory tag first second link) table node below count r table′
+-- of each store that has these rows, but for the links
+abbrev pub Visits : (rows : Memory) (table : List ℕ) (node below count r : ℕ) (rows′ : Memory) (table′ : List ℕ) → Type 0
+Visits rows table node below count r rows′ table′ =
+    (m : Memory) (n : ℕ) → Holds m n → (node < below → node < n) → Listed m n rows table count → Visited m n table node below count r rows′ table′
 
 -- ---- a line whose operands are numbers of lines
 
@@ -104,17 +113,23 @@ textFields (Expression.Infix o a b) = (98 ∷ []) ∷ infixName o ∷ inDecimal 
 unfoldable pub lineText : Expression → List ℕ
 lineText e = line (textFields e)
 
--- line i of the order in a table
-unfoldable pub lineAt : (tag first second table : List ℕ) → ℕ → Expression
-lineAt tag first second table i = moved table placesFrom (expressionOf (fieldsOn tag first second (getD table i 0)))
+-- a node with the lines of its operands, which are their links
+unfoldable pub linedTo : (link : List ℕ) → Expression → Operands → Expression
+linedTo link e Operands.Nothing = e
+linedTo link e (Operands.One a) = withOperands e 0 (getD link a 0)
+linedTo link e (Operands.Two a b) = withOperands e (getD link a 0) (getD link b 0)
 
-unfoldable pub linesText : (tag first second table : List ℕ) → ℕ → List ℕ
-linesText tag first second table zero = []
-linesText tag first second table (suc i) = linesText tag first second table i ++ lineText (lineAt tag first second table i)
+abbrev pub linedBy : (link : List ℕ) → Expression → Expression
+linedBy link e = linedTo link e (operandsOf e)
+
+-- line i of the order in a table
+unfoldable pub lineAt : (rows : Memory) (table : List ℕ) → ℕ → Expression
+lineAt rows table i = linedBy (rows .link) (expressionAt rows (getD table i 0))
+
+unfoldable pub linesText : (rows : Memory) (table : List ℕ) → ℕ → List ℕ
+linesText rows table zero = []
+linesText rows table (suc i) = linesText rows table i ++ lineText (lineAt rows table i)
 
 -- the tree of a node is written as the definition says, and a refusal leaves the output as it was
-abbrev pub WritesFrom : (m : Memory) (root : ℕ) (r : Written) (out out′ : List ℕ) → Type 0
-WritesFrom m root r out out′ = (n : ℕ) → Holds m n → root < n → (r, out′) ≡ written (treeAt m root) out
-
-abbrev pub Writes : (tag first second : List ℕ) (root : ℕ) (r : Written) (out out′ : List ℕ) → Type 0
-Writes tag first second root r out out′ = (link : List ℕ) → WritesFrom (memory tag first second link) root r out out′
+abbrev pub Writes : (m : Memory) (root : ℕ) (r : Written) (out out′ : List ℕ) → Type 0
+Writes m root r out out′ = (n : ℕ) → Holds m n → root < n → (r, out′) ≡ written (treeAt m root) out

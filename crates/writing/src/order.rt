@@ -1,13 +1,17 @@
 // The written order of a tree: a table of its nodes, each once, in the order in which evaluation first finishes them.
-// Word i of the table is the node of line i; word PLACES_FROM + k is the line of node k, if that line's node is k.
+// Word i of the table is the node of line i; the link of node k is the line of node k, if that line's node is k.
 ghost use mathlib.Core.Path.{_≡_};
+ghost use Rattle.store.specs.Memory.{memory};
 ghost use Rattle.writing.specs.Ordering.{childrenIn, Tells, Visits, Enters};
 use expression::node::Operands;
-use listing::entry_at;
-use memory::layout::PLACES_FROM;
 use memory::put;
 use memory::read;
 use store::reading::operands_at;
+use store::words::link_at;
+use store::words::put_link;
+
+// A store has at most this many nodes, and the table this many lines.
+const MOST: usize = 4096;
 
 // Above all nodes: where there is no child.
 pub const NONE: usize = 0xFFFF_FFFF_FFFF_FFFF;
@@ -32,10 +36,10 @@ fn children_of(operands: Operands) -> Children
 }
 
 // Whether a node is among the first `count` of the table.
-fn is_listed(table: &[u64], node: usize, count: usize) -> bool
-    ensures { λ r. ⌜ Tells (now (table .entry)) node count r ⌝ }
+fn is_listed(store: &[[u64; 4]], table: &[u64], node: usize, count: usize) -> bool
+    ensures { λ r. ⌜ Tells (memory (now (store .entry))) (now (table .entry)) node count r ⌝ }
 {
-    let line = entry_at(table, PLACES_FROM, node);
+    let line = link_at(store, node) as usize;
     if line < count {
         read(table, line) == node as u64
     } else {
@@ -43,41 +47,36 @@ fn is_listed(table: &[u64], node: usize, count: usize) -> bool
     }
 }
 
-// A node after the first `count`, where there is room for both of its words.
-fn enter(table: &mut [u64], node: usize, count: usize) -> usize
-    ensures { λ r. ⌜ Enters (now (table .entry)) node count r (now (table .exit)) ⌝ }
+// A node after the first `count`, where there is room for it.
+fn enter(store: &mut [[u64; 4]], table: &mut [u64], node: usize, count: usize) -> usize
+    ensures { λ r. ⌜ Enters (memory (now (store .entry))) (now (table .entry)) node count r (memory (now (store .exit))) (now (table .exit)) ⌝ }
 {
-    if PLACES_FROM <= count {
-        return count;
-    }
-    if PLACES_FROM <= node {
+    if MOST <= count {
         return count;
     }
     put(table, count, node as u64);
-    put(table, PLACES_FROM + node, count as u64);
+    put_link(store, node, count as u64);
     count + 1
 }
 
 // The nodes below `node` and then itself, as far as they are not in the table; a node that is not below `below` is none.
 pub fn visit(
-    tag: &[u64],
-    first: &[u64],
-    second: &[u64],
+    store: &mut [[u64; 4]],
     table: &mut [u64],
     node: usize,
     below: usize,
     count: usize,
 ) -> usize
-    ensures { λ r. ⌜ Visits (now (tag .entry)) (now (first .entry)) (now (second .entry)) (now (table .entry)) node below count r (now (table .exit)) ⌝ }
+    ensures { λ r. ⌜ Visits (memory (now (store .entry))) (now (table .entry)) node below count r (memory (now (store .exit))) (now (table .exit)) ⌝ }
 {
     if below <= node {
         return count;
     }
-    if is_listed(table, node, count) {
+    if is_listed(store, table, node, count) {
         return count;
     }
-    let c = children_of(operands_at(tag, first, second, node));
-    let left = visit(tag, first, second, table, c.left, node, count);
-    let right = visit(tag, first, second, table, c.right, node, left);
-    enter(table, node, right)
+    let c = children_of(operands_at(store, node));
+    let left = visit(store, table, c.left, node, count);
+    let right = visit(store, table, c.right, node, left);
+    enter(store, table, node, right)
 }

@@ -47,7 +47,7 @@ impl Tally {
     fn differs(&mut self, q: &Question, why: &str) {
         self.differ += 1;
         if self.differ <= SHOWN {
-            println!("DIFFERS, {:?}: {why}\nlengths {:?}, output {}, junk {:#x}", q.kind, q.lengths, q.out, q.junk);
+            println!("DIFFERS, {:?}: {why}\nrows {}, output {}, junk {:#x}", q.kind, q.rows, q.out, q.junk);
             println!("{}\n{}", q.listing, q.sheet);
         }
     }

@@ -13,17 +13,19 @@ use std::collections::HashSet;
 pub const ROWS: usize = 256; // that a sheet may have
 const ROUNDS: usize = 40; // after which rows that are asked for are given beforehand
 
-fn lengths(random: &mut Random, needed: usize, most: usize) -> [usize; 4] {
+// How many rows are lent: too few, just enough or plenty, also more than a store may have. Four numbers are drawn and the least is
+// taken, so that the cases after it stay the stored ones.
+fn rows(random: &mut Random, needed: usize, most: usize) -> usize {
     let mut all = [0; 4].map(|_| (needed + random.below(20)).min(most));
     match random.below(12) {
         0 => all[random.below(4)] = random.below(needed.max(1)),
         1 => all[random.below(4)] = needed.saturating_sub(1),
         2..=4 => all[random.below(4)] = needed,
-        5 => all = [MOST; 4],
-        6 => all = [0, 1, 2, 3].map(|i| (MOST + 300 * i).min(most)),
+        5 => return MOST,
+        6 => return (MOST + 300).min(most),
         _ => {}
     }
-    all
+    all.into_iter().min().unwrap_or(0)
 }
 
 fn junk(random: &mut Random) -> u64 {
@@ -47,7 +49,7 @@ pub fn question(random: &mut Random, kind: Kind, case: &Case, rust: &Rust, most:
         kind,
         listing: listing(&case.nodes, &case.swaps),
         sheet: bindings(case),
-        lengths: lengths(random, needed, most),
+        rows: rows(random, needed, most),
         out: 0,
         junk: junk(random),
         tape: None,
@@ -61,7 +63,7 @@ pub fn simplify_question(random: &mut Random, nodes: &[Node], limit: u64, needed
         kind: Kind::Simplify(limit),
         listing: listing(nodes, &[]),
         sheet: random.pick(&bound).into(),
-        lengths: lengths(random, needed, most),
+        rows: rows(random, needed, most),
         out: 0,
         junk: junk(random),
         tape: None,

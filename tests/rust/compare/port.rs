@@ -7,37 +7,31 @@ pub mod tape;
 unsafe extern "C" {
     fn findavoreb_evaluate(
         listing: *const u8, listing_length: usize, sheet: *const u8, sheet_length: usize,
-        tag: *mut u64, tag_length: usize, first: *mut u64, first_length: usize,
-        second: *mut u64, second_length: usize, link: *mut u64, link_length: usize,
-        table: *mut u64, answer: *mut u64,
+        store: *mut [u64; 4], rows: usize, desk: *mut u64, table: *mut u64, answer: *mut u64,
     ) -> u64;
     fn findavoreb_substitute(
         listing: *const u8, listing_length: usize,
-        tag: *mut u64, tag_length: usize, first: *mut u64, first_length: usize,
-        second: *mut u64, second_length: usize, link: *mut u64, link_length: usize,
-        table: *mut u64, out: *mut u8, out_length: usize, answer: *mut u64,
+        store: *mut [u64; 4], rows: usize, desk: *mut u64, table: *mut u64,
+        out: *mut u8, out_length: usize, answer: *mut u64,
     ) -> u64;
     fn findavoreb_to_real(
         listing: *const u8, listing_length: usize,
-        tag: *mut u64, tag_length: usize, first: *mut u64, first_length: usize,
-        second: *mut u64, second_length: usize, link: *mut u64, link_length: usize,
-        table: *mut u64, answer: *mut u64,
+        store: *mut [u64; 4], rows: usize, desk: *mut u64, table: *mut u64, answer: *mut u64,
     ) -> u64;
     fn findavoreb_simplify(
         listing: *const u8, listing_length: usize, sheet: *const u8, sheet_length: usize, limit: u64,
-        tag: *mut u64, tag_length: usize, first: *mut u64, first_length: usize,
-        second: *mut u64, second_length: usize, link: *mut u64, link_length: usize,
-        table: *mut u64, out: *mut u8, out_length: usize, answer: *mut u64,
+        store: *mut [u64; 4], rows: usize, desk: *mut u64, table: *mut u64,
+        out: *mut u8, out_length: usize, answer: *mut u64,
     ) -> u64;
     fn findavoreb_compile(
         listing: *const u8, listing_length: usize,
-        tag: *mut u64, tag_length: usize, first: *mut u64, first_length: usize,
-        second: *mut u64, second_length: usize, link: *mut u64, link_length: usize,
-        table: *mut u64, out: *mut u8, out_length: usize, answer: *mut u64,
+        store: *mut [u64; 4], rows: usize, desk: *mut u64, table: *mut u64,
+        out: *mut u8, out_length: usize, answer: *mut u64,
     ) -> u64;
 }
 
-const TABLE: usize = 8192;
+const DESK: usize = 272;
+const TABLE: usize = 4608;
 const ANSWER: usize = 6;
 const EDGE: usize = 4; // words, or bytes, before and after a slice
 const BLANK: u8 = 0xA5;
@@ -88,28 +82,42 @@ impl Paper {
     }
 }
 
+// The work memory. The rows stand one after another, four words each.
+struct Work {
+    store: Words,
+    desk: Words,
+    table: Words,
+}
+
+impl Work {
+    fn new(rows: usize, junk: u64) -> Self {
+        let [store, desk, table] = [4 * rows, DESK, TABLE].map(|length| Words::new(length, junk));
+        Self { store, desk, table }
+    }
+}
+
 // Rust's empty slices have no address of their own; all the same it is not null.
 #[rustfmt::skip]
-fn call(q: &Question, work: &mut [Words; 4], table: &mut Words, paper: &mut Paper, answer: &mut Words) -> u64 {
+fn call(q: &Question, work: &mut Work, paper: &mut Paper, answer: &mut Words) -> u64 {
     let (text, length) = (q.listing.as_ptr(), q.listing.len());
-    let [(a, al), (b, bl), (c, cl), (d, dl)] = work.each_mut().map(|w| (w.lent().as_mut_ptr(), w.lent().len()));
-    let (table, answer) = (table.lent().as_mut_ptr(), answer.lent().as_mut_ptr());
+    let (store, rows) = (work.store.lent().as_mut_ptr().cast(), q.rows);
+    let (desk, table) = (work.desk.lent().as_mut_ptr(), work.table.lent().as_mut_ptr());
     let (sheet, sheet_length) = (q.sheet.as_ptr(), q.sheet.len());
-    let (out, out_length) = (paper.lent().as_mut_ptr(), q.out);
+    let (out, out_length, answer) = (paper.lent().as_mut_ptr(), q.out, answer.lent().as_mut_ptr());
     unsafe {
         match q.kind {
             Kind::Evaluate => {
-                findavoreb_evaluate(text, length, sheet, sheet_length, a, al, b, bl, c, cl, d, dl, table, answer)
+                findavoreb_evaluate(text, length, sheet, sheet_length, store, rows, desk, table, answer)
             }
             Kind::Substitute => {
-                findavoreb_substitute(text, length, a, al, b, bl, c, cl, d, dl, table, out, out_length, answer)
+                findavoreb_substitute(text, length, store, rows, desk, table, out, out_length, answer)
             }
             Kind::Simplify(limit) => findavoreb_simplify(
-                text, length, sheet, sheet_length, limit, a, al, b, bl, c, cl, d, dl, table, out, out_length, answer,
+                text, length, sheet, sheet_length, limit, store, rows, desk, table, out, out_length, answer,
             ),
-            Kind::ToReal => findavoreb_to_real(text, length, a, al, b, bl, c, cl, d, dl, table, answer),
+            Kind::ToReal => findavoreb_to_real(text, length, store, rows, desk, table, answer),
             Kind::Compile => {
-                findavoreb_compile(text, length, a, al, b, bl, c, cl, d, dl, table, out, out_length, answer)
+                findavoreb_compile(text, length, store, rows, desk, table, out, out_length, answer)
             }
         }
     }
@@ -133,14 +141,16 @@ fn answered(number: u64, answer: &mut Words) -> Result<Answer, &'static str> {
 
 // The answer, or what was wrong about the memory after the call.
 pub fn ask(q: &Question) -> Result<Answer, &'static str> {
-    let mut work = q.lengths.map(|n| Words::new(n, q.junk));
-    let (mut table, mut answer) = (Words::new(TABLE, q.junk), Words::new(ANSWER, !q.junk));
+    let (mut work, mut answer) = (Work::new(q.rows, q.junk), Words::new(ANSWER, !q.junk));
     let mut paper = Paper::new(if q.writes() { q.out } else { 0 });
-    let number = call(q, &mut work, &mut table, &mut paper, &mut answer);
-    if !work.iter_mut().all(Words::is_zero) {
-        return Err("the work slices are not zero");
+    let number = call(q, &mut work, &mut paper, &mut answer);
+    if !work.store.is_zero() {
+        return Err("the rows are not zero");
     }
-    if !table.is_zero() {
+    if !work.desk.is_zero() {
+        return Err("the desk is not zero");
+    }
+    if !work.table.is_zero() {
         return Err("the table is not zero");
     }
     let mut got = answered(number, &mut answer)?;

@@ -11,14 +11,14 @@ pub enum Kind {
     Compile,
 }
 
-// The two texts; how long the four work slices and the output are; what they hold at entry; for evaluating, a tape of the
+// The two texts; how many rows are lent and how long the output is; what all memory holds at entry; for evaluating, a tape of the
 // same that is to be played besides.
 #[derive(Clone, Debug)]
 pub struct Question {
     pub kind: Kind,
     pub listing: String,
     pub sheet: String,
-    pub lengths: [usize; 4],
+    pub rows: usize,
     pub out: usize,
     pub junk: u64,
     pub tape: Option<Vec<u8>>,
@@ -34,7 +34,7 @@ impl Question {
     }
 
     pub fn capacity(&self) -> usize {
-        self.lengths.into_iter().min().unwrap_or(0).min(MOST)
+        self.rows.min(MOST)
     }
 }
 

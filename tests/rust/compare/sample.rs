@@ -80,11 +80,10 @@ fn letter(kind: Kind) -> char {
 
 // A line of fields, then the listing, the sheet and what has to be written.
 fn stored(q: &Question, expected: &Answer) -> Vec<u8> {
-    let lent = q.lengths.iter().fold(0, |sum, n| sum << 16 | *n as u64);
     let texts = (q.listing.len() as u64) << 32 | q.sheet.len() as u64;
     let outputs = (q.out as u64) << 32 | expected.bytes.len() as u64;
     let [a, b, c, d] = expected.words;
-    let fields = [q.junk, lent, texts, outputs, expected.number, expected.place, a, b, c, d, q.limit()];
+    let fields = [q.junk, q.rows as u64, texts, outputs, expected.number, expected.place, a, b, c, d, q.limit()];
     let mut bytes = format!("{}1", letter(q.kind)).into_bytes();
     fields.iter().for_each(|f| bytes.extend(format!("\t{f:016x}").bytes()));
     bytes.push(b'\n');

@@ -15,5 +15,5 @@ choose-function-spec =
     (λ c κs. search needs)
     (λ c κs. search needs)
     (λ c κs. search needs)
-    (λ c. λ link n h l. planned (ap (functionPlan (c .before .before .before .before .before .before .before .args .function)) (tree-of h l (c .before .before .before .expression-at .ensures))) (hit _ (so (c .before .before .is-number .ensures _) (c .before .if1 .taken)) (call (c .number-in .ensures _))))
-    (λ c. λ link n h l. planned (ap (functionPlan (c .before .before .before .before .before .before .args .function)) (tree-of h l (c .before .before .expression-at .ensures))) (past _ (so (c .before .is-number .ensures _) (c .if1 .left)) (build (call-of (sits h l (c .before .before .expression-at .ensures) .at))))))
+    (λ c. λ n h l. planned (ap (functionPlan (c .before .before .before .before .args .function)) (tree-of h l (c .before .before .before .expression-at .ensures))) (hit _ (so (c .before .before .is-number .ensures _) (c .before .if1 .taken)) (call (c .number-in .ensures _))))
+    (λ c. λ n h l. planned (ap (functionPlan (c .before .before .before .args .function)) (tree-of h l (c .before .before .expression-at .ensures))) (past _ (so (c .before .is-number .ensures _) (c .if1 .left)) (build (call-of (sits h l (c .before .before .expression-at .ensures) .at))))))

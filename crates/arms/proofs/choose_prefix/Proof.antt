@@ -14,5 +14,5 @@ choose-prefix-spec =
     (λ c. search needs)
     (λ c. search needs)
     (λ c κs. search needs)
-    (λ c. rw (c .enum-told .given .1) λ link n h l. use-it (here l))
+    (λ c. rw (c .enum-told .given .1) λ n h l. use-it (here l))
     (λ c. rw (c .before .enum-told2 .given .1) (c .choose-minus .ensures)))

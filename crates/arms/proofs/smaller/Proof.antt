@@ -10,5 +10,5 @@ smaller-spec =
     (tie.spec
     (λ c κs. search needs)
     (λ c κs. search needs)
-    (λ c. λ first second link n h l r. smaller-second h l r (c .before .size-at2 .ensures) (c .before .before .size-at .ensures) (c .if1 .taken))
-    (λ c. λ first second link n h l r. smaller-first h l r (c .before .size-at2 .ensures) (c .before .before .size-at .ensures) (c .if1 .left)))
+    (λ c. λ n h l r. smaller-second h l r (c .before .size-at2 .ensures) (c .before .before .size-at .ensures) (c .if1 .taken))
+    (λ c. λ n h l r. smaller-first h l r (c .before .size-at2 .ensures) (c .before .before .size-at .ensures) (c .if1 .left)))

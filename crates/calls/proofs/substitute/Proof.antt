@@ -1,5 +1,4 @@
 -- `substitute` meets its contract. Assumes nothing.
-use mathlib.Core.Path.{_∙_}
 use Rattle.calls.proofs.Framing.{ends, zeroed-alike}
 use borrow.Author.Needs.{needs}
 use Rattle.calls.proofs.substitute.Statement.{statement}
@@ -11,9 +10,6 @@ substitute-spec =
     (tie.spec
     (λ c κs. search needs)
     (λ c κs. search needs)
-    (λ c. c .before .before .before .before .before .before .before .before .clear-work .kept .0 ∙ c .before .before .before .before .before .before .before .before .before .before .before .before .before .before .before .before .before .before .before .before .before .before .before .before .substitute-texts .kept .1 .0)
-    (λ c. c .before .before .before .before .before .before .before .before .clear-work .kept .1 .0 ∙ c .before .before .before .before .before .before .before .before .before .before .before .before .before .before .before .before .before .before .before .before .before .before .before .before .substitute-texts .kept .1 .1 .0)
-    (λ c. c .before .before .before .before .before .before .before .before .clear-work .kept .1 .1 .0 ∙ c .before .before .before .before .before .before .before .before .before .before .before .before .before .before .before .before .before .before .before .before .before .before .before .before .substitute-texts .kept .1 .1 .1 .0)
-    (λ c. c .before .before .before .before .before .before .before .before .clear-work .kept .1 .1 .1 .0 ∙ c .before .before .before .before .before .before .before .before .before .before .before .before .before .before .before .before .before .before .before .before .before .before .before .before .substitute-texts .kept .1 .1 .1 .1 .0)
-    (λ c. c .before .before .before .before .before .before .before .before .before .before .before .before .before .before .before .before .before .before .before .before .before .before .before .before .substitute-texts .kept .1 .1 .1 .1 .1 .1 .0)
-    (λ c. ends _ _ (c .before .before .before .before .before .before .before .before .before .before .before .before .before .before .before .before .before .before .before .before .before .before .before .before .substitute-texts .ensures) (c .before .before .before .before .before .before .before .before .clear-work .ensures) (zeroed-alike _ _ (c .before .before .before .before .before .before .before .before .before .before .before .before .before .before .before .before .before .before .before .before .before .before .before .before .substitute-texts .kept .1 .0) (c .before .before .before .before .before .before .before .before .before .before .before .before .before .before .before .before .before .before .before .before .before .before .before .before .substitute-texts .kept .1 .1 .0) (c .before .before .before .before .before .before .before .before .before .before .before .before .before .before .before .before .before .before .before .before .before .before .before .before .substitute-texts .kept .1 .1 .1 .0) (c .before .before .before .before .before .before .before .before .before .before .before .before .before .before .before .before .before .before .before .before .before .before .before .before .substitute-texts .kept .1 .1 .1 .1 .0) (c .before .before .before .before .before .before .before .before .before .before .before .before .before .before .before .before .before .before .before .before .before .before .before .before .substitute-texts .kept .1 .1 .1 .1 .1 .0))))
+    (λ c. search needs)
+    (λ c. search needs)
+    (λ c. ends _ _ (c .before .before .before .before .before .before .before .before .substitute-texts .ensures) (c .before .clear-work .ensures) (zeroed-alike _ _ (c .before .before .before .before .before .before .before .before .substitute-texts .kept .1 .0) (c .before .before .before .before .before .before .before .before .substitute-texts .kept .1 .1 .1 .0))))

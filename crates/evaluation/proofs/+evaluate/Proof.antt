@@ -20,17 +20,17 @@ use Rattle.complex.proofs.constants.pi.Reads as pi-reads
 use Rattle.evaluation.proofs.+evaluate.{statement}
 use Rattle.evaluation.proofs.+evaluate.Tie.{close}
 
-abbrev μ-evaluate : Measures 4 evaluate-kinds.ps ℕ
-μ-evaluate κs a = a .1 .1 .1 .1 .1 .1 .0
+abbrev μ-evaluate : Measures 2 evaluate-kinds.ps ℕ
+μ-evaluate κs a = a .1 .1 .1 .1 .0
 
-abbrev evaluate-at : ℕ → In 4 evaluate-kinds.ps
-evaluate-at t = and 4 evaluate-kinds.ps (is 4 evaluate-kinds.ps μ-evaluate t) evaluate.Pre
+abbrev evaluate-at : ℕ → In 2 evaluate-kinds.ps
+evaluate-at t = and 2 evaluate-kinds.ps (is 2 evaluate-kinds.ps μ-evaluate t) evaluate.Pre
 
-abbrev evaluate-below : ℕ → In 4 evaluate-kinds.ps
-evaluate-below t = and 4 evaluate-kinds.ps (falls 4 evaluate-kinds.ps _<_ μ-evaluate t) evaluate.Pre
+abbrev evaluate-below : ℕ → In 2 evaluate-kinds.ps
+evaluate-below t = and 2 evaluate-kinds.ps (falls 2 evaluate-kinds.ps _<_ μ-evaluate t) evaluate.Pre
 
 evaluate-returns : (t : ℕ) → evaluate-lts.Need-returns (expression-at-reads.Asked, expression-at-reads.Learnt, evaluate-below t, evaluate.Post, calculate-function-reads.Asked, calculate-function-reads.Learnt, calculate-infix-reads.Asked, calculate-infix-reads.Learnt, calculate-prefix-reads.Asked, calculate-prefix-reads.Learnt, variable-reads.Asked, variable-reads.Learnt, bound-value-reads.Asked, bound-value-reads.Learnt, cell-reads.Asked, cell-reads.Learnt, pi-reads.Asked, pi-reads.Learnt) (evaluate-at t) evaluate.Post
-evaluate-returns t c = λ link n h l b s. absurd (omega (arith, b, c .if1 .taken))
+evaluate-returns t c = λ n h l b s. absurd (omega (arith, b, c .if1 .taken))
 
 evaluate-expression-at-requires : (t : ℕ) → evaluate-lts.Need-expression-at-requires (expression-at-reads.Asked, expression-at-reads.Learnt, evaluate-below t, evaluate.Post, calculate-function-reads.Asked, calculate-function-reads.Learnt, calculate-infix-reads.Asked, calculate-infix-reads.Learnt, calculate-prefix-reads.Asked, calculate-prefix-reads.Learnt, variable-reads.Asked, variable-reads.Learnt, bound-value-reads.Asked, bound-value-reads.Learnt, cell-reads.Asked, cell-reads.Learnt, pi-reads.Asked, pi-reads.Learnt) (evaluate-at t) evaluate.Post
 evaluate-expression-at-requires t c κs = search needs
@@ -45,7 +45,7 @@ evaluate-enum-known-x : (t : ℕ) → evaluate-lts.Need-enum-known-x (expression
 evaluate-enum-known-x t c = search needs
 
 evaluate-returns-2 : (t : ℕ) → evaluate-lts.Need-returns-2 (expression-at-reads.Asked, expression-at-reads.Learnt, evaluate-below t, evaluate.Post, calculate-function-reads.Asked, calculate-function-reads.Learnt, calculate-infix-reads.Asked, calculate-infix-reads.Learnt, calculate-prefix-reads.Asked, calculate-prefix-reads.Learnt, variable-reads.Asked, variable-reads.Learnt, bound-value-reads.Asked, bound-value-reads.Learnt, cell-reads.Asked, cell-reads.Learnt, pi-reads.Asked, pi-reads.Learnt) (evaluate-at t) evaluate.Post
-evaluate-returns-2 t c = λ link n h l b s. let w = within-node h l (c .before .before .before .before .before .expression-at .ensures) (c .before .before .before .e .given .1) in function-lacks h l (c .before .before .before .before .before .expression-at .ensures) _ (c .before .before .before .e .given .1) (c .before .evaluate .ensures link n h (omega (arith, w, l)) w s) (c .match2 .keys2)
+evaluate-returns-2 t c = λ n h l b s. let w = within-node h l (c .before .before .before .before .before .expression-at .ensures) (c .before .before .before .e .given .1) in function-lacks h l (c .before .before .before .before .before .expression-at .ensures) _ (c .before .before .before .e .given .1) (c .before .evaluate .ensures n h (omega (arith, w, l)) w s) (c .match2 .keys2)
 
 evaluate-calculate-function-requires : (t : ℕ) → evaluate-lts.Need-calculate-function-requires (expression-at-reads.Asked, expression-at-reads.Learnt, evaluate-below t, evaluate.Post, calculate-function-reads.Asked, calculate-function-reads.Learnt, calculate-infix-reads.Asked, calculate-infix-reads.Learnt, calculate-prefix-reads.Asked, calculate-prefix-reads.Learnt, variable-reads.Asked, variable-reads.Learnt, bound-value-reads.Asked, bound-value-reads.Learnt, cell-reads.Asked, cell-reads.Learnt, pi-reads.Asked, pi-reads.Learnt) (evaluate-at t) evaluate.Post
 evaluate-calculate-function-requires t c κs = search needs
@@ -60,7 +60,7 @@ evaluate-enum-known-x-2 : (t : ℕ) → evaluate-lts.Need-enum-known-x-2 (expres
 evaluate-enum-known-x-2 t c = search needs
 
 evaluate-returns-3 : (t : ℕ) → evaluate-lts.Need-returns-3 (expression-at-reads.Asked, expression-at-reads.Learnt, evaluate-below t, evaluate.Post, calculate-function-reads.Asked, calculate-function-reads.Learnt, calculate-infix-reads.Asked, calculate-infix-reads.Learnt, calculate-prefix-reads.Asked, calculate-prefix-reads.Learnt, variable-reads.Asked, variable-reads.Learnt, bound-value-reads.Asked, bound-value-reads.Learnt, cell-reads.Asked, cell-reads.Learnt, pi-reads.Asked, pi-reads.Learnt) (evaluate-at t) evaluate.Post
-evaluate-returns-3 t c = λ link n h l b s. let w = within-node h l (c .before .before .before .before .before .expression-at .ensures) (c .before .before .before .e2 .given .1) in left-lacks h l (c .before .before .before .before .before .expression-at .ensures) _ (c .before .before .before .e2 .given .1) (c .before .evaluate2 .ensures link n h (omega (arith, (w .0), l)) (w .0) s) (c .match3 .keys2)
+evaluate-returns-3 t c = λ n h l b s. let w = within-node h l (c .before .before .before .before .before .expression-at .ensures) (c .before .before .before .e2 .given .1) in left-lacks h l (c .before .before .before .before .before .expression-at .ensures) _ (c .before .before .before .e2 .given .1) (c .before .evaluate2 .ensures n h (omega (arith, (w .0), l)) (w .0) s) (c .match3 .keys2)
 
 evaluate-evaluate-requires-3 : (t : ℕ) → evaluate-lts.Need-evaluate-requires-3 (expression-at-reads.Asked, expression-at-reads.Learnt, evaluate-below t, evaluate.Post, calculate-function-reads.Asked, calculate-function-reads.Learnt, calculate-infix-reads.Asked, calculate-infix-reads.Learnt, calculate-prefix-reads.Asked, calculate-prefix-reads.Learnt, variable-reads.Asked, variable-reads.Learnt, bound-value-reads.Asked, bound-value-reads.Learnt, cell-reads.Asked, cell-reads.Learnt, pi-reads.Asked, pi-reads.Learnt) (evaluate-at t) evaluate.Post
 evaluate-evaluate-requires-3 t c κs = (omega (arith, c .before .before .before .before .before .before .before .before .if1 .left), tt)
@@ -69,7 +69,7 @@ evaluate-enum-known-y : (t : ℕ) → evaluate-lts.Need-enum-known-y (expression
 evaluate-enum-known-y t c = search needs
 
 evaluate-returns-4 : (t : ℕ) → evaluate-lts.Need-returns-4 (expression-at-reads.Asked, expression-at-reads.Learnt, evaluate-below t, evaluate.Post, calculate-function-reads.Asked, calculate-function-reads.Learnt, calculate-infix-reads.Asked, calculate-infix-reads.Learnt, calculate-prefix-reads.Asked, calculate-prefix-reads.Learnt, variable-reads.Asked, variable-reads.Learnt, bound-value-reads.Asked, bound-value-reads.Learnt, cell-reads.Asked, cell-reads.Learnt, pi-reads.Asked, pi-reads.Learnt) (evaluate-at t) evaluate.Post
-evaluate-returns-4 t c = λ link n h l b s. let w = within-node h l (c .before .before .before .before .before .before .before .before .before .expression-at .ensures) (c .before .before .before .before .before .before .before .e2 .given .1) in right-lacks h l (c .before .before .before .before .before .before .before .before .before .expression-at .ensures) _ (c .before .before .before .before .before .before .before .e2 .given .1) (c .before .before .before .before .before .evaluate2 .ensures link n h (omega (arith, (w .0), l)) (w .0) s) (c .before .before .before .x2 .given .1) (c .before .evaluate3 .ensures link n h (omega (arith, (w .1), l)) (w .1) s) (c .match4 .keys2)
+evaluate-returns-4 t c = λ n h l b s. let w = within-node h l (c .before .before .before .before .before .before .before .before .before .expression-at .ensures) (c .before .before .before .before .before .before .before .e2 .given .1) in right-lacks h l (c .before .before .before .before .before .before .before .before .before .expression-at .ensures) _ (c .before .before .before .before .before .before .before .e2 .given .1) (c .before .before .before .before .before .evaluate2 .ensures n h (omega (arith, (w .0), l)) (w .0) s) (c .before .before .before .x2 .given .1) (c .before .evaluate3 .ensures n h (omega (arith, (w .1), l)) (w .1) s) (c .match4 .keys2)
 
 evaluate-calculate-infix-requires : (t : ℕ) → evaluate-lts.Need-calculate-infix-requires (expression-at-reads.Asked, expression-at-reads.Learnt, evaluate-below t, evaluate.Post, calculate-function-reads.Asked, calculate-function-reads.Learnt, calculate-infix-reads.Asked, calculate-infix-reads.Learnt, calculate-prefix-reads.Asked, calculate-prefix-reads.Learnt, variable-reads.Asked, variable-reads.Learnt, bound-value-reads.Asked, bound-value-reads.Learnt, cell-reads.Asked, cell-reads.Learnt, pi-reads.Asked, pi-reads.Learnt) (evaluate-at t) evaluate.Post
 evaluate-calculate-infix-requires t c κs = search needs
@@ -84,7 +84,7 @@ evaluate-enum-known-x-3 : (t : ℕ) → evaluate-lts.Need-enum-known-x-3 (expres
 evaluate-enum-known-x-3 t c = search needs
 
 evaluate-returns-5 : (t : ℕ) → evaluate-lts.Need-returns-5 (expression-at-reads.Asked, expression-at-reads.Learnt, evaluate-below t, evaluate.Post, calculate-function-reads.Asked, calculate-function-reads.Learnt, calculate-infix-reads.Asked, calculate-infix-reads.Learnt, calculate-prefix-reads.Asked, calculate-prefix-reads.Learnt, variable-reads.Asked, variable-reads.Learnt, bound-value-reads.Asked, bound-value-reads.Learnt, cell-reads.Asked, cell-reads.Learnt, pi-reads.Asked, pi-reads.Learnt) (evaluate-at t) evaluate.Post
-evaluate-returns-5 t c = λ link n h l b s. let w = within-node h l (c .before .before .before .before .before .expression-at .ensures) (c .before .before .before .e3 .given .1) in prefix-lacks h l (c .before .before .before .before .before .expression-at .ensures) _ (c .before .before .before .e3 .given .1) (c .before .evaluate4 .ensures link n h (omega (arith, w, l)) w s) (c .match5 .keys2)
+evaluate-returns-5 t c = λ n h l b s. let w = within-node h l (c .before .before .before .before .before .expression-at .ensures) (c .before .before .before .e3 .given .1) in prefix-lacks h l (c .before .before .before .before .before .expression-at .ensures) _ (c .before .before .before .e3 .given .1) (c .before .evaluate4 .ensures n h (omega (arith, w, l)) w s) (c .match5 .keys2)
 
 evaluate-calculate-prefix-requires : (t : ℕ) → evaluate-lts.Need-calculate-prefix-requires (expression-at-reads.Asked, expression-at-reads.Learnt, evaluate-below t, evaluate.Post, calculate-function-reads.Asked, calculate-function-reads.Learnt, calculate-infix-reads.Asked, calculate-infix-reads.Learnt, calculate-prefix-reads.Asked, calculate-prefix-reads.Learnt, variable-reads.Asked, variable-reads.Learnt, bound-value-reads.Asked, bound-value-reads.Learnt, cell-reads.Asked, cell-reads.Learnt, pi-reads.Asked, pi-reads.Learnt) (evaluate-at t) evaluate.Post
 evaluate-calculate-prefix-requires t c κs = search needs
@@ -117,25 +117,25 @@ evaluate-enum-known-e-6 : (t : ℕ) → evaluate-lts.Need-enum-known-e-6 (expres
 evaluate-enum-known-e-6 t c = search needs
 
 evaluate-returns-6 : (t : ℕ) → evaluate-lts.Need-returns-6 (expression-at-reads.Asked, expression-at-reads.Learnt, evaluate-below t, evaluate.Post, calculate-function-reads.Asked, calculate-function-reads.Learnt, calculate-infix-reads.Asked, calculate-infix-reads.Learnt, calculate-prefix-reads.Asked, calculate-prefix-reads.Learnt, variable-reads.Asked, variable-reads.Learnt, bound-value-reads.Asked, bound-value-reads.Learnt, cell-reads.Asked, cell-reads.Learnt, pi-reads.Asked, pi-reads.Learnt) (evaluate-at t) evaluate.Post
-evaluate-returns-6 t c = λ link n h l b s. let w = within-node h l (c .before .before .before .before .before .before .before .before .expression-at .ensures) (c .before .before .before .before .before .before .e .given .1) in function-is h l (c .before .before .before .before .before .before .before .before .expression-at .ensures) _ (c .before .before .before .before .before .before .e .given .1) (c .before .before .before .before .evaluate .ensures link n h (omega (arith, w, l)) w s) (c .before .before .x .given .1) (c .calculate-function .ensures s)
+evaluate-returns-6 t c = λ n h l b s. let w = within-node h l (c .before .before .before .before .before .before .before .before .expression-at .ensures) (c .before .before .before .before .before .before .e .given .1) in function-is h l (c .before .before .before .before .before .before .before .before .expression-at .ensures) _ (c .before .before .before .before .before .before .e .given .1) (c .before .before .before .before .evaluate .ensures n h (omega (arith, w, l)) w s) (c .before .before .x .given .1) (c .calculate-function .ensures s)
 
 evaluate-returns-7 : (t : ℕ) → evaluate-lts.Need-returns-7 (expression-at-reads.Asked, expression-at-reads.Learnt, evaluate-below t, evaluate.Post, calculate-function-reads.Asked, calculate-function-reads.Learnt, calculate-infix-reads.Asked, calculate-infix-reads.Learnt, calculate-prefix-reads.Asked, calculate-prefix-reads.Learnt, variable-reads.Asked, variable-reads.Learnt, bound-value-reads.Asked, bound-value-reads.Learnt, cell-reads.Asked, cell-reads.Learnt, pi-reads.Asked, pi-reads.Learnt) (evaluate-at t) evaluate.Post
-evaluate-returns-7 t c = λ link n h l b s. let w = within-node h l (c .before .before .before .before .before .before .before .before .before .before .before .before .expression-at .ensures) (c .before .before .before .before .before .before .before .before .before .before .e2 .given .1) in infix-is h l (c .before .before .before .before .before .before .before .before .before .before .before .before .expression-at .ensures) _ (c .before .before .before .before .before .before .before .before .before .before .e2 .given .1) (c .before .before .before .before .before .before .before .before .evaluate2 .ensures link n h (omega (arith, (w .0), l)) (w .0) s) (c .before .before .before .before .before .before .x2 .given .1) (c .before .before .before .before .evaluate3 .ensures link n h (omega (arith, (w .1), l)) (w .1) s) (c .before .before .y .given .1) (c .calculate-infix .ensures s)
+evaluate-returns-7 t c = λ n h l b s. let w = within-node h l (c .before .before .before .before .before .before .before .before .before .before .before .before .expression-at .ensures) (c .before .before .before .before .before .before .before .before .before .before .e2 .given .1) in infix-is h l (c .before .before .before .before .before .before .before .before .before .before .before .before .expression-at .ensures) _ (c .before .before .before .before .before .before .before .before .before .before .e2 .given .1) (c .before .before .before .before .before .before .before .before .evaluate2 .ensures n h (omega (arith, (w .0), l)) (w .0) s) (c .before .before .before .before .before .before .x2 .given .1) (c .before .before .before .before .evaluate3 .ensures n h (omega (arith, (w .1), l)) (w .1) s) (c .before .before .y .given .1) (c .calculate-infix .ensures s)
 
 evaluate-returns-8 : (t : ℕ) → evaluate-lts.Need-returns-8 (expression-at-reads.Asked, expression-at-reads.Learnt, evaluate-below t, evaluate.Post, calculate-function-reads.Asked, calculate-function-reads.Learnt, calculate-infix-reads.Asked, calculate-infix-reads.Learnt, calculate-prefix-reads.Asked, calculate-prefix-reads.Learnt, variable-reads.Asked, variable-reads.Learnt, bound-value-reads.Asked, bound-value-reads.Learnt, cell-reads.Asked, cell-reads.Learnt, pi-reads.Asked, pi-reads.Learnt) (evaluate-at t) evaluate.Post
-evaluate-returns-8 t c = λ link n h l b s. let w = within-node h l (c .before .before .before .before .before .before .before .before .expression-at .ensures) (c .before .before .before .before .before .before .e3 .given .1) in prefix-is h l (c .before .before .before .before .before .before .before .before .expression-at .ensures) _ (c .before .before .before .before .before .before .e3 .given .1) (c .before .before .before .before .evaluate4 .ensures link n h (omega (arith, w, l)) w s) (c .before .before .x3 .given .1) (c .calculate-prefix .ensures)
+evaluate-returns-8 t c = λ n h l b s. let w = within-node h l (c .before .before .before .before .before .before .before .before .expression-at .ensures) (c .before .before .before .before .before .before .e3 .given .1) in prefix-is h l (c .before .before .before .before .before .before .before .before .expression-at .ensures) _ (c .before .before .before .before .before .before .e3 .given .1) (c .before .before .before .before .evaluate4 .ensures n h (omega (arith, w, l)) w s) (c .before .before .x3 .given .1) (c .calculate-prefix .ensures)
 
 evaluate-returns-9 : (t : ℕ) → evaluate-lts.Need-returns-9 (expression-at-reads.Asked, expression-at-reads.Learnt, evaluate-below t, evaluate.Post, calculate-function-reads.Asked, calculate-function-reads.Learnt, calculate-infix-reads.Asked, calculate-infix-reads.Learnt, calculate-prefix-reads.Asked, calculate-prefix-reads.Learnt, variable-reads.Asked, variable-reads.Learnt, bound-value-reads.Asked, bound-value-reads.Learnt, cell-reads.Asked, cell-reads.Learnt, pi-reads.Asked, pi-reads.Learnt) (evaluate-at t) evaluate.Post
-evaluate-returns-9 t c = λ link n h l b s. variable-is h l (c .before .before .before .before .before .expression-at .ensures) _ (c .before .before .before .e4 .given .1) (c .before .variable .result) (c .before .variable .ensures s) (c .bound-value .ensures)
+evaluate-returns-9 t c = λ n h l b s. variable-is h l (c .before .before .before .before .before .expression-at .ensures) _ (c .before .before .before .e4 .given .1) (c .before .variable .result) (c .before .variable .ensures s) (c .bound-value .ensures)
 
 evaluate-returns-10 : (t : ℕ) → evaluate-lts.Need-returns-10 (expression-at-reads.Asked, expression-at-reads.Learnt, evaluate-below t, evaluate.Post, calculate-function-reads.Asked, calculate-function-reads.Learnt, calculate-infix-reads.Asked, calculate-infix-reads.Learnt, calculate-prefix-reads.Asked, calculate-prefix-reads.Learnt, variable-reads.Asked, variable-reads.Learnt, bound-value-reads.Asked, bound-value-reads.Learnt, cell-reads.Asked, cell-reads.Learnt, pi-reads.Asked, pi-reads.Learnt) (evaluate-at t) evaluate.Post
-evaluate-returns-10 t c = λ link n h l b s. cell-is h l (c .before .before .before .before .before .expression-at .ensures) _ (c .before .before .before .e5 .given .1) (c .before .cell .result) (c .before .cell .ensures s) (c .bound-value2 .ensures)
+evaluate-returns-10 t c = λ n h l b s. cell-is h l (c .before .before .before .before .before .expression-at .ensures) _ (c .before .before .before .e5 .given .1) (c .before .cell .result) (c .before .cell .ensures s) (c .bound-value2 .ensures)
 
 evaluate-returns-11 : (t : ℕ) → evaluate-lts.Need-returns-11 (expression-at-reads.Asked, expression-at-reads.Learnt, evaluate-below t, evaluate.Post, calculate-function-reads.Asked, calculate-function-reads.Learnt, calculate-infix-reads.Asked, calculate-infix-reads.Learnt, calculate-prefix-reads.Asked, calculate-prefix-reads.Learnt, variable-reads.Asked, variable-reads.Learnt, bound-value-reads.Asked, bound-value-reads.Learnt, cell-reads.Asked, cell-reads.Learnt, pi-reads.Asked, pi-reads.Learnt) (evaluate-at t) evaluate.Post
-evaluate-returns-11 t c = λ link n h l b s. pi-is h l (c .before .before .before .expression-at .ensures) _ (c .before .enum-told .given .1) (c .pi .ensures)
+evaluate-returns-11 t c = λ n h l b s. pi-is h l (c .before .before .before .expression-at .ensures) _ (c .before .enum-told .given .1) (c .pi .ensures)
 
 evaluate-returns-12 : (t : ℕ) → evaluate-lts.Need-returns-12 (expression-at-reads.Asked, expression-at-reads.Learnt, evaluate-below t, evaluate.Post, calculate-function-reads.Asked, calculate-function-reads.Learnt, calculate-infix-reads.Asked, calculate-infix-reads.Learnt, calculate-prefix-reads.Asked, calculate-prefix-reads.Learnt, variable-reads.Asked, variable-reads.Learnt, bound-value-reads.Asked, bound-value-reads.Learnt, cell-reads.Asked, cell-reads.Learnt, pi-reads.Asked, pi-reads.Learnt) (evaluate-at t) evaluate.Post
-evaluate-returns-12 t c = λ link n h l b s. number-is h l (c .before .before .before .expression-at .ensures) _ (c .before .e6 .given .1)
+evaluate-returns-12 t c = λ n h l b s. number-is h l (c .before .before .before .expression-at .ensures) _ (c .before .e6 .given .1)
 
 pub +evaluate-spec : {M : Type 1} → statement M
 +evaluate-spec = close μ-evaluate λ t. evaluate-lts.spec (expression-at-reads.Asked, expression-at-reads.Learnt, evaluate-below t, evaluate.Post, calculate-function-reads.Asked, calculate-function-reads.Learnt, calculate-infix-reads.Asked, calculate-infix-reads.Learnt, calculate-prefix-reads.Asked, calculate-prefix-reads.Learnt, variable-reads.Asked, variable-reads.Learnt, bound-value-reads.Asked, bound-value-reads.Learnt, cell-reads.Asked, cell-reads.Learnt, pi-reads.Asked, pi-reads.Learnt) (evaluate-at t) evaluate.Post

@@ -12,7 +12,4 @@ findavoreb-compile-spec =
     (λ c κs. search needs)
     (λ c. search needs)
     (λ c. search needs)
-    (λ c. search needs)
-    (λ c. search needs)
-    (λ c. search needs)
-    (λ c. compiles (c .before .before .before .before .before .before .before .before .before .before .before .compile .ensures) (c .put-written .ensures)))
+    (λ c. compiles (c .before .before .before .before .compile .ensures) (c .put-written .ensures)))

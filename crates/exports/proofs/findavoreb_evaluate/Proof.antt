@@ -11,7 +11,4 @@ findavoreb-evaluate-spec =
     (λ c κs. search needs)
     (λ c κs. search needs)
     (λ c. search needs)
-    (λ c. search needs)
-    (λ c. search needs)
-    (λ c. search needs)
-    (λ c. evaluates (c .before .before .before .before .before .before .before .before .before .evaluate .ensures) (c .put-evaluated .ensures)))
+    (λ c. evaluates (c .before .before .evaluate .ensures) (c .put-evaluated .ensures)))

@@ -12,7 +12,4 @@ findavoreb-simplify-spec =
     (λ c κs. search needs)
     (λ c. search needs)
     (λ c. search needs)
-    (λ c. search needs)
-    (λ c. search needs)
-    (λ c. search needs)
-    (λ c. simplifies (c .before .before .before .before .before .before .before .before .before .before .before .simplify .ensures) (c .put-simplified .ensures)))
+    (λ c. simplifies (c .before .before .before .before .simplify .ensures) (c .put-simplified .ensures)))

@@ -12,7 +12,4 @@ findavoreb-substitute-spec =
     (λ c κs. search needs)
     (λ c. search needs)
     (λ c. search needs)
-    (λ c. search needs)
-    (λ c. search needs)
-    (λ c. search needs)
-    (λ c. substitutes (c .before .before .before .before .before .before .before .before .before .before .before .substitute .ensures) (c .put-written .ensures)))
+    (λ c. substitutes (c .before .before .before .before .substitute .ensures) (c .put-written .ensures)))

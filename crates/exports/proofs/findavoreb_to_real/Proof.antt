@@ -11,7 +11,4 @@ findavoreb-to-real-spec =
     (λ c κs. search needs)
     (λ c κs. search needs)
     (λ c. search needs)
-    (λ c. search needs)
-    (λ c. search needs)
-    (λ c. search needs)
-    (λ c. reads-real (c .before .before .before .before .before .before .before .before .before .to-real .ensures) (c .put-real .ensures)))
+    (λ c. reads-real (c .before .before .to-real .ensures) (c .put-real .ensures)))

@@ -1,19 +1,17 @@
 -- `read_lines` meets its contract: the invariant is `Going`. The measure is how many lines are still allowed. Assumes nothing.
 use mathlib.Core.Path.{_∙_}
 use Prim.Native.Nat.{_+_, _-_}
-use Rattle.store.specs.Memory.{memory}
+use Rattle.store.specs.Held.{lent}
 use Rattle.listing.proofs.Whole.{Going, going-begins, is-ready, going-stops, going-on, going-ends, less, Same, same-begins, same-on}
 use borrow.Author.Needs.{needs}
 use Rattle.listing.proofs.read_lines.Statement.{statement}
 use Rattle.listing.proofs.read_lines.Tie as tie
 
 abbrev Inv-loop : tie.InvT-loop
-Inv-loop s substituting tag₀ first₀ second₀ link₀ table₀ p₀ at₀ tag first second link table p at =
-    Going substituting s (memory tag₀ first₀ second₀ link₀) (memory tag first second link) table p at
-    × Same (memory tag₀ first₀ second₀ link₀) table₀ (memory tag first second link) table
+Inv-loop s substituting store₀ desk₀ table₀ p₀ at₀ store desk table p at = Going substituting s (lent store₀ desk₀) (lent store desk) table p at × Same store₀ table₀ store table
 
 abbrev μ-loop : tie.MeasureT-loop
-μ-loop s substituting tag₀ first₀ second₀ link₀ table₀ p₀ at₀ tag first second link table p at = 1281 - (p .lines + p .swaps)
+μ-loop s substituting store₀ desk₀ table₀ p₀ at₀ store desk table p at = 1281 - (p .lines + p .swaps)
 
 pub read-lines-spec : {M : Type 1} → statement M
 read-lines-spec =
@@ -21,21 +19,15 @@ read-lines-spec =
     (tie.spec
     Inv-loop
     μ-loop
-    (λ c. (going-begins _ _ (memory (c .before .before .before .before .before .before .args .tag .now) (c .before .before .before .before .before .before .args .first .now) (c .before .before .before .before .before .before .args .second .now) (c .before .before .before .before .before .before .args .link .now)) (c .before .before .before .before .before .before .args .table .now) (c .before .before .before .before .before .before .pre .0) (c .before .before .before .before .before .before .pre .1), same-begins _ _))
-    (λ c κs. is-ready (c .before .before .before .before .before .before .loop .inv .0) (c .before .before .before .before .before .loop-test .taken))
+    (λ c. (going-begins _ _ (lent (c .before .before .args .store .now) (c .before .before .args .desk .now)) (c .before .before .args .table .now) (c .before .before .pre .0) (c .before .before .pre .1), same-begins _ _))
+    (λ c κs. is-ready (c .before .before .before .before .loop .inv .0) (c .before .before .before .loop-test .taken))
     (λ c. search needs)
     (λ c. search needs)
-    (λ c. c .before .before .before .before .before .before .before .before .before .before .before .before .take-line .kept .1 .1 .0 ∙ c .before .before .before .before .before .before .before .before .before .before .before .before .before .before .before .before .before .before .before .loop .inv .1 .tag)
-    (λ c. c .before .before .before .before .before .before .before .before .before .before .before .before .take-line .kept .1 .1 .1 .0 ∙ c .before .before .before .before .before .before .before .before .before .before .before .before .before .before .before .before .before .before .before .loop .inv .1 .first)
-    (λ c. c .before .before .before .before .before .before .before .before .before .before .before .before .take-line .kept .1 .1 .1 .1 .0 ∙ c .before .before .before .before .before .before .before .before .before .before .before .before .before .before .before .before .before .before .before .loop .inv .1 .second)
-    (λ c. c .before .before .before .before .before .before .before .before .before .before .before .before .take-line .kept .1 .1 .1 .1 .1 .0 ∙ c .before .before .before .before .before .before .before .before .before .before .before .before .before .before .before .before .before .before .before .loop .inv .1 .link)
-    (λ c. c .before .before .before .before .before .before .before .before .before .before .before .before .take-line .kept .1 .1 .1 .1 .1 .1 .0 ∙ c .before .before .before .before .before .before .before .before .before .before .before .before .before .before .before .before .before .before .before .loop .inv .1 .table)
-    (λ c. going-stops (c .before .before .before .before .before .before .before .before .before .before .before .before .before .before .before .before .before .before .before .loop .inv .0) (c .before .before .before .before .before .before .before .before .before .before .before .before .before .before .before .before .before .before .loop-test .taken) (c .before .before .before .before .before .before .before .before .before .before .before .before .take-line .ensures (c .before .before .before .before .before .before .before .before .before .before .before .before .before .before .before .before .before .before .before .loop .inv .0 .lists)) (c .enum-told .given .1))
-    (λ c. less (c .before .before .before .before .before .before .before .before .before .before .before .before .before .before .before .before .before .before .before .before .loop .inv .0) (c .before .before .before .before .before .before .before .before .before .before .before .before .before .before .before .before .before .before .before .loop-test .taken) (c .before .before .before .before .before .before .before .before .before .before .before .before .before .take-line .ensures (c .before .before .before .before .before .before .before .before .before .before .before .before .before .before .before .before .before .before .before .before .loop .inv .0 .lists)) (c .before .step .given .1))
-    (λ c. (going-on (c .before .before .before .before .before .before .before .before .before .before .before .before .before .before .before .before .before .before .before .before .loop .inv .0) (c .before .before .before .before .before .before .before .before .before .before .before .before .before .before .before .before .before .before .before .loop-test .taken) (c .before .before .before .before .before .before .before .before .before .before .before .before .before .take-line .ensures (c .before .before .before .before .before .before .before .before .before .before .before .before .before .before .before .before .before .before .before .before .loop .inv .0 .lists)) (c .before .step .given .1) (c .before .before .before .before .before .before .before .before .before .before .before .before .before .take-line .kept .1 .1 .1 .1 .1 .1 .0), same-on (c .before .before .before .before .before .before .before .before .before .before .before .before .before .before .before .before .before .before .before .before .loop .inv .1) (record { tag = c .before .before .before .before .before .before .before .before .before .before .before .before .before .take-line .kept .1 .1 .0; first = c .before .before .before .before .before .before .before .before .before .before .before .before .before .take-line .kept .1 .1 .1 .0; second = c .before .before .before .before .before .before .before .before .before .before .before .before .before .take-line .kept .1 .1 .1 .1 .0; link = c .before .before .before .before .before .before .before .before .before .before .before .before .before .take-line .kept .1 .1 .1 .1 .1 .0; table = c .before .before .before .before .before .before .before .before .before .before .before .before .before .take-line .kept .1 .1 .1 .1 .1 .1 .0 })))
-    (λ c. c .before .loop .inv .1 .tag)
-    (λ c. c .before .loop .inv .1 .first)
-    (λ c. c .before .loop .inv .1 .second)
-    (λ c. c .before .loop .inv .1 .link)
+    (λ c. c .before .before .before .before .before .take-line .kept .1 .1 .0 ∙ c .before .before .before .before .before .before .before .before .before .before .loop .inv .1 .rows)
+    (λ c. c .before .before .before .before .before .take-line .kept .1 .1 .1 .1 .0 ∙ c .before .before .before .before .before .before .before .before .before .before .loop .inv .1 .table)
+    (λ c. going-stops (c .before .before .before .before .before .before .before .before .before .before .loop .inv .0) (c .before .before .before .before .before .before .before .before .before .loop-test .taken) (c .before .before .before .before .before .take-line .ensures (c .before .before .before .before .before .before .before .before .before .before .loop .inv .0 .lists)) (c .enum-told .given .1))
+    (λ c. less (c .before .before .before .before .before .before .before .before .before .before .before .loop .inv .0) (c .before .before .before .before .before .before .before .before .before .before .loop-test .taken) (c .before .before .before .before .before .before .take-line .ensures (c .before .before .before .before .before .before .before .before .before .before .before .loop .inv .0 .lists)) (c .before .step .given .1))
+    (λ c. (going-on (c .before .before .before .before .before .before .before .before .before .before .before .loop .inv .0) (c .before .before .before .before .before .before .before .before .before .before .loop-test .taken) (c .before .before .before .before .before .before .take-line .ensures (c .before .before .before .before .before .before .before .before .before .before .before .loop .inv .0 .lists)) (c .before .step .given .1) (c .before .before .before .before .before .before .take-line .kept .1 .1 .1 .1 .0), same-on (c .before .before .before .before .before .before .before .before .before .before .before .loop .inv .1) (c .before .before .before .before .before .before .take-line .kept .1 .1 .0) (c .before .before .before .before .before .before .take-line .kept .1 .1 .1 .1 .0)))
+    (λ c. c .before .loop .inv .1 .rows)
     (λ c. c .before .loop .inv .1 .table)
     (λ c. going-ends (c .before .loop .inv .0) (c .loop-test .left)))

@@ -10,9 +10,9 @@ swap-of-spec =
     tie.close
     (tie.spec
     (λ c κs. search needs)
-    (λ c. λ m n few l. (swap-missing l _ (c .before .search .ensures .1 (omega (arith, few)) (l .ascends)) (c .if1 .taken), tt))
+    (λ c. λ l few li. (swap-missing li _ (c .before .search .ensures .1 (omega (arith, few)) (li .ascends)) (c .if1 .taken), tt))
     (λ c. omega (arith, c .before .search .ensures .0 (c .if1 .left)))
     (λ c. omega (arith, c .before .search .ensures .0 (c .if1 .left)))
     (λ c. omega (arith, c .before .search .ensures .0 (c .if1 .left)))
     (λ c κs. search needs)
-    (λ c. λ m n few l. swap-found l _ (c .before .before .search .ensures .1 (omega (arith, few)) (l .ascends)) (c .before .if1 .left) (c .read .ensures)))
+    (λ c. λ l few li. swap-found li _ (c .before .before .search .ensures .1 (omega (arith, few)) (li .ascends)) (c .before .if1 .left) (c .read .ensures)))

@@ -9,14 +9,11 @@ pub take-line-spec : {M : Type 1} → statement M
 take-line-spec =
     tie.close
     (tie.spec
-    (λ c. omega (arith, c .before .before .before .before .before .before .before .pre .inside))
-    (λ c κs. c .before .before .before .before .before .before .before .before .before .pre)
+    (λ c. omega (arith, c .before .before .before .pre .inside))
+    (λ c κs. c .before .before .before .before .before .pre)
     (λ c. search needs)
-    (λ c. λ l. is-swap-line _ _ _ _ (c .before .before .before .before .if1 .taken) (c .before .before .take-swap .ensures _ l))
-    (λ c κs. c .before .before .before .before .before .before .before .before .before .before .before .before .before .pre)
-    (λ c. search needs)
-    (λ c. search needs)
+    (λ c. λ li. is-swap-line _ _ _ _ (c .before .before .before .before .if1 .taken) (c .before .before .take-swap .ensures _ li))
+    (λ c κs. c .before .before .before .before .before .before .before .pre)
     (λ c. search needs)
     (λ c. search needs)
-    (λ c. search needs)
-    (λ c. λ l. is-node-line _ _ _ _ (c .before .before .before .before .before .before .before .before .before .before .before .before .before .before .before .before .if1 .left) (c .before .before .before .before .before .before .before .before .before .before .take-node .ensures l)))
+    (λ c. λ li. is-node-line _ _ _ _ (c .before .before .before .before .before .before .before .if1 .left) (c .before .before .before .take-node .ensures li)))

@@ -4,7 +4,7 @@ use Prim.Native.Nat.{ℕ, _<_, _-_}
 use native.Mathlib.Omega.{arith}
 use lib.ListN.{length, getD, length-set}
 use borrow.Author.Needs.{needs}
-use Rattle.memory.proofs.Slices.{all-zero, zero-more}
+use Rattle.memory.proofs.Slices.{all-same, one-more}
 use Rattle.memory.proofs.zero.Statement.{statement}
 use Rattle.memory.proofs.zero.Tie as tie
 
@@ -25,6 +25,6 @@ zero-spec =
     (λ c. search needs)
     (λ c. search needs)
     (λ c. omega (arith, length-set (c .before .loop .s) (c .before .loop .i) 0))
-    (λ c. (length-set (c .before .loop .s) (c .before .loop .i) 0 ∙ c .before .loop .inv .0, zero-more (c .before .loop .s) (c .before .loop .i) (c .before .loop .inv .1)))
+    (λ c. (length-set (c .before .loop .s) (c .before .loop .i) 0 ∙ c .before .loop .inv .0, one-more 0 0 (c .before .loop .s) (c .before .loop .i) (c .loop-test .taken) (c .before .loop .inv .1)))
     (λ c. c .before .loop .inv .0)
-    (λ c. all-zero (c .before .loop .s) (c .before .before .args .s .now) (c .before .loop .inv .0) λ j l. c .before .loop .inv .1 j (omega arith)))
+    (λ c. all-same 0 0 (c .before .loop .s) (c .before .before .args .s .now) (c .before .loop .inv .0) λ j l. c .before .loop .inv .1 j (omega arith)))

@@ -3,6 +3,7 @@ use mathlib.Core.Path.{refl}
 use borrow.Author.Needs.{needs}
 use Rattle.expression.specs.Nodes.{measureFrom}
 use Rattle.store.proofs.Packing.{depth-small}
+use Rattle.store.specs.Memory.{memory}
 use Rattle.store.proofs.depth_of.Statement.{statement}
 use Rattle.store.proofs.depth_of.Tie as tie
 
@@ -13,15 +14,15 @@ depth-of-spec =
     (tie.spec
     (λ c. search needs)
     (λ c κs. search needs)
-    (λ c. let w0 = depth-small (c .before .before .before .before .before .args .tag .now) _ (c .depth-at .ensures) in search needs)
+    (λ c. let w0 = depth-small (memory (c .before .before .before .before .args .store .now) .tag) _ (c .depth-at .ensures) in search needs)
     (λ c. search needs)
     (λ c κs. search needs)
-    (λ c. let w0 = depth-small (c .before .before .before .before .before .args .tag .now) _ (c .depth-at2 .ensures) in search needs)
+    (λ c. let w0 = depth-small (memory (c .before .before .before .before .args .store .now) .tag) _ (c .depth-at2 .ensures) in search needs)
     (λ c. search needs)
     (λ c κs. search needs)
     (λ c κs. search needs)
     (λ c κs. search needs)
-    (λ c. let w0 = depth-small (c .before .before .before .before .before .before .before .args .tag .now) _ (c .before .before .depth-at3 .ensures) in let w1 = depth-small (c .before .before .before .before .before .before .before .args .tag .now) _ (c .before .depth-at4 .ensures) in let w2 = c .greater .ensures in search needs)
+    (λ c. let w0 = depth-small (memory (c .before .before .before .before .before .before .args .store .now) .tag) _ (c .before .before .depth-at3 .ensures) in let w1 = depth-small (memory (c .before .before .before .before .before .before .args .store .now) .tag) _ (c .before .depth-at4 .ensures) in let w2 = c .greater .ensures in search needs)
     (λ c. search needs)
     (λ c. search needs)
     (λ c. search needs)

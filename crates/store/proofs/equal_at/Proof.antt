@@ -1,5 +1,6 @@
 -- `equal_at` meets its contract: equal trees have the same class. Assumes nothing.
 use borrow.Author.Needs.{needs}
+use Rattle.store.specs.Memory.{memory}
 use Rattle.store.proofs.Keeping.{compares}
 use Rattle.store.proofs.equal_at.Statement.{statement}
 use Rattle.store.proofs.equal_at.Tie as tie
@@ -10,4 +11,4 @@ equal-at-spec =
     (tie.spec
     (λ c κs. search needs)
     (λ c κs. search needs)
-    (λ c. compares (c .before .before .before .args .link .now) _ _ (c .before .class-at .ensures) (c .class-at2 .ensures)))
+    (λ c. compares (memory (c .before .before .args .store .now)) _ _ (c .before .class-at .ensures) (c .class-at2 .ensures)))

@@ -1,9 +1,11 @@
 -- `judge` meets its contract: test by test. Assumes nothing.
 use mathlib.Core.Path.{refl}
+use Rattle.store.specs.Held.{judged}
 use Rattle.store.proofs.judge.Statement.{statement}
 use Rattle.store.proofs.judge.Tie as tie
 
 pub judge-spec : {M : Type 1} → statement M
+unfolding judged
 judge-spec =
     tie.close
     (tie.spec

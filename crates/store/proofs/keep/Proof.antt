@@ -1,6 +1,7 @@
--- `keep` meets its contract: one word of `link` changes. Assumes nothing.
+-- `keep` meets its contract: one link changes. Assumes nothing.
+use mathlib.Core.Path.{refl, _∙_}
 use borrow.Author.Needs.{needs}
-use Rattle.store.proofs.Keeping.{kept-built}
+use Rattle.store.proofs.Keeping.{keeps}
 use Rattle.store.proofs.keep.Statement.{statement}
 use Rattle.store.proofs.keep.Tie as tie
 
@@ -13,4 +14,4 @@ keep-spec =
     (λ c κs. search needs)
     (λ c κs. search needs)
     (λ c. search needs)
-    (λ c. λ tag first second n calls h l o. rw (c .before .before .put .ensures, c .before .before .before .with-kept .ensures, c .before .before .before .before .before .read .ensures, c .before .before .before .before .before .before .before .class-at .ensures) (kept-built tag first second _ n h _ _ l o calls)))
+    (λ c. keeps _ _ _ (c .before .put-link .ensures ∙ rw (c .before .before .with-kept .ensures, c .before .before .before .before .link-at .ensures, c .before .before .before .before .before .before .class-at .ensures) refl)))

@@ -3,6 +3,7 @@ use mathlib.Core.Path.{refl}
 use borrow.Author.Needs.{needs}
 use Rattle.expression.specs.Nodes.{measureFrom}
 use Rattle.store.proofs.Packing.{size-small}
+use Rattle.store.specs.Memory.{memory}
 use Rattle.store.proofs.size_of.Statement.{statement}
 use Rattle.store.proofs.size_of.Tie as tie
 
@@ -13,15 +14,15 @@ size-of-spec =
     (tie.spec
     (λ c. search needs)
     (λ c κs. search needs)
-    (λ c. let w0 = size-small (c .before .before .before .before .before .args .tag .now) _ (c .size-at .ensures) in search needs)
+    (λ c. let w0 = size-small (memory (c .before .before .before .before .args .store .now) .tag) _ (c .size-at .ensures) in search needs)
     (λ c. search needs)
     (λ c κs. search needs)
-    (λ c. let w0 = size-small (c .before .before .before .before .before .args .tag .now) _ (c .size-at2 .ensures) in search needs)
+    (λ c. let w0 = size-small (memory (c .before .before .before .before .args .store .now) .tag) _ (c .size-at2 .ensures) in search needs)
     (λ c. search needs)
     (λ c κs. search needs)
     (λ c κs. search needs)
-    (λ c. let w0 = size-small (c .before .before .before .before .before .before .args .tag .now) _ (c .before .size-at3 .ensures) in let w1 = size-small (c .before .before .before .before .before .before .args .tag .now) _ (c .size-at4 .ensures) in search needs)
-    (λ c. let w0 = size-small (c .before .before .before .before .before .before .args .tag .now) _ (c .before .size-at3 .ensures) in let w1 = size-small (c .before .before .before .before .before .before .args .tag .now) _ (c .size-at4 .ensures) in search needs)
+    (λ c. let w0 = size-small (memory (c .before .before .before .before .before .args .store .now) .tag) _ (c .before .size-at3 .ensures) in let w1 = size-small (memory (c .before .before .before .before .before .args .store .now) .tag) _ (c .size-at4 .ensures) in search needs)
+    (λ c. let w0 = size-small (memory (c .before .before .before .before .before .args .store .now) .tag) _ (c .before .size-at3 .ensures) in let w1 = size-small (memory (c .before .before .before .before .before .args .store .now) .tag) _ (c .size-at4 .ensures) in search needs)
     (λ c. search needs)
     (λ c. search needs)
     (λ c. search needs)

@@ -1,8 +1,8 @@
--- `start` meets its contract: where `link` is zero there is no node. Assumes nothing.
-use borrow.Author.Needs.{needs}
+-- `start` meets its contract: no node stands where the desk is zero. Assumes nothing.
+use mathlib.Core.Path.{refl}
 use Rattle.store.proofs.Keeping.{starts}
 use Rattle.store.proofs.start.Statement.{statement}
 use Rattle.store.proofs.start.Tie as tie
 
 pub start-spec : {M : Type 1} → statement M
-start-spec = tie.close (tie.spec (λ c κs. search needs) (λ c. search needs) (λ c. rw (c .before .before .zero .ensures) (starts _)))
+start-spec = tie.close (tie.spec (λ c. starts refl))

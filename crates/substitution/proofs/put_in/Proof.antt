@@ -9,9 +9,9 @@ put-in-spec =
     tie.close
     (tie.spec
     (λ c. search needs)
-    (λ c. λ m n few li l q o. leaf-put m l (c .before .before .args .e) q _ o (c .match .keys2))
+    (λ c. λ l few li o q n. leaf-put (l .rows) o (c .before .before .args .e) q _ n (c .match .keys2))
     (λ c κs. search needs)
     (λ c. search needs)
     (λ c. search needs)
-    (λ c. λ m n few li l q o. named-put m l (c .before .before .before .before .before .before .before .before .args .e) q _ (c .before .before .before .before .before .e .given .1) (rw (c .before .named .given .1) at (c .before .before .before .swap-of .ensures m n few li)))
-    (λ c. λ m n few li l q o. unnamed-put m l (c .before .before .before .before .before .before .before .args .e) q _ (c .before .before .before .before .e .given .1) (rw (c .enum-told .given .1) at (c .before .before .swap-of .ensures m n few li) .0)))
+    (λ c. λ l few li o q n. named-put (l .rows) o (c .before .before .before .before .before .before .before .before .args .e) q _ (c .before .before .before .before .before .e .given .1) (rw (c .before .named .given .1) at (c .before .before .before .swap-of .ensures l few li)))
+    (λ c. λ l few li o q n. unnamed-put (l .rows) o (c .before .before .before .before .before .before .before .args .e) q _ (c .before .before .before .before .e .given .1) (rw (c .enum-told .given .1) at (c .before .before .swap-of .ensures l few li) .0)))

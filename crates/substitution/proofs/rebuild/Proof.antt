@@ -1,4 +1,6 @@
 -- `rebuild` meets its contract. Assumes nothing.
+use mathlib.Core.Path.{refl}
+use native.Mathlib.Omega.{arith}
 use borrow.Author.Needs.{needs}
 use Rattle.substitution.proofs.rebuild.Statement.{statement}
 use Rattle.substitution.proofs.rebuild.Tie as tie
@@ -7,13 +9,8 @@ pub rebuild-spec : {M : Type 1} → statement M
 rebuild-spec =
     tie.close
     (tie.spec
-    (λ c. search needs)
+    (λ c. record { added = λ h. absurd (omega (arith, h, c .if1 .taken)); passed = λ h. (refl, refl) })
     (λ c κs. search needs)
     (λ c κs. search needs)
     (λ c. search needs)
-    (λ c. search needs)
-    (λ c. search needs)
-    (λ c. search needs)
-    (λ c. search needs)
-    (λ c. rw (c .before .before .before .before .before .before .before .before .before .before .before .before .before .before .before .last .given .1, ← c .before .before .before .before .before .before .before .before .before .with-operands .ensures) (c .before .before .before .before .before .before .before .before .add .ensures))
-    (λ c. rw (c .before .last2 .given .1)))
+    (λ c. record { added = λ h. rw (← c .before .before .with-operands .ensures) (c .before .add .ensures); passed = λ h. absurd (omega (arith, h, c .before .before .before .before .before .if1 .left)) }))

@@ -1,6 +1,5 @@
 -- `line_at` meets its contract. Assumes nothing.
 use mathlib.Core.Path.{_∙_}
-use native.Mathlib.Omega.{arith}
 use Rattle.writing.specs.Ordering.{lineAt}
 use borrow.Author.Needs.{needs}
 use Rattle.writing.proofs.line_at.Statement.{statement}
@@ -13,5 +12,5 @@ line-at-spec =
     (tie.spec
     (λ c κs. search needs)
     (λ c κs. search needs)
-    (λ c κs. omega arith)
-    (λ c. c .moved-by .ensures ∙ rw (c .before .expression-at .ensures, c .before .before .read .ensures)))
+    (λ c κs. search needs)
+    (λ c. c .lined .ensures ∙ rw (c .before .expression-at .ensures, c .before .before .read .ensures)))

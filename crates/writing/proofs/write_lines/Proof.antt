@@ -1,6 +1,7 @@
 -- `write_lines` meets its contract. Assumes nothing.
 use Prim.Native.Nat.{_-_, _≤_}
 use native.Mathlib.Omega.{arith}
+use Rattle.store.specs.Memory.{memory}
 use Rattle.text.specs.Writing.{Put}
 use Rattle.text.proofs.Putting.{put-length}
 use Rattle.writing.specs.Ordering.{linesText}
@@ -10,10 +11,10 @@ use Rattle.writing.proofs.write_lines.Statement.{statement}
 use Rattle.writing.proofs.write_lines.Tie as tie
 
 abbrev Inv-loop : tie.InvT-loop
-Inv-loop tag first second table count out₀ at₀ i₀ out at i = (i ≤ count) × Put out₀ 0 (linesText tag first second table i) at out
+Inv-loop store table count out₀ at₀ i₀ out at i = (i ≤ count) × Put out₀ 0 (linesText (memory store) table i) at out
 
 abbrev μ-loop : tie.MeasureT-loop
-μ-loop tag first second table count out₀ at₀ i₀ out at i = count - i
+μ-loop store table count out₀ at₀ i₀ out at i = count - i
 
 pub write-lines-spec : {M : Type 1} → statement M
 write-lines-spec =
@@ -21,11 +22,11 @@ write-lines-spec =
     (tie.spec
     Inv-loop
     μ-loop
-    (λ c. (omega arith, no-text (c .before .before .before .before .before .args .tag .now) (c .before .before .before .before .before .args .first .now) (c .before .before .before .before .before .args .second .now) (c .before .before .before .before .before .args .table .now) _))
+    (λ c. (omega arith, no-text _ (c .before .before .args .table .now) _))
     (λ c κs. search needs)
-    (λ c κs. rw (c .line-at .ensures) (omega (arith, line-fits (c .before .before .before .before .before .before .before .before .before .args .tag .now) (c .before .before .before .before .before .before .before .before .before .args .first .now) (c .before .before .before .before .before .before .before .before .before .args .second .now) (c .before .before .before .before .before .before .before .before .before .args .table .now) (c .before .before .before .loop .i) (c .before .before .before .before .before .before .before .before .before .args .count) _ (c .before .before .loop-test .taken) (c .before .before .before .before .before .before .before .before .before .pre), c .before .before .before .loop .inv .1 .place, put-length (c .before .before .before .loop .inv .1))))
+    (λ c κs. rw (c .line-at .ensures) (omega (arith, line-fits (memory (c .before .before .before .before .before .before .args .store .now)) (c .before .before .before .before .before .before .args .table .now) (c .before .before .before .loop .i) (c .before .before .before .before .before .before .args .count) _ (c .before .before .loop-test .taken) (c .before .before .before .before .before .before .pre), c .before .before .before .loop .inv .1 .place, put-length (c .before .before .before .loop .inv .1))))
     (λ c. omega arith)
     (λ c. omega arith)
-    (λ c. (omega arith, next-text (c .before .before .before .before .before .before .before .before .before .before .before .before .args .tag .now) (c .before .before .before .before .before .before .before .before .before .before .before .before .args .first .now) (c .before .before .before .before .before .before .before .before .before .before .before .before .args .second .now) (c .before .before .before .before .before .before .before .before .before .before .before .before .args .table .now) (c .before .before .before .before .before .before .loop .i) (c .before .before .before .before .before .before .loop .inv .1) (rw (c .before .before .before .line-at .ensures) at (c .before .before .write-line .ensures))))
+    (λ c. (omega arith, next-text _ (c .before .before .before .before .before .before .before .before .before .args .table .now) (c .before .before .before .before .before .before .loop .i) (c .before .before .before .before .before .before .loop .inv .1) (rw (c .before .before .before .line-at .ensures) at (c .before .before .write-line .ensures))))
     (λ c. put-length (c .before .loop .inv .1))
-    (λ c. all-written (c .before .before .before .before .before .before .before .args .tag .now) (c .before .before .before .before .before .before .before .args .first .now) (c .before .before .before .before .before .before .before .args .second .now) (c .before .before .before .before .before .before .before .args .table .now) (c .before .loop .inv .0) (c .loop-test .left) (c .before .loop .inv .1)))
+    (λ c. all-written _ (c .before .before .before .before .args .table .now) (c .before .loop .inv .0) (c .loop-test .left) (c .before .loop .inv .1)))

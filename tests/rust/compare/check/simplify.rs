@@ -68,7 +68,7 @@ impl Tally {
     // in which nodes are stored.
     fn with_less_memory(&mut self, q: &Question, nodes: &[Node], model: &Model, have: &HashSet<Asked>) {
         for less in 1..=LESS.min(model.store.len()) {
-            let short = Question { lengths: [model.store.len() - less; 4], ..q.clone() };
+            let short = Question { rows: model.store.len() - less, ..q.clone() };
             self.compare(&short, &expected_of(&short, nodes, Some(have)).answer);
         }
     }

@@ -83,7 +83,7 @@ impl Tally {
             self.with_bad_line(random, &q, case, rust);
         }
         if [ROOM, OUT_ROOM].contains(&expected.number) {
-            (q.lengths, q.out) = ([rust.needed(Kind::Compile).0; 4], exact);
+            (q.rows, q.out) = (rust.needed(Kind::Compile).0, exact);
             expected = compile_answer(rust, &q, tape.as_deref());
             self.compare(&q, &expected);
         }
@@ -125,7 +125,7 @@ impl Tally {
         let Some((compiling, tape)) = self.compile(random, case, &rust) else { return };
         self.check(&compiling, case, &tape);
         let mut q = question(random, Kind::Evaluate, case, &rust, usize::MAX);
-        (q.lengths, q.tape) = (compiling.lengths, Some(tape.clone()));
+        (q.rows, q.tape) = (compiling.rows, Some(tape.clone()));
         let bound = std::mem::take(&mut q.sheet);
         let outcome = self.rounds(random, &mut q, &bound, &rust.evaluate());
         self.count(WHAT, &outcome);

@@ -12,5 +12,5 @@ negates-spec =
     (λ c κs. search needs)
     (λ c κs. search needs)
     (λ c κs. search needs)
-    (λ c. λ tag first second n t h w a. both-yes (sym (c .before .before .before .is-negation .ensures _)) (c .before .before .if1 .taken) (compared (c .equal-at .ensures) h (c .before .operand-in .ensures _ n w (so (c .before .before .before .is-negation .ensures _) (c .before .before .if1 .taken))) a))
-    (λ c. λ tag first second n t h w a. both-not _ (sym (c .before .is-negation .ensures _)) (c .if1 .left)))
+    (λ c. λ n t h w a. both-yes (sym (c .before .before .before .is-negation .ensures _)) (c .before .before .if1 .taken) (compared (c .equal-at .ensures) h (c .before .operand-in .ensures _ n w (so (c .before .before .before .is-negation .ensures _) (c .before .before .if1 .taken))) a))
+    (λ c. λ n t h w a. both-not _ (sym (c .before .is-negation .ensures _)) (c .if1 .left)))

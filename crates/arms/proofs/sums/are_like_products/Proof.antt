@@ -13,5 +13,5 @@ are-like-products-spec =
     (λ c κs. search needs)
     (λ c κs. search needs)
     (λ c κs. search needs)
-    (λ c. λ tag first second n h w v. both-yes (sym (c .before .before .before .before .are-infix .ensures _)) (c .before .before .before .if1 .taken) (compared (c .equal-at .ensures) h (c .before .before .right-in .ensures _ _ n w (first-of-both _ _ (so (c .before .before .before .before .are-infix .ensures _) (c .before .before .before .if1 .taken)))) (c .before .right-in2 .ensures _ _ n v (second-of-both _ _ (so (c .before .before .before .before .are-infix .ensures _) (c .before .before .before .if1 .taken))))))
-    (λ c. λ tag first second n h w v. both-not _ (sym (c .before .are-infix .ensures _)) (c .if1 .left)))
+    (λ c. λ n h w v. both-yes (sym (c .before .before .before .before .are-infix .ensures _)) (c .before .before .before .if1 .taken) (compared (c .equal-at .ensures) h (c .before .before .right-in .ensures _ _ n w (first-of-both _ _ (so (c .before .before .before .before .are-infix .ensures _) (c .before .before .before .if1 .taken)))) (c .before .right-in2 .ensures _ _ n v (second-of-both _ _ (so (c .before .before .before .before .are-infix .ensures _) (c .before .before .before .if1 .taken))))))
+    (λ c. λ n h w v. both-not _ (sym (c .before .are-infix .ensures _)) (c .if1 .left)))

@@ -1,4 +1,5 @@
 -- `clear_work` meets its contract. Assumes nothing.
+use mathlib.Core.Path.{refl}
 use Rattle.calls.proofs.Framing.{clears}
 use borrow.Author.Needs.{needs}
 use Rattle.calls.proofs.frame.clear_work.Statement.{statement}
@@ -10,9 +11,6 @@ clear-work-spec =
     (tie.spec
     (λ c κs. search needs)
     (λ c κs. search needs)
-    (λ c. c .before .before .before .before .before .before .before .before .before .before .before .before .clear .kept .0)
-    (λ c. c .before .before .before .before .before .before .before .before .before .before .before .before .clear .kept .1 .0)
-    (λ c. c .before .before .before .before .before .before .before .before .before .before .before .before .clear .kept .1 .1 .0)
-    (λ c. c .before .before .before .before .before .before .before .before .before .before .before .before .clear .kept .1 .1 .1 .0)
+    (λ c. search needs)
     (λ c. c .before .before .zero .kept .0)
-    (λ c. clears _ _ (c .before .before .before .before .before .before .before .before .before .before .before .before .clear .ensures) (c .before .before .zero .ensures)))
+    (λ c. clears _ _ _ (c .before .before .before .before .before .before .zero-rows .ensures) refl (c .before .before .zero .ensures)))

@@ -1,17 +1,17 @@
 -- `write_answer` meets its contract. Each need has a name here, so that a wrong program is refused where a fact fails. Assumes nothing.
-use borrow.Author.Needs.{needs}
 use Rattle.calls.proofs.Framing.{writes-node, writes-refusal}
+use borrow.Author.Needs.{needs}
 use Rattle.calls.proofs.frame.write_answer.Statement.{statement}
 use Rattle.calls.proofs.frame.write_answer.Tie as tie
 
-enum-known-built : tie.Need-enum-known-built
-enum-known-built c = search needs
+refusal-of-requires : tie.Need-refusal-of-requires
+refusal-of-requires c κs = search needs
+
+returns : tie.Need-returns
+returns c = writes-refusal _ _ (c .before .if1 .taken) (c .refusal-of .ensures)
 
 write-listing-requires : tie.Need-write-listing-requires
 write-listing-requires c κs = search needs
-
-enum-known-built-2 : tie.Need-enum-known-built-2
-enum-known-built-2 c = search needs
 
 same-length : tie.Need-same-length
 same-length c = search needs
@@ -19,11 +19,11 @@ same-length c = search needs
 same-length-2 : tie.Need-same-length-2
 same-length-2 c = search needs
 
-returns : tie.Need-returns
-returns c = writes-node _ _ _ _ _ (c .before .before .before .before .before .before .before .before .built .given .1) (c .before .before .before .before .write-listing .ensures)
+same-length-3 : tie.Need-same-length-3
+same-length-3 c = search needs
 
 returns-2 : tie.Need-returns-2
-returns-2 c = writes-refusal _ _ _ _ (c .before .built2 .given .1)
+returns-2 c = writes-node _ _ (c .before .before .before .before .before .before .before .before .before .if1 .left) (c .before .before .before .before .before .write-listing .ensures)
 
 pub write-answer-spec : {M : Type 1} → statement M
-write-answer-spec = tie.close (tie.spec enum-known-built write-listing-requires enum-known-built-2 same-length same-length-2 returns returns-2)
+write-answer-spec = tie.close (tie.spec refusal-of-requires returns write-listing-requires same-length same-length-2 same-length-3 returns-2)

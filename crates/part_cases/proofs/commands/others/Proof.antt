@@ -7,10 +7,10 @@ use Rattle.part_cases.proofs.commands.others.Statement.{statement}
 use Rattle.part_cases.proofs.commands.others.Tie as tie
 
 abbrev Inv-loop : tie.InvT-loop
-Inv-loop s count₀ i₀ count i = (i ≤ 4096) × (count ≤ i)
+Inv-loop store k count₀ i₀ count i = (i ≤ 4096) × (count ≤ i)
 
 abbrev μ-loop : tie.MeasureT-loop
-μ-loop s count₀ i₀ count i = 4096 - i
+μ-loop store k count₀ i₀ count i = 4096 - i
 
 loop-again : tie.Need-loop-again Inv-loop μ-loop
 loop-again c = ⊎-elim (λ w. omega arith) (λ w. omega arith) (c .if1 .came)
@@ -21,6 +21,8 @@ others-spec =
     (tie.spec
     Inv-loop
     μ-loop
+    (λ c. search needs)
+    (λ c. search needs)
     (λ c. search needs)
     (λ c. search needs)
     (λ c. search needs)

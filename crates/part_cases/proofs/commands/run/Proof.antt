@@ -5,10 +5,10 @@ use Rattle.part_cases.proofs.commands.run.Statement.{statement}
 use Rattle.part_cases.proofs.commands.run.Tie as tie
 
 abbrev Inv-loop : tie.InvT-loop
-Inv-loop list tag₀ first₀ second₀ link₀ lent₀ nodes₀ calls₀ tag first second link lent nodes calls = Unit {0}
+Inv-loop list store₀ desk₀ rows₀ calls₀ store desk rows calls = Unit {0}
 
 abbrev μ-loop : tie.MeasureT-loop
-μ-loop list tag₀ first₀ second₀ link₀ lent₀ nodes₀ calls₀ tag first second link lent nodes calls = 1000000 - calls
+μ-loop list store₀ desk₀ rows₀ calls₀ store desk rows calls = 1000000 - calls
 
 pub run-spec : {M : Type 1} → statement M
 run-spec =
@@ -16,22 +16,12 @@ run-spec =
     (tie.spec
     Inv-loop
     μ-loop
-    (λ c κs. search needs)
     (λ c. search needs)
     (λ c κs. search needs)
     (λ c κs. search needs)
     (λ c. search needs)
     (λ c κs. search needs)
     (λ c κs. search needs)
-    (λ c κs. search needs)
-    (λ c κs. search needs)
-    (λ c κs. search needs)
-    (λ c. search needs)
-    (λ c. search needs)
-    (λ c. search needs)
-    (λ c. search needs)
-    (λ c. search needs)
-    (λ c. search needs)
     (λ c. search needs)
     (λ c. search needs)
     (λ c κs. search needs)

@@ -5,10 +5,10 @@ use Rattle.part_cases.proofs.texts.run.Statement.{statement}
 use Rattle.part_cases.proofs.texts.run.Tie as tie
 
 abbrev Inv-loop : tie.InvT-loop
-Inv-loop list tag₀ first₀ second₀ link₀ table₀ cases₀ tag first second link table cases = Unit {0}
+Inv-loop list store₀ desk₀ table₀ cases₀ store desk table cases = Unit {0}
 
 abbrev μ-loop : tie.MeasureT-loop
-μ-loop list tag₀ first₀ second₀ link₀ table₀ cases₀ tag first second link table cases = 1000000 - cases
+μ-loop list store₀ desk₀ table₀ cases₀ store desk table cases = 1000000 - cases
 
 pub run-spec : {M : Type 1} → statement M
 run-spec =
@@ -23,16 +23,6 @@ run-spec =
     (λ c. search needs)
     (λ c. search needs)
     (λ c κs. search needs)
-    (λ c κs. search needs)
-    (λ c κs. search needs)
-    (λ c κs. search needs)
-    (λ c κs. search needs)
-    (λ c. search needs)
-    (λ c. search needs)
-    (λ c. search needs)
-    (λ c. search needs)
-    (λ c. search needs)
-    (λ c. search needs)
     (λ c. search needs)
     (λ c. search needs)
     (λ c κs. search needs)

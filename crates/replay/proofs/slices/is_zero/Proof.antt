@@ -1,14 +1,15 @@
 -- `replay::slices::is_zero` is safe and ends: each word at most once. Nothing has to hold from turn to turn. Assumes nothing.
 use Prim.Native.Nat.{_-_}
+use lib.ListN.{length}
 use borrow.Author.Needs.{needs}
 use Rattle.replay.proofs.slices.is_zero.Statement.{statement}
 use Rattle.replay.proofs.slices.is_zero.Tie as tie
 
 abbrev Inv-loop : tie.InvT-loop
-Inv-loop s n most i₀ i = Unit {0}
+Inv-loop s i₀ i = Unit {0}
 
 abbrev μ-loop : tie.MeasureT-loop
-μ-loop s n most i₀ i = most - i
+μ-loop s i₀ i = length s - i
 
 pub is-zero-spec : {M : Type 1} → statement M
 is-zero-spec =
@@ -16,7 +17,6 @@ is-zero-spec =
     (tie.spec
     Inv-loop
     μ-loop
-    (λ c κs. search needs)
     (λ c. search needs)
     (λ c. search needs)
     (λ c. search needs)

@@ -55,207 +55,117 @@ enum-known-arm-5 : (t : ℕ) → lts.Need-enum-known-arm-5 (claims t) (carry-out
 enum-known-arm-5 t c = search needs
 
 again-requires : (t : ℕ) → lts.Need-again-requires (claims t) (carry-out-at t) carry-out.Post
-again-requires t c κs = (down (c .before .before .before .before .before .before .before .before .before .before .before .before .args .limit .0) 2 5 (c .before .before .before .before .before .before .before .before .before .before .before .before .pre .0) (lit< tt), tt)
+again-requires t c κs = (down (c .before .before .before .before .before .before .args .limit .0) 2 5 (c .before .before .before .before .before .before .pre .0) (lit< tt), tt)
 
 enum-known-arm-6 : (t : ℕ) → lts.Need-enum-known-arm-6 (claims t) (carry-out-at t) carry-out.Post
 enum-known-arm-6 t c = search needs
 
 inverse-requires : (t : ℕ) → lts.Need-inverse-requires (claims t) (carry-out-at t) carry-out.Post
-inverse-requires t c κs = (down (c .before .before .before .before .before .before .before .before .before .before .before .before .args .limit .0) 3 5 (c .before .before .before .before .before .before .before .before .before .before .before .before .pre .0) (lit< tt), tt)
+inverse-requires t c κs = (down (c .before .before .before .before .before .before .args .limit .0) 3 5 (c .before .before .before .before .before .before .pre .0) (lit< tt), tt)
 
 enum-known-arm-7 : (t : ℕ) → lts.Need-enum-known-arm-7 (claims t) (carry-out-at t) carry-out.Post
 enum-known-arm-7 t c = search needs
 
 regroup-requires : (t : ℕ) → lts.Need-regroup-requires (claims t) (carry-out-at t) carry-out.Post
-regroup-requires t c κs = (down (c .before .before .before .before .before .before .before .before .before .before .before .before .args .limit .0) 3 5 (c .before .before .before .before .before .before .before .before .before .before .before .before .pre .0) (lit< tt), tt)
+regroup-requires t c κs = (down (c .before .before .before .before .before .before .args .limit .0) 3 5 (c .before .before .before .before .before .before .pre .0) (lit< tt), tt)
 
 enum-known-arm-8 : (t : ℕ) → lts.Need-enum-known-arm-8 (claims t) (carry-out-at t) carry-out.Post
 enum-known-arm-8 t c = search needs
 
 smaller-regrouped-requires : (t : ℕ) → lts.Need-smaller-regrouped-requires (claims t) (carry-out-at t) carry-out.Post
-smaller-regrouped-requires t c κs = (down (c .before .before .before .before .before .before .before .before .before .before .before .before .args .limit .0) 4 5 (c .before .before .before .before .before .before .before .before .before .before .before .before .pre .0) (lit< tt), tt)
+smaller-regrouped-requires t c κs = (down (c .before .before .before .before .before .before .args .limit .0) 4 5 (c .before .before .before .before .before .before .pre .0) (lit< tt), tt)
 
 enum-known-arm-9 : (t : ℕ) → lts.Need-enum-known-arm-9 (claims t) (carry-out-at t) carry-out.Post
 enum-known-arm-9 t c = search needs
 
 distribute-requires : (t : ℕ) → lts.Need-distribute-requires (claims t) (carry-out-at t) carry-out.Post
-distribute-requires t c κs = (down (c .before .before .before .before .before .before .before .before .before .before .before .before .args .limit .0) 4 5 (c .before .before .before .before .before .before .before .before .before .before .before .before .pre .0) (lit< tt), tt)
+distribute-requires t c κs = (down (c .before .before .before .before .before .before .args .limit .0) 4 5 (c .before .before .before .before .before .before .pre .0) (lit< tt), tt)
 
 enum-known-arm-10 : (t : ℕ) → lts.Need-enum-known-arm-10 (claims t) (carry-out-at t) carry-out.Post
 enum-known-arm-10 t c = search needs
 
 double-requires : (t : ℕ) → lts.Need-double-requires (claims t) (carry-out-at t) carry-out.Post
-double-requires t c κs = (down (c .before .before .before .before .before .before .before .before .before .before .before .before .args .limit .0) 4 5 (c .before .before .before .before .before .before .before .before .before .before .before .before .pre .0) (lit< tt), tt)
+double-requires t c κs = (down (c .before .before .before .before .before .before .args .limit .0) 4 5 (c .before .before .before .before .before .before .pre .0) (lit< tt), tt)
 
 enum-known-arm-11 : (t : ℕ) → lts.Need-enum-known-arm-11 (claims t) (carry-out-at t) carry-out.Post
 enum-known-arm-11 t c = search needs
 
 affine-requires : (t : ℕ) → lts.Need-affine-requires (claims t) (carry-out-at t) carry-out.Post
-affine-requires t c κs = (down (c .before .before .before .before .before .before .before .before .before .before .before .before .args .limit .0) 4 5 (c .before .before .before .before .before .before .before .before .before .before .before .before .pre .0) (lit< tt), tt)
+affine-requires t c κs = (down (c .before .before .before .before .before .before .args .limit .0) 4 5 (c .before .before .before .before .before .before .pre .0) (lit< tt), tt)
 
 returns : (t : ℕ) → lts.Need-returns (claims t) (carry-out-at t) carry-out.Post
 unfolding carryOut
 returns t c = rw (c .before .arm .given .1) λ held h l. stays h l refl
 
 same-length : (t : ℕ) → lts.Need-same-length (claims t) (carry-out-at t) carry-out.Post
-same-length t c = c .before .before .before .before .before .before .before .before .add .kept .0
-
-same-length-2 : (t : ℕ) → lts.Need-same-length-2 (claims t) (carry-out-at t) carry-out.Post
-same-length-2 t c = c .before .before .before .before .before .before .before .before .add .kept .1 .0
-
-same-length-3 : (t : ℕ) → lts.Need-same-length-3 (claims t) (carry-out-at t) carry-out.Post
-same-length-3 t c = c .before .before .before .before .before .before .before .before .add .kept .1 .1 .0
-
-same-length-4 : (t : ℕ) → lts.Need-same-length-4 (claims t) (carry-out-at t) carry-out.Post
-same-length-4 t c = c .before .before .before .before .before .before .before .before .add .kept .1 .1 .1 .0
+same-length t c = search needs
 
 returns-2 : (t : ℕ) → lts.Need-returns-2 (claims t) (carry-out-at t) carry-out.Post
 unfolding carryOut
-returns-2 t c = rw (c .before .before .before .before .before .before .before .before .before .before .before .before .before .before .arm2 .given .1) λ held h w. c .before .before .before .before .before .before .before .before .add .ensures h w
+returns-2 t c = rw (c .before .before .before .before .before .arm2 .given .1) λ held h w. c .before .add .ensures h w
 
-same-length-5 : (t : ℕ) → lts.Need-same-length-5 (claims t) (carry-out-at t) carry-out.Post
-same-length-5 t c = c .before .before .before .before .before .before .before .before .store-value .kept .0
-
-same-length-6 : (t : ℕ) → lts.Need-same-length-6 (claims t) (carry-out-at t) carry-out.Post
-same-length-6 t c = c .before .before .before .before .before .before .before .before .store-value .kept .1 .0
-
-same-length-7 : (t : ℕ) → lts.Need-same-length-7 (claims t) (carry-out-at t) carry-out.Post
-same-length-7 t c = c .before .before .before .before .before .before .before .before .store-value .kept .1 .1 .0
-
-same-length-8 : (t : ℕ) → lts.Need-same-length-8 (claims t) (carry-out-at t) carry-out.Post
-same-length-8 t c = c .before .before .before .before .before .before .before .before .store-value .kept .1 .1 .1 .0
+same-length-2 : (t : ℕ) → lts.Need-same-length-2 (claims t) (carry-out-at t) carry-out.Post
+same-length-2 t c = search needs
 
 returns-3 : (t : ℕ) → lts.Need-returns-3 (claims t) (carry-out-at t) carry-out.Post
 unfolding carryOut
-returns-3 t c = rw (c .before .before .before .before .before .before .before .before .before .before .before .before .before .before .before .arm3 .given .1) λ held h w. folded-by _ (c .before .before .before .before .before .before .before .before .before .before .before .before .before .calculate-infix .ensures held) (c .before .before .before .before .before .before .before .before .store-value .ensures h)
+returns-3 t c = rw (c .before .before .before .before .before .before .arm3 .given .1) λ held h w. folded-by _ (c .before .before .before .before .calculate-infix .ensures held) (c .before .store-value .ensures h tt)
 
-same-length-9 : (t : ℕ) → lts.Need-same-length-9 (claims t) (carry-out-at t) carry-out.Post
-same-length-9 t c = c .before .before .before .before .before .before .before .before .store-value2 .kept .0
-
-same-length-10 : (t : ℕ) → lts.Need-same-length-10 (claims t) (carry-out-at t) carry-out.Post
-same-length-10 t c = c .before .before .before .before .before .before .before .before .store-value2 .kept .1 .0
-
-same-length-11 : (t : ℕ) → lts.Need-same-length-11 (claims t) (carry-out-at t) carry-out.Post
-same-length-11 t c = c .before .before .before .before .before .before .before .before .store-value2 .kept .1 .1 .0
-
-same-length-12 : (t : ℕ) → lts.Need-same-length-12 (claims t) (carry-out-at t) carry-out.Post
-same-length-12 t c = c .before .before .before .before .before .before .before .before .store-value2 .kept .1 .1 .1 .0
+same-length-3 : (t : ℕ) → lts.Need-same-length-3 (claims t) (carry-out-at t) carry-out.Post
+same-length-3 t c = search needs
 
 returns-4 : (t : ℕ) → lts.Need-returns-4 (claims t) (carry-out-at t) carry-out.Post
 unfolding carryOut
-returns-4 t c = rw (c .before .before .before .before .before .before .before .before .before .before .before .before .before .before .before .arm4 .given .1) λ held h w. folded-by _ (c .before .before .before .before .before .before .before .before .before .before .before .before .before .calculate-function .ensures held) (c .before .before .before .before .before .before .before .before .store-value2 .ensures h)
+returns-4 t c = rw (c .before .before .before .before .before .before .arm4 .given .1) λ held h w. folded-by _ (c .before .before .before .before .calculate-function .ensures held) (c .before .store-value2 .ensures h tt)
 
-same-length-13 : (t : ℕ) → lts.Need-same-length-13 (claims t) (carry-out-at t) carry-out.Post
-same-length-13 t c = c .before .before .before .before .before .before .before .before .again .kept .1 .0
-
-same-length-14 : (t : ℕ) → lts.Need-same-length-14 (claims t) (carry-out-at t) carry-out.Post
-same-length-14 t c = c .before .before .before .before .before .before .before .before .again .kept .1 .1 .0
-
-same-length-15 : (t : ℕ) → lts.Need-same-length-15 (claims t) (carry-out-at t) carry-out.Post
-same-length-15 t c = c .before .before .before .before .before .before .before .before .again .kept .1 .1 .1 .0
-
-same-length-16 : (t : ℕ) → lts.Need-same-length-16 (claims t) (carry-out-at t) carry-out.Post
-same-length-16 t c = c .before .before .before .before .before .before .before .before .again .kept .1 .1 .1 .1 .0
+same-length-4 : (t : ℕ) → lts.Need-same-length-4 (claims t) (carry-out-at t) carry-out.Post
+same-length-4 t c = search needs
 
 returns-5 : (t : ℕ) → lts.Need-returns-5 (claims t) (carry-out-at t) carry-out.Post
 unfolding carryOut
-returns-5 t c = rw (c .before .before .before .before .before .before .before .before .before .before .before .before .before .before .arm5 .given .1) (c .before .before .before .before .before .before .before .before .again .ensures)
+returns-5 t c = rw (c .before .before .before .before .before .arm5 .given .1) (c .before .again .ensures)
 
-same-length-17 : (t : ℕ) → lts.Need-same-length-17 (claims t) (carry-out-at t) carry-out.Post
-same-length-17 t c = c .before .before .before .before .before .before .before .before .inverse .kept .1 .0
-
-same-length-18 : (t : ℕ) → lts.Need-same-length-18 (claims t) (carry-out-at t) carry-out.Post
-same-length-18 t c = c .before .before .before .before .before .before .before .before .inverse .kept .1 .1 .0
-
-same-length-19 : (t : ℕ) → lts.Need-same-length-19 (claims t) (carry-out-at t) carry-out.Post
-same-length-19 t c = c .before .before .before .before .before .before .before .before .inverse .kept .1 .1 .1 .0
-
-same-length-20 : (t : ℕ) → lts.Need-same-length-20 (claims t) (carry-out-at t) carry-out.Post
-same-length-20 t c = c .before .before .before .before .before .before .before .before .inverse .kept .1 .1 .1 .1 .0
+same-length-5 : (t : ℕ) → lts.Need-same-length-5 (claims t) (carry-out-at t) carry-out.Post
+same-length-5 t c = search needs
 
 returns-6 : (t : ℕ) → lts.Need-returns-6 (claims t) (carry-out-at t) carry-out.Post
 unfolding carryOut
-returns-6 t c = rw (c .before .before .before .before .before .before .before .before .before .before .before .before .before .before .arm6 .given .1) (c .before .before .before .before .before .before .before .before .inverse .ensures)
+returns-6 t c = rw (c .before .before .before .before .before .arm6 .given .1) (c .before .inverse .ensures)
 
-same-length-21 : (t : ℕ) → lts.Need-same-length-21 (claims t) (carry-out-at t) carry-out.Post
-same-length-21 t c = c .before .before .before .before .before .before .before .before .regroup .kept .1 .0
-
-same-length-22 : (t : ℕ) → lts.Need-same-length-22 (claims t) (carry-out-at t) carry-out.Post
-same-length-22 t c = c .before .before .before .before .before .before .before .before .regroup .kept .1 .1 .0
-
-same-length-23 : (t : ℕ) → lts.Need-same-length-23 (claims t) (carry-out-at t) carry-out.Post
-same-length-23 t c = c .before .before .before .before .before .before .before .before .regroup .kept .1 .1 .1 .0
-
-same-length-24 : (t : ℕ) → lts.Need-same-length-24 (claims t) (carry-out-at t) carry-out.Post
-same-length-24 t c = c .before .before .before .before .before .before .before .before .regroup .kept .1 .1 .1 .1 .0
+same-length-6 : (t : ℕ) → lts.Need-same-length-6 (claims t) (carry-out-at t) carry-out.Post
+same-length-6 t c = search needs
 
 returns-7 : (t : ℕ) → lts.Need-returns-7 (claims t) (carry-out-at t) carry-out.Post
 unfolding carryOut
-returns-7 t c = rw (c .before .before .before .before .before .before .before .before .before .before .before .before .before .before .arm7 .given .1) (c .before .before .before .before .before .before .before .before .regroup .ensures)
+returns-7 t c = rw (c .before .before .before .before .before .arm7 .given .1) (c .before .regroup .ensures)
 
-same-length-25 : (t : ℕ) → lts.Need-same-length-25 (claims t) (carry-out-at t) carry-out.Post
-same-length-25 t c = c .before .before .before .before .before .before .before .before .smaller-regrouped .kept .1 .0
-
-same-length-26 : (t : ℕ) → lts.Need-same-length-26 (claims t) (carry-out-at t) carry-out.Post
-same-length-26 t c = c .before .before .before .before .before .before .before .before .smaller-regrouped .kept .1 .1 .0
-
-same-length-27 : (t : ℕ) → lts.Need-same-length-27 (claims t) (carry-out-at t) carry-out.Post
-same-length-27 t c = c .before .before .before .before .before .before .before .before .smaller-regrouped .kept .1 .1 .1 .0
-
-same-length-28 : (t : ℕ) → lts.Need-same-length-28 (claims t) (carry-out-at t) carry-out.Post
-same-length-28 t c = c .before .before .before .before .before .before .before .before .smaller-regrouped .kept .1 .1 .1 .1 .0
+same-length-7 : (t : ℕ) → lts.Need-same-length-7 (claims t) (carry-out-at t) carry-out.Post
+same-length-7 t c = search needs
 
 returns-8 : (t : ℕ) → lts.Need-returns-8 (claims t) (carry-out-at t) carry-out.Post
 unfolding carryOut
-returns-8 t c = rw (c .before .before .before .before .before .before .before .before .before .before .before .before .before .before .arm8 .given .1) (c .before .before .before .before .before .before .before .before .smaller-regrouped .ensures)
+returns-8 t c = rw (c .before .before .before .before .before .arm8 .given .1) (c .before .smaller-regrouped .ensures)
 
-same-length-29 : (t : ℕ) → lts.Need-same-length-29 (claims t) (carry-out-at t) carry-out.Post
-same-length-29 t c = c .before .before .before .before .before .before .before .before .distribute .kept .1 .0
-
-same-length-30 : (t : ℕ) → lts.Need-same-length-30 (claims t) (carry-out-at t) carry-out.Post
-same-length-30 t c = c .before .before .before .before .before .before .before .before .distribute .kept .1 .1 .0
-
-same-length-31 : (t : ℕ) → lts.Need-same-length-31 (claims t) (carry-out-at t) carry-out.Post
-same-length-31 t c = c .before .before .before .before .before .before .before .before .distribute .kept .1 .1 .1 .0
-
-same-length-32 : (t : ℕ) → lts.Need-same-length-32 (claims t) (carry-out-at t) carry-out.Post
-same-length-32 t c = c .before .before .before .before .before .before .before .before .distribute .kept .1 .1 .1 .1 .0
+same-length-8 : (t : ℕ) → lts.Need-same-length-8 (claims t) (carry-out-at t) carry-out.Post
+same-length-8 t c = search needs
 
 returns-9 : (t : ℕ) → lts.Need-returns-9 (claims t) (carry-out-at t) carry-out.Post
 unfolding carryOut
-returns-9 t c = rw (c .before .before .before .before .before .before .before .before .before .before .before .before .before .before .arm9 .given .1) (c .before .before .before .before .before .before .before .before .distribute .ensures)
+returns-9 t c = rw (c .before .before .before .before .before .arm9 .given .1) (c .before .distribute .ensures)
 
-same-length-33 : (t : ℕ) → lts.Need-same-length-33 (claims t) (carry-out-at t) carry-out.Post
-same-length-33 t c = c .before .before .before .before .before .before .before .before .double .kept .1 .0
-
-same-length-34 : (t : ℕ) → lts.Need-same-length-34 (claims t) (carry-out-at t) carry-out.Post
-same-length-34 t c = c .before .before .before .before .before .before .before .before .double .kept .1 .1 .0
-
-same-length-35 : (t : ℕ) → lts.Need-same-length-35 (claims t) (carry-out-at t) carry-out.Post
-same-length-35 t c = c .before .before .before .before .before .before .before .before .double .kept .1 .1 .1 .0
-
-same-length-36 : (t : ℕ) → lts.Need-same-length-36 (claims t) (carry-out-at t) carry-out.Post
-same-length-36 t c = c .before .before .before .before .before .before .before .before .double .kept .1 .1 .1 .1 .0
+same-length-9 : (t : ℕ) → lts.Need-same-length-9 (claims t) (carry-out-at t) carry-out.Post
+same-length-9 t c = search needs
 
 returns-10 : (t : ℕ) → lts.Need-returns-10 (claims t) (carry-out-at t) carry-out.Post
 unfolding carryOut
-returns-10 t c = rw (c .before .before .before .before .before .before .before .before .before .before .before .before .before .before .arm10 .given .1) (c .before .before .before .before .before .before .before .before .double .ensures)
+returns-10 t c = rw (c .before .before .before .before .before .arm10 .given .1) (c .before .double .ensures)
 
-same-length-37 : (t : ℕ) → lts.Need-same-length-37 (claims t) (carry-out-at t) carry-out.Post
-same-length-37 t c = c .before .before .before .before .before .before .before .before .affine .kept .1 .0
-
-same-length-38 : (t : ℕ) → lts.Need-same-length-38 (claims t) (carry-out-at t) carry-out.Post
-same-length-38 t c = c .before .before .before .before .before .before .before .before .affine .kept .1 .1 .0
-
-same-length-39 : (t : ℕ) → lts.Need-same-length-39 (claims t) (carry-out-at t) carry-out.Post
-same-length-39 t c = c .before .before .before .before .before .before .before .before .affine .kept .1 .1 .1 .0
-
-same-length-40 : (t : ℕ) → lts.Need-same-length-40 (claims t) (carry-out-at t) carry-out.Post
-same-length-40 t c = c .before .before .before .before .before .before .before .before .affine .kept .1 .1 .1 .1 .0
+same-length-10 : (t : ℕ) → lts.Need-same-length-10 (claims t) (carry-out-at t) carry-out.Post
+same-length-10 t c = search needs
 
 returns-11 : (t : ℕ) → lts.Need-returns-11 (claims t) (carry-out-at t) carry-out.Post
 unfolding carryOut
-returns-11 t c = rw (c .before .before .before .before .before .before .before .before .before .before .before .before .before .before .arm11 .given .1) (c .before .before .before .before .before .before .before .before .affine .ensures)
+returns-11 t c = rw (c .before .before .before .before .before .arm11 .given .1) (c .before .affine .ensures)
 
 pub part : {M : Type 1} (t : ℕ) → lts.Closed (claims t) (carry-out-at t) carry-out.Post M
 part t =
@@ -264,12 +174,7 @@ part t =
     (enum-known-arm-4 t) (calculate-function-requires t) (store-value-requires-2 t) (enum-known-arm-5 t) (again-requires t) (enum-known-arm-6 t)
     (inverse-requires t) (enum-known-arm-7 t) (regroup-requires t) (enum-known-arm-8 t) (smaller-regrouped-requires t) (enum-known-arm-9 t)
     (distribute-requires t) (enum-known-arm-10 t) (double-requires t) (enum-known-arm-11 t) (affine-requires t) (returns t)
-    (same-length t) (same-length-2 t) (same-length-3 t) (same-length-4 t) (returns-2 t) (same-length-5 t)
-    (same-length-6 t) (same-length-7 t) (same-length-8 t) (returns-3 t) (same-length-9 t) (same-length-10 t)
-    (same-length-11 t) (same-length-12 t) (returns-4 t) (same-length-13 t) (same-length-14 t) (same-length-15 t)
-    (same-length-16 t) (returns-5 t) (same-length-17 t) (same-length-18 t) (same-length-19 t) (same-length-20 t)
-    (returns-6 t) (same-length-21 t) (same-length-22 t) (same-length-23 t) (same-length-24 t) (returns-7 t)
-    (same-length-25 t) (same-length-26 t) (same-length-27 t) (same-length-28 t) (returns-8 t) (same-length-29 t)
-    (same-length-30 t) (same-length-31 t) (same-length-32 t) (returns-9 t) (same-length-33 t) (same-length-34 t)
-    (same-length-35 t) (same-length-36 t) (returns-10 t) (same-length-37 t) (same-length-38 t) (same-length-39 t)
-    (same-length-40 t) (returns-11 t)
+    (same-length t) (returns-2 t) (same-length-2 t) (returns-3 t) (same-length-3 t) (returns-4 t)
+    (same-length-4 t) (returns-5 t) (same-length-5 t) (returns-6 t) (same-length-6 t) (returns-7 t)
+    (same-length-7 t) (returns-8 t) (same-length-8 t) (returns-9 t) (same-length-9 t) (returns-10 t)
+    (same-length-10 t) (returns-11 t)

@@ -22,50 +22,25 @@ two-requires t c κs = tt
 add-requires : (t : ℕ) → lts.Need-add-requires (claims t) (double-at t) double.Post
 add-requires t c κs = tt
 
-enum-known-added : (t : ℕ) → lts.Need-enum-known-added (claims t) (double-at t) double.Post
-enum-known-added t c = search needs
-
-enum-told : (t : ℕ) → lts.Need-enum-told (claims t) (double-at t) double.Post
-enum-told t c = search needs
-
 same-length : (t : ℕ) → lts.Need-same-length (claims t) (double-at t) double.Post
-same-length t c = c .before .before .before .before .before .before .before .before .before .before .add .kept .0
-
-same-length-2 : (t : ℕ) → lts.Need-same-length-2 (claims t) (double-at t) double.Post
-same-length-2 t c = c .before .before .before .before .before .before .before .before .before .before .add .kept .1 .0
-
-same-length-3 : (t : ℕ) → lts.Need-same-length-3 (claims t) (double-at t) double.Post
-same-length-3 t c = c .before .before .before .before .before .before .before .before .before .before .add .kept .1 .1 .0
-
-same-length-4 : (t : ℕ) → lts.Need-same-length-4 (claims t) (double-at t) double.Post
-same-length-4 t c = c .before .before .before .before .before .before .before .before .before .before .add .kept .1 .1 .1 .0
+same-length t c = search needs
 
 returns : (t : ℕ) → lts.Need-returns (claims t) (double-at t) double.Post
 unfolding grown
-returns t c = λ held h w. double-refused _ _ _ _ _ _ _ (rw (c .before .before .before .before .before .before .before .before .before .before .before .two .ensures) at (c .before .before .before .before .before .before .before .before .before .before .add .ensures h tt)) (c .enum-told .given .1)
+returns t c = λ held h w. double-refused _ _ _ _ _ _ _ (rw (c .before .before .before .two .ensures) at (c .before .before .add .ensures h tt)) (c .if1 .taken)
 
 add-simplified-requires : (t : ℕ) → lts.Need-add-simplified-requires (claims t) (double-at t) double.Post
-add-simplified-requires t c κs = (down (c .before .before .before .before .before .before .before .before .before .before .before .before .before .before .before .before .before .before .before .before .before .before .before .before .before .before .args .limit .0) 3 4 (c .before .before .before .before .before .before .before .before .before .before .before .before .before .before .before .before .before .before .before .before .before .before .before .before .before .before .pre .0) (lit< tt), tt)
+add-simplified-requires t c κs = (down (c .before .before .before .before .before .before .before .before .before .args .limit .0) 3 4 (c .before .before .before .before .before .before .before .before .before .pre .0) (lit< tt), tt)
 
-same-length-5 : (t : ℕ) → lts.Need-same-length-5 (claims t) (double-at t) double.Post
-same-length-5 t c = c .before .before .before .before .before .before .before .before .add-simplified .kept .1 .0 ∙ c .before .before .before .before .before .before .before .before .before .before .before .before .before .before .before .before .before .before .before .before .before .before .before .before .add .kept .0
-
-same-length-6 : (t : ℕ) → lts.Need-same-length-6 (claims t) (double-at t) double.Post
-same-length-6 t c = c .before .before .before .before .before .before .before .before .add-simplified .kept .1 .1 .0 ∙ c .before .before .before .before .before .before .before .before .before .before .before .before .before .before .before .before .before .before .before .before .before .before .before .before .add .kept .1 .0
-
-same-length-7 : (t : ℕ) → lts.Need-same-length-7 (claims t) (double-at t) double.Post
-same-length-7 t c = c .before .before .before .before .before .before .before .before .add-simplified .kept .1 .1 .1 .0 ∙ c .before .before .before .before .before .before .before .before .before .before .before .before .before .before .before .before .before .before .before .before .before .before .before .before .add .kept .1 .1 .0
-
-same-length-8 : (t : ℕ) → lts.Need-same-length-8 (claims t) (double-at t) double.Post
-same-length-8 t c = c .before .before .before .before .before .before .before .before .add-simplified .kept .1 .1 .1 .1 .0 ∙ c .before .before .before .before .before .before .before .before .before .before .before .before .before .before .before .before .before .before .before .before .before .before .before .before .add .kept .1 .1 .1 .0
+same-length-2 : (t : ℕ) → lts.Need-same-length-2 (claims t) (double-at t) double.Post
+same-length-2 t c = search needs
 
 returns-2 : (t : ℕ) → lts.Need-returns-2 (claims t) (double-at t) double.Post
 unfolding grown
-returns-2 t c = λ held h w. double-node _ _ _ _ _ _ _ (w .0) (w .1) (w .2) (rw (c .before .before .before .before .before .before .before .before .before .before .before .before .before .before .before .before .before .before .before .before .before .before .before .before .before .two .ensures) at (c .before .before .before .before .before .before .before .before .before .before .before .before .before .before .before .before .before .before .before .before .before .before .before .before .add .ensures h tt)) (c .before .before .before .before .before .before .before .before .before .before .before .before .before .before .added .given .1) λ p. c .before .before .before .before .before .before .before .before .add-simplified .ensures held (p .holds) ((p .inside, older p (w .0)), (older p (w .1), older p (w .2)))
+returns-2 t c = λ held h w. double-node _ _ _ _ _ _ _ (w .0) (w .1) (w .2) (rw (c .before .before .before .before .before .before .before .two .ensures) at (c .before .before .before .before .before .before .add .ensures h tt)) (c .before .before .before .before .if1 .left) λ p. c .before .add-simplified .ensures held (p .sound) ((p .inside, older p (w .0)), (older p (w .1), older p (w .2)))
 
 pub part : {M : Type 1} (t : ℕ) → lts.Closed (claims t) (double-at t) double.Post M
 part t =
     lts.spec (claims t) (double-at t) double.Post
-    (two-requires t) (add-requires t) (enum-known-added t) (enum-told t) (same-length t) (same-length-2 t)
-    (same-length-3 t) (same-length-4 t) (returns t) (add-simplified-requires t) (same-length-5 t) (same-length-6 t)
-    (same-length-7 t) (same-length-8 t) (returns-2 t)
+    (two-requires t) (add-requires t) (same-length t) (returns t) (add-simplified-requires t) (same-length-2 t)
+    (returns-2 t)

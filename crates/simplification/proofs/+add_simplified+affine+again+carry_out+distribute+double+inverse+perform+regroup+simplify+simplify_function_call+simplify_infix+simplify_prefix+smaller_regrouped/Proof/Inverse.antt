@@ -22,50 +22,25 @@ one-requires t c κs = tt
 add-requires : (t : ℕ) → lts.Need-add-requires (claims t) (inverse-at t) inverse.Post
 add-requires t c κs = tt
 
-enum-known-added : (t : ℕ) → lts.Need-enum-known-added (claims t) (inverse-at t) inverse.Post
-enum-known-added t c = search needs
-
-enum-told : (t : ℕ) → lts.Need-enum-told (claims t) (inverse-at t) inverse.Post
-enum-told t c = search needs
-
 same-length : (t : ℕ) → lts.Need-same-length (claims t) (inverse-at t) inverse.Post
-same-length t c = c .before .before .before .before .before .before .before .before .before .before .add .kept .0
-
-same-length-2 : (t : ℕ) → lts.Need-same-length-2 (claims t) (inverse-at t) inverse.Post
-same-length-2 t c = c .before .before .before .before .before .before .before .before .before .before .add .kept .1 .0
-
-same-length-3 : (t : ℕ) → lts.Need-same-length-3 (claims t) (inverse-at t) inverse.Post
-same-length-3 t c = c .before .before .before .before .before .before .before .before .before .before .add .kept .1 .1 .0
-
-same-length-4 : (t : ℕ) → lts.Need-same-length-4 (claims t) (inverse-at t) inverse.Post
-same-length-4 t c = c .before .before .before .before .before .before .before .before .before .before .add .kept .1 .1 .1 .0
+same-length t c = search needs
 
 returns : (t : ℕ) → lts.Need-returns (claims t) (inverse-at t) inverse.Post
 unfolding grown
-returns t c = λ held h l. inverse-refused _ _ _ _ _ (rw (c .before .before .before .before .before .before .before .before .before .before .before .one .ensures) at (c .before .before .before .before .before .before .before .before .before .before .add .ensures h tt)) (c .enum-told .given .1)
+returns t c = λ held h l. inverse-refused _ _ _ _ _ (rw (c .before .before .before .one .ensures) at (c .before .before .add .ensures h tt)) (c .if1 .taken)
 
 again-requires : (t : ℕ) → lts.Need-again-requires (claims t) (inverse-at t) inverse.Post
-again-requires t c κs = (down (c .before .before .before .before .before .before .before .before .before .before .before .before .before .before .before .before .before .before .before .before .before .before .before .before .before .before .args .limit .0) 2 3 (c .before .before .before .before .before .before .before .before .before .before .before .before .before .before .before .before .before .before .before .before .before .before .before .before .before .before .pre .0) (lit< tt), tt)
+again-requires t c κs = (down (c .before .before .before .before .before .before .before .before .before .args .limit .0) 2 3 (c .before .before .before .before .before .before .before .before .before .pre .0) (lit< tt), tt)
 
-same-length-5 : (t : ℕ) → lts.Need-same-length-5 (claims t) (inverse-at t) inverse.Post
-same-length-5 t c = c .before .before .before .before .before .before .before .before .again .kept .1 .0 ∙ c .before .before .before .before .before .before .before .before .before .before .before .before .before .before .before .before .before .before .before .before .before .before .before .before .add .kept .0
-
-same-length-6 : (t : ℕ) → lts.Need-same-length-6 (claims t) (inverse-at t) inverse.Post
-same-length-6 t c = c .before .before .before .before .before .before .before .before .again .kept .1 .1 .0 ∙ c .before .before .before .before .before .before .before .before .before .before .before .before .before .before .before .before .before .before .before .before .before .before .before .before .add .kept .1 .0
-
-same-length-7 : (t : ℕ) → lts.Need-same-length-7 (claims t) (inverse-at t) inverse.Post
-same-length-7 t c = c .before .before .before .before .before .before .before .before .again .kept .1 .1 .1 .0 ∙ c .before .before .before .before .before .before .before .before .before .before .before .before .before .before .before .before .before .before .before .before .before .before .before .before .add .kept .1 .1 .0
-
-same-length-8 : (t : ℕ) → lts.Need-same-length-8 (claims t) (inverse-at t) inverse.Post
-same-length-8 t c = c .before .before .before .before .before .before .before .before .again .kept .1 .1 .1 .1 .0 ∙ c .before .before .before .before .before .before .before .before .before .before .before .before .before .before .before .before .before .before .before .before .before .before .before .before .add .kept .1 .1 .1 .0
+same-length-2 : (t : ℕ) → lts.Need-same-length-2 (claims t) (inverse-at t) inverse.Post
+same-length-2 t c = search needs
 
 returns-2 : (t : ℕ) → lts.Need-returns-2 (claims t) (inverse-at t) inverse.Post
 unfolding grown
-returns-2 t c = λ held h l. inverse-node _ _ _ _ _ l (rw (c .before .before .before .before .before .before .before .before .before .before .before .before .before .before .before .before .before .before .before .before .before .before .before .before .before .one .ensures) at (c .before .before .before .before .before .before .before .before .before .before .before .before .before .before .before .before .before .before .before .before .before .before .before .before .add .ensures h tt)) (c .before .before .before .before .before .before .before .before .before .before .before .before .before .before .added .given .1) λ p. c .before .before .before .before .before .before .before .before .again .ensures held (p .holds) (p .inside, older p l)
+returns-2 t c = λ held h l. inverse-node _ _ _ _ _ l (rw (c .before .before .before .before .before .before .before .one .ensures) at (c .before .before .before .before .before .before .add .ensures h tt)) (c .before .before .before .before .if1 .left) λ p. c .before .again .ensures held (p .sound) (p .inside, older p l)
 
 pub part : {M : Type 1} (t : ℕ) → lts.Closed (claims t) (inverse-at t) inverse.Post M
 part t =
     lts.spec (claims t) (inverse-at t) inverse.Post
-    (one-requires t) (add-requires t) (enum-known-added t) (enum-told t) (same-length t) (same-length-2 t)
-    (same-length-3 t) (same-length-4 t) (returns t) (again-requires t) (same-length-5 t) (same-length-6 t)
-    (same-length-7 t) (same-length-8 t) (returns-2 t)
+    (one-requires t) (add-requires t) (same-length t) (returns t) (again-requires t) (same-length-2 t)
+    (returns-2 t)

@@ -43,94 +43,56 @@ enum-known-task-2 : (t : ℕ) → lts.Need-enum-known-task-2 (claims t) (perform
 enum-known-task-2 t c = search needs
 
 simplify-function-call-requires : (t : ℕ) → lts.Need-simplify-function-call-requires (claims t) (perform-at t) perform.Post
-simplify-function-call-requires t c κs = (falls-to (c .before .before .before .before .before .before .before .before .before .before .before .before .before .before .args .limit .0) _ 6 (c .before .before .before .before .before .before .before .before .before .before .before .before .before .before .pre .0) (λ z. rw (c .before .before .before .before .before .task2 .given .1) at (c .before .before .before .before .before .before .before .before .task-at .ensures .rests z)) (c .before .before .before .before .before .before .before .lowered .ensures) (lit< tt), tt)
+simplify-function-call-requires t c κs = (falls-to (c .before .before .before .before .before .before .before .before .args .limit .0) _ 6 (c .before .before .before .before .before .before .before .before .pre .0) (λ z. rw (c .before .before .before .task2 .given .1) at (c .before .before .before .before .before .before .task-at .ensures .rests z)) (c .before .before .before .before .before .lowered .ensures) (lit< tt), tt)
 
 enum-known-task-3 : (t : ℕ) → lts.Need-enum-known-task-3 (claims t) (perform-at t) perform.Post
 enum-known-task-3 t c = search needs
 
 simplify-infix-requires : (t : ℕ) → lts.Need-simplify-infix-requires (claims t) (perform-at t) perform.Post
-simplify-infix-requires t c κs = (falls-to (c .before .before .before .before .before .before .before .before .before .before .before .before .before .before .args .limit .0) _ 6 (c .before .before .before .before .before .before .before .before .before .before .before .before .before .before .pre .0) (λ z. rw (c .before .before .before .before .before .task3 .given .1) at (c .before .before .before .before .before .before .before .before .task-at .ensures .rests z)) (c .before .before .before .before .before .before .before .lowered .ensures) (lit< tt), tt)
+simplify-infix-requires t c κs = (falls-to (c .before .before .before .before .before .before .before .before .args .limit .0) _ 6 (c .before .before .before .before .before .before .before .before .pre .0) (λ z. rw (c .before .before .before .task3 .given .1) at (c .before .before .before .before .before .before .task-at .ensures .rests z)) (c .before .before .before .before .before .lowered .ensures) (lit< tt), tt)
 
 enum-known-task-4 : (t : ℕ) → lts.Need-enum-known-task-4 (claims t) (perform-at t) perform.Post
 enum-known-task-4 t c = search needs
 
 simplify-prefix-requires : (t : ℕ) → lts.Need-simplify-prefix-requires (claims t) (perform-at t) perform.Post
-simplify-prefix-requires t c κs = (falls-to (c .before .before .before .before .before .before .before .before .before .before .before .before .before .before .args .limit .0) _ 6 (c .before .before .before .before .before .before .before .before .before .before .before .before .before .before .pre .0) (λ z. rw (c .before .before .before .before .before .task4 .given .1) at (c .before .before .before .before .before .before .before .before .task-at .ensures .rests z)) (c .before .before .before .before .before .before .before .lowered .ensures) (lit< tt), tt)
+simplify-prefix-requires t c κs = (falls-to (c .before .before .before .before .before .before .before .before .args .limit .0) _ 6 (c .before .before .before .before .before .before .before .before .pre .0) (λ z. rw (c .before .before .before .task4 .given .1) at (c .before .before .before .before .before .before .task-at .ensures .rests z)) (c .before .before .before .before .before .lowered .ensures) (lit< tt), tt)
 
 same-length : (t : ℕ) → lts.Need-same-length (claims t) (perform-at t) perform.Post
-same-length t c = c .before .before .before .before .before .before .before .before .add .kept .0
-
-same-length-2 : (t : ℕ) → lts.Need-same-length-2 (claims t) (perform-at t) perform.Post
-same-length-2 t c = c .before .before .before .before .before .before .before .before .add .kept .1 .0
-
-same-length-3 : (t : ℕ) → lts.Need-same-length-3 (claims t) (perform-at t) perform.Post
-same-length-3 t c = c .before .before .before .before .before .before .before .before .add .kept .1 .1 .0
-
-same-length-4 : (t : ℕ) → lts.Need-same-length-4 (claims t) (perform-at t) perform.Post
-same-length-4 t c = c .before .before .before .before .before .before .before .before .add .kept .1 .1 .1 .0
+same-length t c = search needs
 
 returns : (t : ℕ) → lts.Need-returns (claims t) (perform-at t) perform.Post
 unfolding perform grown
-returns t c = λ held h x. performed _ _ _ _ (rw (c .before .before .before .before .before .before .before .before .before .before .before .before .before .before .enum-told .given .1) at (c .before .before .before .before .before .before .before .before .before .before .before .before .before .before .before .before .before .task-at .ensures)) x λ w. rw (c .before .before .before .before .before .before .before .before .before .pi .ensures) at (c .before .before .before .before .before .before .before .before .add .ensures h tt)
+returns t c = λ held h x. performed _ _ _ _ (rw (c .before .before .before .before .before .enum-told .given .1) at (c .before .before .before .before .before .before .before .before .task-at .ensures)) x λ w. rw (c .before .before .pi .ensures) at (c .before .add .ensures h tt)
 
 returns-2 : (t : ℕ) → lts.Need-returns-2 (claims t) (perform-at t) perform.Post
 unfolding perform
 returns-2 t c = λ held h x. performed _ _ _ _ (rw (c .before .task .given .1) at (c .before .before .before .before .task-at .ensures)) x λ w. stays h w refl
 
-same-length-5 : (t : ℕ) → lts.Need-same-length-5 (claims t) (perform-at t) perform.Post
-same-length-5 t c = c .before .before .before .before .before .before .before .before .simplify-function-call .kept .1 .0
-
-same-length-6 : (t : ℕ) → lts.Need-same-length-6 (claims t) (perform-at t) perform.Post
-same-length-6 t c = c .before .before .before .before .before .before .before .before .simplify-function-call .kept .1 .1 .0
-
-same-length-7 : (t : ℕ) → lts.Need-same-length-7 (claims t) (perform-at t) perform.Post
-same-length-7 t c = c .before .before .before .before .before .before .before .before .simplify-function-call .kept .1 .1 .1 .0
-
-same-length-8 : (t : ℕ) → lts.Need-same-length-8 (claims t) (perform-at t) perform.Post
-same-length-8 t c = c .before .before .before .before .before .before .before .before .simplify-function-call .kept .1 .1 .1 .1 .0
+same-length-2 : (t : ℕ) → lts.Need-same-length-2 (claims t) (perform-at t) perform.Post
+same-length-2 t c = search needs
 
 returns-3 : (t : ℕ) → lts.Need-returns-3 (claims t) (perform-at t) perform.Post
 unfolding perform
-returns-3 t c = λ held h x. performed _ _ _ _ (rw (c .before .before .before .before .before .before .before .before .before .before .before .before .before .before .task2 .given .1) at (c .before .before .before .before .before .before .before .before .before .before .before .before .before .before .before .before .before .task-at .ensures)) x λ w. rw (c .before .before .before .before .before .before .before .before .before .before .before .before .before .before .before .before .lowered .ensures) at (c .before .before .before .before .before .before .before .before .simplify-function-call .ensures held h w)
+returns-3 t c = λ held h x. performed _ _ _ _ (rw (c .before .before .before .before .before .task2 .given .1) at (c .before .before .before .before .before .before .before .before .task-at .ensures)) x λ w. rw (c .before .before .before .before .before .before .before .lowered .ensures) at (c .before .simplify-function-call .ensures held h w)
 
-same-length-9 : (t : ℕ) → lts.Need-same-length-9 (claims t) (perform-at t) perform.Post
-same-length-9 t c = c .before .before .before .before .before .before .before .before .simplify-infix .kept .1 .0
-
-same-length-10 : (t : ℕ) → lts.Need-same-length-10 (claims t) (perform-at t) perform.Post
-same-length-10 t c = c .before .before .before .before .before .before .before .before .simplify-infix .kept .1 .1 .0
-
-same-length-11 : (t : ℕ) → lts.Need-same-length-11 (claims t) (perform-at t) perform.Post
-same-length-11 t c = c .before .before .before .before .before .before .before .before .simplify-infix .kept .1 .1 .1 .0
-
-same-length-12 : (t : ℕ) → lts.Need-same-length-12 (claims t) (perform-at t) perform.Post
-same-length-12 t c = c .before .before .before .before .before .before .before .before .simplify-infix .kept .1 .1 .1 .1 .0
+same-length-3 : (t : ℕ) → lts.Need-same-length-3 (claims t) (perform-at t) perform.Post
+same-length-3 t c = search needs
 
 returns-4 : (t : ℕ) → lts.Need-returns-4 (claims t) (perform-at t) perform.Post
 unfolding perform
-returns-4 t c = λ held h x. performed _ _ _ _ (rw (c .before .before .before .before .before .before .before .before .before .before .before .before .before .before .task3 .given .1) at (c .before .before .before .before .before .before .before .before .before .before .before .before .before .before .before .before .before .task-at .ensures)) x λ w. rw (c .before .before .before .before .before .before .before .before .before .before .before .before .before .before .before .before .lowered .ensures) at (c .before .before .before .before .before .before .before .before .simplify-infix .ensures held h w)
+returns-4 t c = λ held h x. performed _ _ _ _ (rw (c .before .before .before .before .before .task3 .given .1) at (c .before .before .before .before .before .before .before .before .task-at .ensures)) x λ w. rw (c .before .before .before .before .before .before .before .lowered .ensures) at (c .before .simplify-infix .ensures held h w)
 
-same-length-13 : (t : ℕ) → lts.Need-same-length-13 (claims t) (perform-at t) perform.Post
-same-length-13 t c = c .before .before .before .before .before .before .before .before .simplify-prefix .kept .1 .0
-
-same-length-14 : (t : ℕ) → lts.Need-same-length-14 (claims t) (perform-at t) perform.Post
-same-length-14 t c = c .before .before .before .before .before .before .before .before .simplify-prefix .kept .1 .1 .0
-
-same-length-15 : (t : ℕ) → lts.Need-same-length-15 (claims t) (perform-at t) perform.Post
-same-length-15 t c = c .before .before .before .before .before .before .before .before .simplify-prefix .kept .1 .1 .1 .0
-
-same-length-16 : (t : ℕ) → lts.Need-same-length-16 (claims t) (perform-at t) perform.Post
-same-length-16 t c = c .before .before .before .before .before .before .before .before .simplify-prefix .kept .1 .1 .1 .1 .0
+same-length-4 : (t : ℕ) → lts.Need-same-length-4 (claims t) (perform-at t) perform.Post
+same-length-4 t c = search needs
 
 returns-5 : (t : ℕ) → lts.Need-returns-5 (claims t) (perform-at t) perform.Post
 unfolding perform
-returns-5 t c = λ held h x. performed _ _ _ _ (rw (c .before .before .before .before .before .before .before .before .before .before .before .before .before .before .task4 .given .1) at (c .before .before .before .before .before .before .before .before .before .before .before .before .before .before .before .before .before .task-at .ensures)) x λ w. rw (c .before .before .before .before .before .before .before .before .before .before .before .before .before .before .before .before .lowered .ensures) at (c .before .before .before .before .before .before .before .before .simplify-prefix .ensures held h w)
+returns-5 t c = λ held h x. performed _ _ _ _ (rw (c .before .before .before .before .before .task4 .given .1) at (c .before .before .before .before .before .before .before .before .task-at .ensures)) x λ w. rw (c .before .before .before .before .before .before .before .lowered .ensures) at (c .before .simplify-prefix .ensures held h w)
 
 pub part : {M : Type 1} (t : ℕ) → lts.Closed (claims t) (perform-at t) perform.Post M
 part t =
     lts.spec (claims t) (perform-at t) perform.Post
     (task-at-requires t) (lowered-requires t) (enum-told t) (pi-requires t) (add-requires t) (enum-known-task t)
     (enum-known-task-2 t) (simplify-function-call-requires t) (enum-known-task-3 t) (simplify-infix-requires t) (enum-known-task-4 t) (simplify-prefix-requires t)
-    (same-length t) (same-length-2 t) (same-length-3 t) (same-length-4 t) (returns t) (returns-2 t)
-    (same-length-5 t) (same-length-6 t) (same-length-7 t) (same-length-8 t) (returns-3 t) (same-length-9 t)
-    (same-length-10 t) (same-length-11 t) (same-length-12 t) (returns-4 t) (same-length-13 t) (same-length-14 t)
-    (same-length-15 t) (same-length-16 t) (returns-5 t)
+    (same-length t) (returns t) (returns-2 t) (same-length-2 t) (returns-3 t) (same-length-3 t)
+    (returns-4 t) (same-length-4 t) (returns-5 t)

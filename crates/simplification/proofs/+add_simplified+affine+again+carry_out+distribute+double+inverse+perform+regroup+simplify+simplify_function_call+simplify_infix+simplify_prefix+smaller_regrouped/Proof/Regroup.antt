@@ -14,53 +14,28 @@ abbrev claims : ℕ → lts.Claims
 claims t = (again-below t, again.Post, applied-reads.Asked, applied-reads.Learnt)
 
 again-requires : (t : ℕ) → lts.Need-again-requires (claims t) (regroup-at t) regroup.Post
-again-requires t c κs = (down (c .before .before .before .before .before .before .before .before .before .args .limit .0) 2 3 (c .before .before .before .before .before .before .before .before .before .pre .0) (lit< tt), tt)
-
-enum-known-it : (t : ℕ) → lts.Need-enum-known-it (claims t) (regroup-at t) regroup.Post
-enum-known-it t c = search needs
-
-enum-told : (t : ℕ) → lts.Need-enum-told (claims t) (regroup-at t) regroup.Post
-enum-told t c = search needs
+again-requires t c κs = (down (c .before .before .before .args .limit .0) 2 3 (c .before .before .before .pre .0) (lit< tt), tt)
 
 same-length : (t : ℕ) → lts.Need-same-length (claims t) (regroup-at t) regroup.Post
-same-length t c = c .before .before .before .before .before .before .before .before .before .before .again .kept .1 .0
-
-same-length-2 : (t : ℕ) → lts.Need-same-length-2 (claims t) (regroup-at t) regroup.Post
-same-length-2 t c = c .before .before .before .before .before .before .before .before .before .before .again .kept .1 .1 .0
-
-same-length-3 : (t : ℕ) → lts.Need-same-length-3 (claims t) (regroup-at t) regroup.Post
-same-length-3 t c = c .before .before .before .before .before .before .before .before .before .before .again .kept .1 .1 .1 .0
-
-same-length-4 : (t : ℕ) → lts.Need-same-length-4 (claims t) (regroup-at t) regroup.Post
-same-length-4 t c = c .before .before .before .before .before .before .before .before .before .before .again .kept .1 .1 .1 .1 .0
+same-length t c = search needs
 
 returns : (t : ℕ) → lts.Need-returns (claims t) (regroup-at t) regroup.Post
-returns t c = λ held h w. regroup-refused _ _ _ (c .before .before .before .before .before .before .before .before .before .before .before .before .before .before .before .before .before .before .before .before .args .inner) (c .before .before .before .before .before .before .before .before .before .before .before .before .before .before .before .before .before .before .before .before .args .outer) _ (c .before .before .before .before .before .before .before .before .before .before .again .ensures held h (w .0)) (c .enum-told .given .1)
+returns t c = λ held h w. regroup-refused _ _ _ (c .before .before .before .before .before .before .args .inner) (c .before .before .before .before .before .before .args .outer) _ (c .before .before .again .ensures held h (w .0)) (c .if1 .taken)
 
 applied-requires : (t : ℕ) → lts.Need-applied-requires (claims t) (regroup-at t) regroup.Post
 applied-requires t c κs = tt
 
 again-requires-2 : (t : ℕ) → lts.Need-again-requires-2 (claims t) (regroup-at t) regroup.Post
-again-requires-2 t c κs = (down (c .before .before .before .before .before .before .before .before .before .before .before .before .before .before .before .before .before .before .before .before .before .before .before .before .before .before .args .limit .0) 2 3 (c .before .before .before .before .before .before .before .before .before .before .before .before .before .before .before .before .before .before .before .before .before .before .before .before .before .before .pre .0) (lit< tt), tt)
+again-requires-2 t c κs = (down (c .before .before .before .before .before .before .before .before .before .args .limit .0) 2 3 (c .before .before .before .before .before .before .before .before .before .pre .0) (lit< tt), tt)
 
-same-length-5 : (t : ℕ) → lts.Need-same-length-5 (claims t) (regroup-at t) regroup.Post
-same-length-5 t c = c .before .before .before .before .before .before .before .before .again2 .kept .1 .0 ∙ c .before .before .before .before .before .before .before .before .before .before .before .before .before .before .before .before .before .before .before .before .before .before .before .before .before .again .kept .1 .0
-
-same-length-6 : (t : ℕ) → lts.Need-same-length-6 (claims t) (regroup-at t) regroup.Post
-same-length-6 t c = c .before .before .before .before .before .before .before .before .again2 .kept .1 .1 .0 ∙ c .before .before .before .before .before .before .before .before .before .before .before .before .before .before .before .before .before .before .before .before .before .before .before .before .before .again .kept .1 .1 .0
-
-same-length-7 : (t : ℕ) → lts.Need-same-length-7 (claims t) (regroup-at t) regroup.Post
-same-length-7 t c = c .before .before .before .before .before .before .before .before .again2 .kept .1 .1 .1 .0 ∙ c .before .before .before .before .before .before .before .before .before .before .before .before .before .before .before .before .before .before .before .before .before .before .before .before .before .again .kept .1 .1 .1 .0
-
-same-length-8 : (t : ℕ) → lts.Need-same-length-8 (claims t) (regroup-at t) regroup.Post
-same-length-8 t c = c .before .before .before .before .before .before .before .before .again2 .kept .1 .1 .1 .1 .0 ∙ c .before .before .before .before .before .before .before .before .before .before .before .before .before .before .before .before .before .before .before .before .before .before .before .before .before .again .kept .1 .1 .1 .1 .0
+same-length-2 : (t : ℕ) → lts.Need-same-length-2 (claims t) (regroup-at t) regroup.Post
+same-length-2 t c = search needs
 
 returns-2 : (t : ℕ) → lts.Need-returns-2 (claims t) (regroup-at t) regroup.Post
-returns-2 t c = λ held h w. regroup-node _ _ _ (c .before .before .before .before .before .before .before .before .before .before .before .before .before .before .before .before .before .before .before .before .before .before .before .before .before .before .before .before .before .before .before .before .before .before .before .args .inner) (c .before .before .before .before .before .before .before .before .before .before .before .before .before .before .before .before .before .before .before .before .before .before .before .before .before .before .before .before .before .before .before .before .before .before .before .args .outer) _ (w .1) (c .before .before .before .before .before .before .before .before .before .applied .ensures) (c .before .before .before .before .before .before .before .before .before .before .before .before .before .before .before .before .before .before .before .before .before .before .before .before .before .again .ensures held h (w .0)) (c .before .before .before .before .before .before .before .before .before .before .before .before .before .before .before .it .given .1) λ p v. c .before .before .before .before .before .before .before .before .again2 .ensures held (p .holds) v
+returns-2 t c = λ held h w. regroup-node _ _ _ (c .before .before .before .before .before .before .before .before .before .before .before .args .inner) (c .before .before .before .before .before .before .before .before .before .before .before .args .outer) _ (w .1) (c .before .before .applied .ensures) (c .before .before .before .before .before .before .before .again .ensures held h (w .0)) (c .before .before .before .before .before .if1 .left) λ p v. c .before .again2 .ensures held (p .sound) v
 
 pub part : {M : Type 1} (t : ℕ) → lts.Closed (claims t) (regroup-at t) regroup.Post M
 part t =
     lts.spec (claims t) (regroup-at t) regroup.Post
-    (again-requires t) (enum-known-it t) (enum-told t) (same-length t) (same-length-2 t) (same-length-3 t)
-    (same-length-4 t) (returns t) (applied-requires t) (again-requires-2 t) (same-length-5 t) (same-length-6 t)
-    (same-length-7 t) (same-length-8 t) (returns-2 t)
+    (again-requires t) (same-length t) (returns t) (applied-requires t) (again-requires-2 t) (same-length-2 t)
+    (returns-2 t)

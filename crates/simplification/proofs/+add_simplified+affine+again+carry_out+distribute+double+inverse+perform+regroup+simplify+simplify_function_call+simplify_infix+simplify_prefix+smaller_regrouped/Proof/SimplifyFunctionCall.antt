@@ -18,29 +18,14 @@ abbrev claims : ℕ → lts.Claims
 claims t = (simplify-below t, simplify.Post, choose-function-reads.Asked, choose-function-reads.Learnt, lowered-reads.Asked, lowered-reads.Learnt, carry-out-below t, carry-out.Post)
 
 simplify-requires : (t : ℕ) → lts.Need-simplify-requires (claims t) (simplify-function-call-at t) simplify-function-call.Post
-simplify-requires t c κs = (down (c .before .before .before .before .before .before .before .before .before .args .limit .0) 1 6 (c .before .before .before .before .before .before .before .before .before .pre .0) (lit< tt), tt)
-
-enum-known-argument : (t : ℕ) → lts.Need-enum-known-argument (claims t) (simplify-function-call-at t) simplify-function-call.Post
-enum-known-argument t c = search needs
-
-enum-told : (t : ℕ) → lts.Need-enum-told (claims t) (simplify-function-call-at t) simplify-function-call.Post
-enum-told t c = search needs
+simplify-requires t c κs = (down (c .before .before .before .args .limit .0) 1 6 (c .before .before .before .pre .0) (lit< tt), tt)
 
 same-length : (t : ℕ) → lts.Need-same-length (claims t) (simplify-function-call-at t) simplify-function-call.Post
-same-length t c = c .before .before .before .before .before .before .before .before .before .before .simplify .kept .1 .0
-
-same-length-2 : (t : ℕ) → lts.Need-same-length-2 (claims t) (simplify-function-call-at t) simplify-function-call.Post
-same-length-2 t c = c .before .before .before .before .before .before .before .before .before .before .simplify .kept .1 .1 .0
-
-same-length-3 : (t : ℕ) → lts.Need-same-length-3 (claims t) (simplify-function-call-at t) simplify-function-call.Post
-same-length-3 t c = c .before .before .before .before .before .before .before .before .before .before .simplify .kept .1 .1 .1 .0
-
-same-length-4 : (t : ℕ) → lts.Need-same-length-4 (claims t) (simplify-function-call-at t) simplify-function-call.Post
-same-length-4 t c = c .before .before .before .before .before .before .before .before .before .before .simplify .kept .1 .1 .1 .1 .0
+same-length t c = search needs
 
 returns : (t : ℕ) → lts.Need-returns (claims t) (simplify-function-call-at t) simplify-function-call.Post
 unfolding simplifyFunctionCall
-returns t c = λ held h l. then-refused _ (c .before .before .before .before .before .before .before .before .before .before .simplify .ensures held h l) (c .enum-told .given .1)
+returns t c = λ held h l. then-refused _ (c .before .before .simplify .ensures held h l) (c .if1 .taken)
 
 choose-function-requires : (t : ℕ) → lts.Need-choose-function-requires (claims t) (simplify-function-call-at t) simplify-function-call.Post
 choose-function-requires t c κs = tt
@@ -49,27 +34,17 @@ lowered-requires : (t : ℕ) → lts.Need-lowered-requires (claims t) (simplify-
 lowered-requires t c κs = tt
 
 carry-out-requires : (t : ℕ) → lts.Need-carry-out-requires (claims t) (simplify-function-call-at t) simplify-function-call.Post
-carry-out-requires t c κs = (lowered (c .before .before .before .before .before .before .before .before .before .before .before .before .before .before .before .before .before .before .before .before .before .before .before .before .before .before .before .before .before .before .args .limit .0) _ 5 6 (c .before .before .before .before .before .before .before .before .before .before .before .before .before .before .before .before .before .before .before .before .before .before .before .before .before .before .before .before .before .before .pre .0) (c .before .before .before .before .lowered .ensures) (lit< tt), tt)
+carry-out-requires t c κs = (lowered (c .before .before .before .before .before .before .before .before .before .before .before .args .limit .0) _ 5 6 (c .before .before .before .before .before .before .before .before .before .before .before .pre .0) (c .before .before .lowered .ensures) (lit< tt), tt)
 
-same-length-5 : (t : ℕ) → lts.Need-same-length-5 (claims t) (simplify-function-call-at t) simplify-function-call.Post
-same-length-5 t c = c .before .before .before .before .before .before .before .before .carry-out .kept .1 .0 ∙ c .before .before .before .before .before .before .before .before .before .before .before .before .before .before .before .before .before .before .before .before .before .before .before .before .before .before .before .before .before .simplify .kept .1 .0
-
-same-length-6 : (t : ℕ) → lts.Need-same-length-6 (claims t) (simplify-function-call-at t) simplify-function-call.Post
-same-length-6 t c = c .before .before .before .before .before .before .before .before .carry-out .kept .1 .1 .0 ∙ c .before .before .before .before .before .before .before .before .before .before .before .before .before .before .before .before .before .before .before .before .before .before .before .before .before .before .before .before .before .simplify .kept .1 .1 .0
-
-same-length-7 : (t : ℕ) → lts.Need-same-length-7 (claims t) (simplify-function-call-at t) simplify-function-call.Post
-same-length-7 t c = c .before .before .before .before .before .before .before .before .carry-out .kept .1 .1 .1 .0 ∙ c .before .before .before .before .before .before .before .before .before .before .before .before .before .before .before .before .before .before .before .before .before .before .before .before .before .before .before .before .before .simplify .kept .1 .1 .1 .0
-
-same-length-8 : (t : ℕ) → lts.Need-same-length-8 (claims t) (simplify-function-call-at t) simplify-function-call.Post
-same-length-8 t c = c .before .before .before .before .before .before .before .before .carry-out .kept .1 .1 .1 .1 .0 ∙ c .before .before .before .before .before .before .before .before .before .before .before .before .before .before .before .before .before .before .before .before .before .before .before .before .before .before .before .before .before .simplify .kept .1 .1 .1 .1 .0
+same-length-2 : (t : ℕ) → lts.Need-same-length-2 (claims t) (simplify-function-call-at t) simplify-function-call.Post
+same-length-2 t c = search needs
 
 returns-2 : (t : ℕ) → lts.Need-returns-2 (claims t) (simplify-function-call-at t) simplify-function-call.Post
 unfolding simplifyFunctionCall
-returns-2 t c = λ held h l. then-node _ (c .before .before .before .before .before .before .before .before .before .before .before .before .before .before .before .before .before .before .before .before .before .before .before .before .before .before .before .before .before .simplify .ensures held h l) (c .before .before .before .before .before .before .before .before .before .before .before .before .before .before .before .before .before .before .before .argument .given .1) λ p. carried _ _ (c .before .before .before .before .before .before .before .before .before .before .before .before .before .lowered .ensures) (c .before .before .before .before .before .before .before .before .before .before .before .before .before .before .choose-function .ensures _ _ (p .holds) (p .inside)) (c .before .before .before .before .before .before .before .before .carry-out .ensures held (p .holds))
+returns-2 t c = λ held h l. then-node _ (c .before .before .before .before .before .before .before .before .before .simplify .ensures held h l) (c .before .before .before .before .before .before .before .if1 .left) λ p. carried _ _ (c .before .before .before .before .lowered .ensures) (c .before .before .before .before .before .choose-function .ensures _ (p .sound .holds) (p .inside)) (c .before .carry-out .ensures held (p .sound))
 
 pub part : {M : Type 1} (t : ℕ) → lts.Closed (claims t) (simplify-function-call-at t) simplify-function-call.Post M
 part t =
     lts.spec (claims t) (simplify-function-call-at t) simplify-function-call.Post
-    (simplify-requires t) (enum-known-argument t) (enum-told t) (same-length t) (same-length-2 t) (same-length-3 t)
-    (same-length-4 t) (returns t) (choose-function-requires t) (lowered-requires t) (carry-out-requires t) (same-length-5 t)
-    (same-length-6 t) (same-length-7 t) (same-length-8 t) (returns-2 t)
+    (simplify-requires t) (same-length t) (returns t) (choose-function-requires t) (lowered-requires t) (carry-out-requires t)
+    (same-length-2 t) (returns-2 t)

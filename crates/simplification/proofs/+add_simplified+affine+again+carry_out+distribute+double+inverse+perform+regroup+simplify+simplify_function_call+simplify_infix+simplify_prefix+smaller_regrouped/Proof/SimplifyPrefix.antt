@@ -18,29 +18,14 @@ abbrev claims : ℕ → lts.Claims
 claims t = (simplify-below t, simplify.Post, choose-prefix-reads.Asked, choose-prefix-reads.Learnt, lowered-reads.Asked, lowered-reads.Learnt, carry-out-below t, carry-out.Post)
 
 simplify-requires : (t : ℕ) → lts.Need-simplify-requires (claims t) (simplify-prefix-at t) simplify-prefix.Post
-simplify-requires t c κs = (down (c .before .before .before .before .before .before .before .before .before .args .limit .0) 1 6 (c .before .before .before .before .before .before .before .before .before .pre .0) (lit< tt), tt)
-
-enum-known-operand : (t : ℕ) → lts.Need-enum-known-operand (claims t) (simplify-prefix-at t) simplify-prefix.Post
-enum-known-operand t c = search needs
-
-enum-told : (t : ℕ) → lts.Need-enum-told (claims t) (simplify-prefix-at t) simplify-prefix.Post
-enum-told t c = search needs
+simplify-requires t c κs = (down (c .before .before .before .args .limit .0) 1 6 (c .before .before .before .pre .0) (lit< tt), tt)
 
 same-length : (t : ℕ) → lts.Need-same-length (claims t) (simplify-prefix-at t) simplify-prefix.Post
-same-length t c = c .before .before .before .before .before .before .before .before .before .before .simplify .kept .1 .0
-
-same-length-2 : (t : ℕ) → lts.Need-same-length-2 (claims t) (simplify-prefix-at t) simplify-prefix.Post
-same-length-2 t c = c .before .before .before .before .before .before .before .before .before .before .simplify .kept .1 .1 .0
-
-same-length-3 : (t : ℕ) → lts.Need-same-length-3 (claims t) (simplify-prefix-at t) simplify-prefix.Post
-same-length-3 t c = c .before .before .before .before .before .before .before .before .before .before .simplify .kept .1 .1 .1 .0
-
-same-length-4 : (t : ℕ) → lts.Need-same-length-4 (claims t) (simplify-prefix-at t) simplify-prefix.Post
-same-length-4 t c = c .before .before .before .before .before .before .before .before .before .before .simplify .kept .1 .1 .1 .1 .0
+same-length t c = search needs
 
 returns : (t : ℕ) → lts.Need-returns (claims t) (simplify-prefix-at t) simplify-prefix.Post
 unfolding simplifyPrefix
-returns t c = λ held h l. then-refused _ (c .before .before .before .before .before .before .before .before .before .before .simplify .ensures held h l) (c .enum-told .given .1)
+returns t c = λ held h l. then-refused _ (c .before .before .simplify .ensures held h l) (c .if1 .taken)
 
 choose-prefix-requires : (t : ℕ) → lts.Need-choose-prefix-requires (claims t) (simplify-prefix-at t) simplify-prefix.Post
 choose-prefix-requires t c κs = tt
@@ -49,27 +34,17 @@ lowered-requires : (t : ℕ) → lts.Need-lowered-requires (claims t) (simplify-
 lowered-requires t c κs = tt
 
 carry-out-requires : (t : ℕ) → lts.Need-carry-out-requires (claims t) (simplify-prefix-at t) simplify-prefix.Post
-carry-out-requires t c κs = (lowered (c .before .before .before .before .before .before .before .before .before .before .before .before .before .before .before .before .before .before .before .before .before .before .before .before .before .before .before .before .before .before .args .limit .0) _ 5 6 (c .before .before .before .before .before .before .before .before .before .before .before .before .before .before .before .before .before .before .before .before .before .before .before .before .before .before .before .before .before .before .pre .0) (c .before .before .before .before .lowered .ensures) (lit< tt), tt)
+carry-out-requires t c κs = (lowered (c .before .before .before .before .before .before .before .before .before .before .before .args .limit .0) _ 5 6 (c .before .before .before .before .before .before .before .before .before .before .before .pre .0) (c .before .before .lowered .ensures) (lit< tt), tt)
 
-same-length-5 : (t : ℕ) → lts.Need-same-length-5 (claims t) (simplify-prefix-at t) simplify-prefix.Post
-same-length-5 t c = c .before .before .before .before .before .before .before .before .carry-out .kept .1 .0 ∙ c .before .before .before .before .before .before .before .before .before .before .before .before .before .before .before .before .before .before .before .before .before .before .before .before .before .before .before .before .before .simplify .kept .1 .0
-
-same-length-6 : (t : ℕ) → lts.Need-same-length-6 (claims t) (simplify-prefix-at t) simplify-prefix.Post
-same-length-6 t c = c .before .before .before .before .before .before .before .before .carry-out .kept .1 .1 .0 ∙ c .before .before .before .before .before .before .before .before .before .before .before .before .before .before .before .before .before .before .before .before .before .before .before .before .before .before .before .before .before .simplify .kept .1 .1 .0
-
-same-length-7 : (t : ℕ) → lts.Need-same-length-7 (claims t) (simplify-prefix-at t) simplify-prefix.Post
-same-length-7 t c = c .before .before .before .before .before .before .before .before .carry-out .kept .1 .1 .1 .0 ∙ c .before .before .before .before .before .before .before .before .before .before .before .before .before .before .before .before .before .before .before .before .before .before .before .before .before .before .before .before .before .simplify .kept .1 .1 .1 .0
-
-same-length-8 : (t : ℕ) → lts.Need-same-length-8 (claims t) (simplify-prefix-at t) simplify-prefix.Post
-same-length-8 t c = c .before .before .before .before .before .before .before .before .carry-out .kept .1 .1 .1 .1 .0 ∙ c .before .before .before .before .before .before .before .before .before .before .before .before .before .before .before .before .before .before .before .before .before .before .before .before .before .before .before .before .before .simplify .kept .1 .1 .1 .1 .0
+same-length-2 : (t : ℕ) → lts.Need-same-length-2 (claims t) (simplify-prefix-at t) simplify-prefix.Post
+same-length-2 t c = search needs
 
 returns-2 : (t : ℕ) → lts.Need-returns-2 (claims t) (simplify-prefix-at t) simplify-prefix.Post
 unfolding simplifyPrefix
-returns-2 t c = λ held h l. then-node _ (c .before .before .before .before .before .before .before .before .before .before .before .before .before .before .before .before .before .before .before .before .before .before .before .before .before .before .before .before .before .simplify .ensures held h l) (c .before .before .before .before .before .before .before .before .before .before .before .before .before .before .before .before .before .before .before .operand .given .1) λ p. carried _ _ (c .before .before .before .before .before .before .before .before .before .before .before .before .before .lowered .ensures) (c .before .before .before .before .before .before .before .before .before .before .before .before .before .before .choose-prefix .ensures _ _ (p .holds) (p .inside)) (c .before .before .before .before .before .before .before .before .carry-out .ensures held (p .holds))
+returns-2 t c = λ held h l. then-node _ (c .before .before .before .before .before .before .before .before .before .simplify .ensures held h l) (c .before .before .before .before .before .before .before .if1 .left) λ p. carried _ _ (c .before .before .before .before .lowered .ensures) (c .before .before .before .before .before .choose-prefix .ensures _ (p .sound .holds) (p .inside)) (c .before .carry-out .ensures held (p .sound))
 
 pub part : {M : Type 1} (t : ℕ) → lts.Closed (claims t) (simplify-prefix-at t) simplify-prefix.Post M
 part t =
     lts.spec (claims t) (simplify-prefix-at t) simplify-prefix.Post
-    (simplify-requires t) (enum-known-operand t) (enum-told t) (same-length t) (same-length-2 t) (same-length-3 t)
-    (same-length-4 t) (returns t) (choose-prefix-requires t) (lowered-requires t) (carry-out-requires t) (same-length-5 t)
-    (same-length-6 t) (same-length-7 t) (same-length-8 t) (returns-2 t)
+    (simplify-requires t) (same-length t) (returns t) (choose-prefix-requires t) (lowered-requires t) (carry-out-requires t)
+    (same-length-2 t) (returns-2 t)

@@ -10,7 +10,7 @@ meet-spec =
     (tie.spec
     (λ c κs. search needs)
     (λ c κs. search needs)
-    (λ c. λ k. meets-code _ _ _ _ k _ _ (c .before .before .code-in .ensures) (c .before .before .before .read .ensures) (c .if1 .taken))
+    (λ c. λ k. meets-code _ _ _ _ k _ _ (c .before .before .code-in .ensures) (c .before .before .before .tag-at .ensures) (c .if1 .taken))
     (λ c κs. search needs)
     (λ c κs. search needs)
     (λ c. λ k. meets-own _ _ _ _ k (c .before .before .fields-at .ensures) (c .if2 .taken) (c .before .same .ensures))

@@ -12,4 +12,4 @@ class-at-spec =
     (tie.spec
     (λ c κs. search needs)
     (λ c κs. search needs)
-    (λ c. rw (c .class-in .ensures, c .before .read .ensures) refl))
+    (λ c. rw (c .class-in .ensures, c .before .link-at .ensures) refl))

@@ -1,4 +1,4 @@
--- `fields_at` meets its contract: a field of each slice. Assumes nothing.
+-- `fields_at` meets its contract: a word each. Assumes nothing.
 use mathlib.Core.Path.{refl}
 use borrow.Author.Needs.{needs}
 use Rattle.store.specs.Memory.{fieldsOn}
@@ -14,4 +14,4 @@ fields-at-spec =
     (λ c κs. search needs)
     (λ c κs. search needs)
     (λ c κs. search needs)
-    (λ c. rw (c .before .before .code-in .ensures, c .before .before .before .read .ensures, c .before .read2 .ensures, c .read3 .ensures) refl))
+    (λ c. rw (c .before .before .code-in .ensures, c .before .before .before .tag-at .ensures, c .before .first-at .ensures, c .second-at .ensures) refl))

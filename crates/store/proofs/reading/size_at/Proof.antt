@@ -12,4 +12,4 @@ size-at-spec =
     (tie.spec
     (λ c κs. search needs)
     (λ c κs. search needs)
-    (λ c. rw (c .size-in .ensures, c .before .read .ensures) refl))
+    (λ c. rw (c .size-in .ensures, c .before .tag-at .ensures) refl))

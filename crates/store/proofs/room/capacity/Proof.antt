@@ -1,17 +1,9 @@
--- `capacity` meets its contract: by the least of two at a time. Assumes nothing.
-use mathlib.Core.Path.{refl}
+-- `capacity` meets its contract: one length, so the least of four. Assumes nothing.
+use mathlib.Core.Path.{_∙_}
 use borrow.Author.Needs.{needs}
-use Rattle.store.specs.Memory.{room}
+use Rattle.store.proofs.Rows.{room-is}
 use Rattle.store.proofs.room.capacity.Statement.{statement}
 use Rattle.store.proofs.room.capacity.Tie as tie
 
 pub capacity-spec : {M : Type 1} → statement M
-unfolding room
-capacity-spec =
-    tie.close
-    (tie.spec
-    (λ c κs. search needs)
-    (λ c κs. search needs)
-    (λ c κs. search needs)
-    (λ c κs. search needs)
-    (λ c. rw (c .least4 .ensures, c .before .least3 .ensures, c .before .before .before .least .ensures, c .before .before .least2 .ensures) refl))
+capacity-spec = tie.close (tie.spec (λ c κs. search needs) (λ c. c .least .ensures ∙ room-is _))

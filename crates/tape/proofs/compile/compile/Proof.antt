@@ -11,9 +11,9 @@ compile-spec =
     tie.close
     (tie.spec
     (λ c κs. search needs)
-    (λ c. λ link h l. let z = read-size h _ l (c .before .size-at .ensures) in compiles-long _ _ (omega (arith, z, c .if1 .taken)))
+    (λ c. λ h l. let z = read-size h _ l (c .before .size-at .ensures) in compiles-long _ _ (omega (arith, z, c .if1 .taken)))
     (λ c. omega (arith, c .if1 .left))
-    (λ c. λ link h l. let z = read-size h _ l (c .before .before .size-at .ensures) in compiles-short _ _ (omega (arith, z, c .before .if1 .left)) (omega (arith, z, c .if2 .taken)))
+    (λ c. λ h l. let z = read-size h _ l (c .before .before .size-at .ensures) in compiles-short _ _ (omega (arith, z, c .before .if1 .left)) (omega (arith, z, c .if2 .taken)))
     (λ c κs. search needs)
-    (λ c. c .before .before .emit .kept .1 .1 .1 .1 .1 .0)
-    (λ c. λ link h l. let z = read-size h _ l (c .before .before .before .before .before .before .size-at .ensures) in compiles _ _ (omega (arith, z, c .before .before .before .before .before .if1 .left)) (omega (arith, z, c .before .before .before .before .if2 .left)) (c .before .before .emit .ensures link _ h l l)))
+    (λ c. c .before .before .emit .kept .1 .1 .1 .0)
+    (λ c. λ h l. let z = read-size h _ l (c .before .before .before .before .before .before .size-at .ensures) in compiles _ _ (omega (arith, z, c .before .before .before .before .before .if1 .left)) (omega (arith, z, c .before .before .before .before .if2 .left)) (c .before .before .emit .ensures _ h l l)))

@@ -10,7 +10,8 @@ packed-listing-spec =
     (tie.spec
     (λ c. search needs)
     (λ c κs. search needs)
+    (λ c κs. search needs)
     (λ c. search needs)
     (λ c κs. search needs)
-    (λ c. rw (c .before .before .answer .given .1, c .packed-node .ensures) refl)
+    (λ c. rw (c .before .before .before .answer .given .1, c .packed-node .ensures, c .before .standing .ensures) refl)
     (λ c. rw (c .before .before .answer2 .given .1, c .refused .ensures) refl))

@@ -1,0 +1,54 @@
+-- What the words of the desk say: how many nodes stand, how many simplify calls were made, and what a refusal carries. Only connecting.
+use Prim.Native.Nat.{ℕ, _+_}
+use mathlib.Core.Path.{_≡_}
+use mathlib.Core.List.{List}
+use mathlib.Core.Bool.{cond}
+use lib.ListN.{length, getD, set}
+use lib.Dec.{eqb}
+use Rattle.memory.specs.Layout.{deskWords}
+use Rattle.complex.specs.declared.Complex.{Complex}
+use Rattle.complex.specs.Constants.{ofParts}
+use Rattle.expression.specs.declared.refusal.Operation.{Operation}
+use Rattle.expression.specs.declared.refusal.Refusal.{Refusal}
+use Rattle.expression.specs.Codes.{operationOf}
+
+unfoldable pub count : List ℕ → ℕ
+count desk = getD desk 0 0
+
+unfoldable pub callsOn : List ℕ → ℕ
+callsOn desk = getD desk 1 0
+
+unfoldable pub withCount : List ℕ → ℕ → List ℕ
+withCount desk n = set desk 0 n
+
+unfoldable pub withCalls : List ℕ → ℕ → List ℕ
+withCalls desk calls = set desk 1 calls
+
+-- "9 NEED" with "name, operands"
+unfoldable pub needOn : List ℕ → Refusal
+needOn desk = Refusal.Need (operationOf (getD desk 2 0)) (ofParts (getD desk 3 0) (getD desk 4 0)) (ofParts (getD desk 5 0) (getD desk 6 0))
+
+-- the refusal of a number, of those that what builds can answer: 6 to 10
+unfoldable pub refusalOn : (number : ℕ) (desk : List ℕ) → Refusal
+refusalOn number desk =
+    cond (eqb number 6) Refusal.Big
+    (cond (eqb number 7) Refusal.Deep
+    (cond (eqb number 8) Refusal.Room
+    (cond (eqb number 9) (needOn desk)
+    Refusal.Incomplete)))
+
+-- an answer of what builds is one word: a node's number, or this and the number of a refusal
+abbrev pub refusedFrom : ℕ
+refusedFrom = 65536
+
+-- between two desks the nodes and the calls stay
+pub record Alike (desk desk′ : List ℕ) : Type 0 where
+  pub counted : count desk′ ≡ count desk
+  pub called : callsOn desk′ ≡ callsOn desk
+  pub long : length desk′ ≡ length desk
+
+-- NEED is answered: the desk says for what
+pub record Asks (operation : Operation) (x y : Complex) (r : ℕ) (desk desk′ : List ℕ) : Type 0 where
+  pub answer : r ≡ refusedFrom + 9
+  pub need : length desk ≡ deskWords → needOn desk′ ≡ Refusal.Need operation x y
+  pub alike : Alike desk desk′
