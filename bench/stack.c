@@ -10,8 +10,8 @@
 enum { STACK = 1 << 20, TEXT = 1 << 17, STEP = 24 };
 
 static uint8_t stack[STACK] __attribute__((aligned(64)));
-static uint64_t store[4][FINDAVOREB_STORE_WORDS], table[FINDAVOREB_TABLE_WORDS], answer[FINDAVOREB_ANSWER_WORDS];
-static uint64_t picked[FINDAVOREB_PICKED_WORDS];
+static uint64_t store[FINDAVOREB_MOST_ROWS][4], desk[FINDAVOREB_DESK_WORDS], table[FINDAVOREB_TABLE_WORDS];
+static uint64_t answer[FINDAVOREB_ANSWER_WORDS], picked[FINDAVOREB_PICKED_WORDS];
 static uint8_t out[FINDAVOREB_OUT_BYTES];
 
 /* ---- a job and its texts */
@@ -25,7 +25,7 @@ static uint8_t *top;
 #define HERE __asm__ volatile("mov %%rsp, %0" : "=m"(top) : : "memory")
 #define TEXTS (uint8_t *)listing, listing_length
 #define SHEET (uint8_t *)sheet, sheet_length
-#define WORK store[0], 4096, store[1], 4096, store[2], 4096, store[3], 4096, table
+#define WORK store, FINDAVOREB_MOST_ROWS, desk, table
 
 static void play(void) { HERE; findavoreb_play(tape, tape_length, SHEET, table, answer); }
 static void check(void) { HERE; findavoreb_check(tape, tape_length, answer); }
