@@ -27,7 +27,7 @@ use Rattle.listing.specs.declared.SwapLine.{SwapLine}
 use Rattle.listing.specs.Listings as Spec
 use Rattle.listing.specs.Listings.{Known, known, accepted, swap, names, nothing, swapFor, above, swapFields, swapLine, listingLine, mostLines, listing}
 
--- a node whose operands are numbers of lines, with the nodes that stand for these in a table
+-- a node with other numbers for its operands, those that stand for them in a list: the node of a line, or the line of a node
 unfoldable pub movedTo : List ℕ → Expression → Operands → Expression
 movedTo table e Operands.Nothing = e
 movedTo table e (Operands.One a) = withOperands e 0 (getD table a 0)

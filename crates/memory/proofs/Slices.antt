@@ -12,11 +12,6 @@ getD-out [] i d h = refl
 getD-out (x ∷ l) zero d h = absurd (omega arith)
 getD-out (x ∷ l) (suc i) d h = getD-out l i d (omega arith)
 
-pub getD-zeros : (n i : ℕ) → _≡_ {A = ℕ} (getD (replicate n 0) i 0) 0
-getD-zeros zero i = refl
-getD-zeros (suc n) zero = refl
-getD-zeros (suc n) (suc i) = getD-zeros n i
-
 -- one value all over a list
 module _ {A : Type 0} (d x : A) where
   pub all-same : (s s₀ : List A) → length s ≡ length s₀ → ((j : ℕ) → j < length s → getD s j d ≡ x) → s ≡ replicate (length s₀) x

@@ -105,10 +105,6 @@ pub half-rest : (b : Bool) (w h : ℕ) → h < 8191 → Others (withHalf b w h) 
 half-rest true w h l = let k = with-even w h l in record { class = k .class; kept = k .kept; next = k .next }
 half-rest false w h l = let k = with-odd w h l in record { class = k .class; kept = k .kept; next = k .next }
 
-pub half-zero : (b : Bool) → half b 0 ≡ 0
-half-zero true = refl
-half-zero false = refl
-
 -- words with the same heads
 pub half-same : (b : Bool) (v w : ℕ) → v % 8192 ≡ w % 8192 → v / 8192 % 8192 ≡ w / 8192 % 8192 → half b v ≡ half b w
 half-same true v w e d = e

@@ -33,7 +33,7 @@ Rests (Task.Infix o a b) = ⊥
 Rests (Task.Prefix o a) = ⊥
 
 -- the task of `node`, which is e. Read as trees it is the definition's; its nodes are among the first n if `node` and the operands are; and at
--- limit 0 it is no operation, whatever the slices hold: by that the cycle ends
+-- limit 0 it is no operation, whatever the rows hold: by that the cycle ends
 pub record Decides (limit node : ℕ) (e : Expression) (task : Task) : Type 0 where
   pub wants : (tree : ℕ → Tree) → tree node ≡ grown tree e → taskOf tree task ≡ taskAt limit (grown tree e)
   pub inside : (n : ℕ) → node < n → Within n e → TaskIn n task

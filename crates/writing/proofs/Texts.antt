@@ -1,4 +1,4 @@
--- The text of the lines that a table orders is that of the tree, and each return of `lined`. Assumes nothing.
+-- The text of the lines that a table orders is that of the tree. Assumes nothing.
 use mathlib.Core.Path.{_≡_, refl, sym, ap, _∙_, subst}
 use mathlib.Core.List.{List, [], _∷_, _++_, append-assoc, append-nil}
 use mathlib.Core.Logic.{⊎-elim}
@@ -14,7 +14,6 @@ use Rattle.expression.specs.declared.refusal.Refusal.{Refusal}
 use Rattle.expression.specs.Trees.{Tree, leaf, pi}
 use Rattle.expression.specs.Alike.{identical}
 use Rattle.expression.specs.declared.node.Expression.{Expression}
-use Rattle.expression.specs.declared.node.Operands.{Operands}
 use Rattle.expression.specs.Nodes.{operandsOf, withOperands, grown, Within}
 use Rattle.store.specs.Storing.{among, place}
 use Rattle.store.specs.Memory.{Memory, expressionAt, treeAt, treeOf}
@@ -28,9 +27,9 @@ use Rattle.text.specs.Writing.{line, Put}
 use Rattle.text.proofs.Putting.{put-then}
 use Rattle.writing.specs.declared.Written.{Written}
 use Rattle.writing.specs.Order.{order, lineFields, text, textOf, written}
-use Rattle.writing.specs.Ordering.{AllIn, empty, Listed, visited, Visited, noChild, textFields, lineText, linedTo, linedBy, lineAt, linesText}
+use Rattle.writing.specs.Ordering.{AllIn, empty, Listed, visited, Visited, noChild, textFields, lineText, lineAt, linesText}
 use Rattle.memory.specs.Layout.{tableWords}
-use Rattle.listing.specs.Tables.{lineTrees}
+use Rattle.listing.specs.Tables.{lineTrees, movedTo, moved}
 use Rattle.writing.proofs.Orders.{laid-all, all-is, true-not-false}
 use Rattle.writing.proofs.Visiting.{place-of, room-small, expression-kept}
 
@@ -77,24 +76,6 @@ module _ (rows : Memory) (table : List ℕ) where
   pub all-written : {e x : List ℕ} {count i at : ℕ} → i ≤ count → count ≤ i → Put e 0 (linesText rows table i) at x → Put e 0 (linesText rows table count) at x
   all-written {count = count} {i = i} p q e = let z : i ≡ count = omega arith in rw z at e
 
--- ---- each return of `lined`, where `o` are the node's operands
-
-module _ (link : List ℕ) (e : Expression) {o : Operands} (o-is : o ≡ operandsOf e) where
-  told-as : {o′ : Operands} → o ≡ o′ → linedTo link e o′ ≡ linedBy link e
-  told-as q = ap (linedTo link e) (sym q ∙ o-is)
-
-  pub lined-none : o ≡ Operands.Nothing → e ≡ linedBy link e
-  unfolding linedTo
-  lined-none q = told-as q
-
-  pub lined-one : {a b : ℕ} {r : Expression} → o ≡ Operands.One a → b ≡ getD link a 0 → r ≡ withOperands e 0 b → r ≡ linedBy link e
-  unfolding linedTo
-  lined-one q b-is r-is = r-is ∙ rw b-is (told-as q)
-
-  pub lined-two : {a b c d : ℕ} {r : Expression} → o ≡ Operands.Two a b → c ≡ getD link a 0 → d ≡ getD link b 0 → r ≡ withOperands e c d → r ≡ linedBy link e
-  unfolding linedTo
-  lined-two q c-is d-is r-is = r-is ∙ rw (c-is, d-is) (told-as q)
-
 -- ---- as lines of the tree
 
 text-snoc : (lines ts : List Tree) (t : Tree) → text lines (ts ++ (t ∷ [])) ≡ text lines ts ++ line (lineFields lines t)
@@ -114,8 +95,8 @@ module _ {m : Memory} {n : ℕ} (h : Holds m n) {rows : Memory} {table : List �
       rw (place-of h l c o q) at (l .marks (place (identical (treeAt m c)) (lineTrees m table count)) q))
       (eq-or-lt-of-le (place-within (identical (treeAt m c)) (lineTrees m table count)))
 
-  fields-are : (e : Expression) → Within n e → AllIn (lineTrees m table count) (treeOf m e) → lineFields (lineTrees m table count) (treeOf m e) ≡ textFields (linedBy (rows .link) e)
-  unfolding lineFields textFields grown operandsOf withOperands linedTo
+  fields-are : (e : Expression) → Within n e → AllIn (lineTrees m table count) (treeOf m e) → lineFields (lineTrees m table count) (treeOf m e) ≡ textFields (moved (rows .link) e)
+  unfolding lineFields textFields grown operandsOf withOperands movedTo
   fields-are (Expression.Number z) w a = refl
   fields-are Expression.PiConstant w a = refl
   fields-are (Expression.Variable v) w a = refl

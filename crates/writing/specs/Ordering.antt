@@ -12,14 +12,14 @@ use Rattle.expression.specs.declared.node.Expression.{Expression}
 use Rattle.store.specs.Memory.{Memory, columns, withLink, expressionAt, treeAt}
 use Rattle.store.specs.Held.{Holds}
 use Rattle.expression.specs.declared.node.Operands.{Operands}
-use Rattle.expression.specs.Nodes.{operandsOf, withOperands}
+use Rattle.expression.specs.Nodes.{operandsOf}
 use Rattle.memory.specs.Layout.{tableWords}
 use Rattle.writing.specs.declared.order.Children.{Children}
 use Rattle.writing.specs.declared.Written.{Written}
 use Rattle.writing.specs.Order.{finished, leafFields, written}
 use Rattle.spelling.specs.Names.{functionName, prefixName, infixName}
 use Rattle.text.specs.Writing.{inDecimal, line}
-use Rattle.listing.specs.Tables.{lineTrees}
+use Rattle.listing.specs.Tables.{lineTrees, moved}
 
 -- ---- lists of trees
 
@@ -113,18 +113,9 @@ textFields (Expression.Infix o a b) = (98 ∷ []) ∷ infixName o ∷ inDecimal 
 unfoldable pub lineText : Expression → List ℕ
 lineText e = line (textFields e)
 
--- a node with the lines of its operands, which are their links
-unfoldable pub linedTo : (link : List ℕ) → Expression → Operands → Expression
-linedTo link e Operands.Nothing = e
-linedTo link e (Operands.One a) = withOperands e 0 (getD link a 0)
-linedTo link e (Operands.Two a b) = withOperands e (getD link a 0) (getD link b 0)
-
-abbrev pub linedBy : (link : List ℕ) → Expression → Expression
-linedBy link e = linedTo link e (operandsOf e)
-
--- line i of the order in a table
+-- line i of the order in a table: the node with the lines of its operands, which are their links
 unfoldable pub lineAt : (rows : Memory) (table : List ℕ) → ℕ → Expression
-lineAt rows table i = linedBy (rows .link) (expressionAt rows (getD table i 0))
+lineAt rows table i = moved (rows .link) (expressionAt rows (getD table i 0))
 
 unfoldable pub linesText : (rows : Memory) (table : List ℕ) → ℕ → List ℕ
 linesText rows table zero = []

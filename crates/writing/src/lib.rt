@@ -4,8 +4,9 @@ ghost use Prim.Native.Nat.{_*_, _≤_};
 ghost use lib.ListN.{length};
 ghost use Rattle.memory.specs.Layout.{tableWords};
 ghost use Rattle.store.specs.Memory.{memory};
+ghost use Rattle.listing.specs.Tables.{moved};
 ghost use Rattle.text.specs.Writing.{Put};
-ghost use Rattle.writing.specs.Ordering.{linedBy, lineAt, linesText, Writes};
+ghost use Rattle.writing.specs.Ordering.{lineAt, linesText, Writes};
 use expression::node::Expression;
 use expression::node::Operands;
 use expression::node::operands_of;
@@ -31,7 +32,7 @@ pub enum Written {
 
 // A node with the lines of its operands in their place, which stand in the links of their rows.
 fn lined(store: &[[u64; 4]], e: Expression) -> Expression
-    ensures { λ r. ⌜ r ≡ linedBy (memory (now (store .entry)) .link) e ⌝ }
+    ensures { λ r. ⌜ r ≡ moved (memory (now (store .entry)) .link) e ⌝ }
 {
     let operands = operands_of(e);
     match operands {
