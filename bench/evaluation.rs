@@ -6,6 +6,9 @@ mod common;
 #[path = "common/jobs.rs"]
 mod jobs;
 
+// Listings of about as many lines as there may be. The values of so many functions would not fit into a sheet.
+const THOUSAND: usize = 1000;
+
 fn row(name: &str, mix: Mix, size: usize, rounds: usize, here: Side) {
     let times = times(mix, size, rounds, |_| {}, [&rust, here]);
     let ([r, h], ratio) = ([0, 1].map(|side| median(&times, side)), ratio(&times, 1, 0));
@@ -16,7 +19,7 @@ fn main() {
     let rounds = rounds();
     println!("{:<30}{:>5}{:>12}{:>12}{:>9} [quartiles]", "ns a tree", "size", "Rust", "here", "ratio");
     for mix in MIXES {
-        for size in SIZES {
+        for size in SIZES.into_iter().chain((!mix.functions).then_some(THOUSAND)) {
             if mix.variables == 32 && [20, 500].contains(&size) {
                 row(&format!("null: {}", mix.name), mix, size, rounds, &rust_again);
             }

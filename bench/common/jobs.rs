@@ -51,7 +51,7 @@ pub enum Shape {
 pub struct Mix {
     pub name: &'static str,
     bound: bool,     // leaves are numbers, pi, variables and cells, else numbers alone
-    functions: bool, // sin, cos, exp, sqrt, cis and ^ besides arithmetic
+    pub functions: bool, // sin, cos, exp, sqrt, cis and ^ besides arithmetic
     shape: Shape,
     pub variables: u16,
     cells: u32, // of each region
