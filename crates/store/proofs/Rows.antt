@@ -31,47 +31,47 @@ column-set k s i r = map-set (λ (r : List ℕ). getD r k 0) s i r
 
 -- each word of node i, where there is one and where there is none
 module _ (s : List (List ℕ)) (i : ℕ) where
-  pub tag-in : getD (getD s i []) 0 0 ≡ getD (memory s .tag) i 0
+  pub tag-in : getD (getD s i []) 1 0 ≡ getD (memory s .tag) i 0
   unfolding memory
-  tag-in = word-is s i 0
+  tag-in = word-is s i 1
 
-  pub first-in : getD (getD s i []) 1 0 ≡ getD (memory s .first) i 0
+  pub first-in : getD (getD s i []) 2 0 ≡ getD (memory s .first) i 0
   unfolding memory
-  first-in = word-is s i 1
+  first-in = word-is s i 2
 
-  pub second-in : getD (getD s i []) 2 0 ≡ getD (memory s .second) i 0
+  pub second-in : getD (getD s i []) 3 0 ≡ getD (memory s .second) i 0
   unfolding memory
-  second-in = word-is s i 2
+  second-in = word-is s i 3
 
-  pub link-in : getD (getD s i []) 3 0 ≡ getD (memory s .link) i 0
+  pub link-in : getD (getD s i []) 0 0 ≡ getD (memory s .link) i 0
   unfolding memory
-  link-in = word-is s i 3
+  link-in = word-is s i 0
 
   module _ (h : length s ≤ i) where
     pub tag-out : _≡_ {A = ℕ} 0 (getD (memory s .tag) i 0)
     unfolding memory
-    tag-out = word-out s i 0 h
+    tag-out = word-out s i 1 h
 
     pub first-out : _≡_ {A = ℕ} 0 (getD (memory s .first) i 0)
     unfolding memory
-    first-out = word-out s i 1 h
+    first-out = word-out s i 2 h
 
     pub second-out : _≡_ {A = ℕ} 0 (getD (memory s .second) i 0)
     unfolding memory
-    second-out = word-out s i 2 h
+    second-out = word-out s i 3 h
 
     pub link-out : _≡_ {A = ℕ} 0 (getD (memory s .link) i 0)
     unfolding memory
-    link-out = word-out s i 3 h
+    link-out = word-out s i 0 h
 
 -- a row written whole
 module _ (s : List (List ℕ)) (i v a b l : ℕ) where
-  pub written : memory (set s i (v ∷ a ∷ b ∷ l ∷ [])) ≡ withRow (memory s) i v a b l
+  pub written : memory (set s i (l ∷ v ∷ a ∷ b ∷ [])) ≡ withRow (memory s) i v a b l
   unfolding memory
-  written = rw (column-set 0 s i (v ∷ a ∷ b ∷ l ∷ []), column-set 1 s i (v ∷ a ∷ b ∷ l ∷ []), column-set 2 s i (v ∷ a ∷ b ∷ l ∷ []), column-set 3 s i (v ∷ a ∷ b ∷ l ∷ [])) refl
+  written = rw (column-set 0 s i (l ∷ v ∷ a ∷ b ∷ []), column-set 1 s i (l ∷ v ∷ a ∷ b ∷ []), column-set 2 s i (l ∷ v ∷ a ∷ b ∷ []), column-set 3 s i (l ∷ v ∷ a ∷ b ∷ [])) refl
 
   pub not-written : length s ≤ i → memory s ≡ withRow (memory s) i v a b l
-  not-written h = ap memory (sym (set-out s i (v ∷ a ∷ b ∷ l ∷ []) h)) ∙ written
+  not-written h = ap memory (sym (set-out s i (l ∷ v ∷ a ∷ b ∷ []) h)) ∙ written
 
 -- a row written with three of the words that it has
 pub relinked : (m : Memory) (i l : ℕ) → withRow m i (getD (m .tag) i 0) (getD (m .first) i 0) (getD (m .second) i 0) l ≡ withLink m i l

@@ -27,9 +27,9 @@ columns tag first second link = record { tag = tag; first = first; second = seco
 unfoldable pub column : ℕ → List (List ℕ) → List ℕ
 column k rows = map (λ row. getD row k 0) rows
 
--- the lent rows as nodes. It stays shut: the laws of proofs/Rows alone open it
+-- the lent rows as nodes: a row has its link first. It stays shut: the laws of proofs/Rows alone open it
 unfoldable pub memory : (rows : List (List ℕ)) → Memory
-memory rows = columns (column 0 rows) (column 1 rows) (column 2 rows) (column 3 rows)
+memory rows = columns (column 1 rows) (column 2 rows) (column 3 rows) (column 0 rows)
 
 -- node i becomes these words, or its link this one; past the end nothing does
 abbrev pub withRow : Memory → (i tag first second link : ℕ) → Memory
