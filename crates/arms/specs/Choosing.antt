@@ -133,9 +133,9 @@ ChoosesOne plan m x arm = (n : ℕ) → Holds m n → x < n → Chosen m n arm (
 abbrev pub Selects : (Tree → Tree → Tree) → (m : Memory) (a b r : ℕ) → Type 0
 Selects select m a b r = (n : ℕ) → Holds m n → a < n → b < n → At m n r (select (treeAt m a) (treeAt m b))
 
--- where `given` holds of the operands, and the store is read
-abbrev pub ChoosesLinked : (given : Tree → Tree → Bool) → (Tree → Tree → Plan) → (m : Memory) (l r : ℕ) (left right : Expression) → Arm → Type 0
-ChoosesLinked given plan m l r left right arm =
+-- as ChoosesWhere, in a store that is read
+abbrev pub ChoosesWhereHeld : (given : Tree → Tree → Bool) → (Tree → Tree → Plan) → (m : Memory) (l r : ℕ) (left right : Expression) → Arm → Type 0
+ChoosesWhereHeld given plan m l r left right arm =
     (n : ℕ) → Holds m n → Sits m n l left → Sits m n r right → given (treeOf m left) (treeOf m right) ≡ true
     → Chosen m n arm (plan (treeOf m left) (treeOf m right))
 

@@ -1,7 +1,7 @@
 // The arms of /: 9 to 12, 17, 22 to 26, 31, 32, 35 to 38 and 41.
 ghost use Rattle.store.specs.Memory.{memory};
 ghost use Rattle.arms.specs.Arms.{eitherNegation, cancelsNegation, signedQuotient, split, cancelled, quotientPlan};
-ghost use Rattle.arms.specs.Choosing.{LikensTo, Chooses, ChoosesLinked, ChoosesWhere, always};
+ghost use Rattle.arms.specs.Choosing.{LikensTo, Chooses, ChoosesWhereHeld, ChoosesWhere, always};
 use super::Arm;
 use super::Outer;
 use super::groups::choose_grouped;
@@ -47,7 +47,7 @@ fn choose_signed_quotient(
     left: Expression,
     right: Expression,
 ) -> Arm
-    ensures { λ arm. ⌜ ChoosesLinked eitherNegation signedQuotient (memory (now (store .entry))) l r left right arm ⌝ }
+    ensures { λ arm. ⌜ ChoosesWhereHeld eitherNegation signedQuotient (memory (now (store .entry))) l r left right arm ⌝ }
 {
     // 22. (-a)/(-b): S(a/b)
     if both_hold(is_negation(left), is_negation(right)) {

@@ -1,4 +1,4 @@
--- How long the desk and the table are that a call lends, and where things stand in them, as src/layout.rt has it. Only connecting.
+-- How long the desk and the table are that a call lends; and where things stand in them, as src/layout.rt has it, which only connects.
 use Prim.Native.Nat.{ℕ}
 
 abbrev pub deskWords : ℕ
