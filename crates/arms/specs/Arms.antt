@@ -1,5 +1,5 @@
 -- 01's arms in 01's order and by 01's numbers: which plan is made for an operation whose operands are simplified. Trees alone are looked at.
--- Definitions only.
+-- The tables of the five operators are the first match in 01's one list of 41, which is in Ordered. Definitions only.
 use mathlib.Core.Bool.{Bool, true, false, cond}
 use lib.Dec.{ltb}
 use Rattle.complex.specs.declared.Complex.{Complex}

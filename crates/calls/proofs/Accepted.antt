@@ -17,9 +17,9 @@ use Rattle.store.specs.Storing.{State, state, Answer, gives, among, intern, fre
 use Rattle.text.specs.Reading.{Read, is, bad, then, tab, lf, ended, decimalField, hexField, nameField}
 use Rattle.text.proofs.Only.{decimal-only, ended-only}
 use Rattle.text.specs.Lines as Lines
-use Rattle.text.specs.Lines.{Line, Whole, lines}
+use Rattle.text.specs.Lines.{Line, Whole, lines, none, aboveLast}
 use Rattle.listing.specs.Listings as Listings
-use Rattle.listing.specs.Listings.{Listing, Swap, accepted, Known, known, none, stored, formed, mostNodes, mostSwaps, nodeLine, above, swapFields, swapped, swapLine, listingLine, last, rooted, whole, listing}
+use Rattle.listing.specs.Listings.{Listing, Swap, accepted, Known, known, stored, formed, mostNodes, mostSwaps, nodeLine, swapFields, swapped, swapLine, listingLine, last, rooted, whole, listing, aboveVariable}
 use Rattle.spelling.specs.Names.{functionNames, prefixNames, infixNames}
 use Rattle.node_lines.specs.NodeLines.{childField, numberFields, variableFields, cellFields, functionFields, prefixFields, infixFields, fieldsOf, nodeFields}
 use Rattle.calls.proofs.Lining.{InLine, InWhole, to-the-end}
@@ -146,7 +146,7 @@ formed-good k (is t rest) g p = stored-good k rest (intern t (k .store)) g (stor
 swapped-good : (substituting : Bool) (k : Known) (r : Read Swap) → GoodKnown k → InLine GoodKnown (swapped substituting k r)
 unfolding swapped InLine GoodKnown
 swapped-good substituting k bad g = tt
-swapped-good substituting k (is s rest) g = line-either (substituting && above (k .swaps) s) _ _ g tt
+swapped-good substituting k (is s rest) g = line-either (substituting && aboveLast aboveVariable (k .swaps) s) _ _ g tt
 
 line-good : (substituting : Bool) (k : Known) (first : ℕ) (bs : List ℕ) → GoodKnown k → InLine GoodKnown (listingLine substituting k first bs)
 unfolding listingLine swapLine nodeLine InLine Says GoodKnown
@@ -180,8 +180,8 @@ whole-good (Lines.refused why) g = tt
 listing-good : (substituting : Bool) (bs : List ℕ) (room : ℕ) → GoodListing (listing substituting bs (fresh room 0))
 unfolding listing GoodKnown AllGood storedIn
 listing-good substituting bs room =
-    whole-good (lines (listingLine substituting) 1281 (known [] [] (fresh room 0)) bs)
-    (to-the-end GoodKnown (listingLine substituting) (line-good substituting) 1281 (known [] [] (fresh room 0)) bs (tt, tt))
+    whole-good (lines (listingLine substituting) (known [] [] (fresh room 0)) bs)
+    (to-the-end GoodKnown (listingLine substituting) (line-good substituting) (known [] [] (fresh room 0)) bs (tt, tt))
 
 pub accepted-good : (substituting : Bool) (bs : List ℕ) (room : ℕ) {root : Tree} {swaps : List Swap} {store : State}
     → listing substituting bs (fresh room 0) ≡ accepted root swaps store → Good root

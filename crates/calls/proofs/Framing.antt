@@ -1,16 +1,17 @@
 -- What the steps of a call make together: the texts, the operation, the result, and the memory. Assumes nothing.
-use mathlib.Core.Path.{_≡_, refl, sym, ap, _∙_}
+use mathlib.Core.Path.{_≡_, refl, sym, ap, subst, _∙_}
 use Prim.Native.Nat.{ℕ, _-_, _≤_, _<_, min}
 use mathlib.Core.List.{List}
 use mathlib.Core.Bool.{Bool, true, false}
 use native.Mathlib.Omega.{arith}
+use borrow.Author.Tests.{leb-true}
 use native.Mathlib.Decide.{decLt}
 use lib.ListN.{length, replicate}
 use Rattle.memory.specs.Layout.{deskWords}
 use Rattle.memory.specs.Rows.{blank}
 use Rattle.expression.specs.declared.refusal.Refusal.{Refusal}
 use Rattle.expression.specs.Trees.{Tree}
-use Rattle.store.specs.Storing.{State, fresh}
+use Rattle.store.specs.Storing.{State, Answer, fresh}
 use Rattle.store.specs.Memory.{memory, room}
 use Rattle.store.specs.Desk.{count, callsOn, refusalOn, refusedFrom}
 use Rattle.store.specs.Held.{Lent, lent, treeIn, stateIn, Sound, Built, seen}
@@ -32,7 +33,11 @@ use Rattle.evaluation.specs.Evaluating.{evaluate}
 use Rattle.substitution.specs.Substituting.{substitute}
 use Rattle.evaluation.specs.Reals.{toReal}
 use Rattle.tasks.specs.Tasks.{isAllowed}
-use Rattle.simplification.specs.Simplifying.{simplify}
+use Rattle.tasks.specs.Deciding.{oneMore}
+use Rattle.simplification.specs.Simplifying.{simplifyBy, simplify}
+use Rattle.simplification.proofs.Counting.{bound-to-ten}
+use Rattle.simplification.proofs.Machine.{Agreed, given, refusing, machine-agrees}
+use Rattle.calls.proofs.Results.{FreshJob, job-fresh}
 use Rattle.calls.specs.declared.Evaluated.{Evaluated}
 use Rattle.calls.specs.declared.Simplified.{Simplified}
 use Rattle.calls.specs.declared.Job.{Job}
@@ -172,21 +177,34 @@ counted l built out = go (decLt built refusedFrom)
     go (yes x) = rw (seen-node built l x) refl
     go (no x) = rw (seen-refused built l (omega (arith, x))) refl
 
+same-answer : (out : List ℕ) {a b : Answer} → Agreed a b → simplifiedAnswer out a ≡ simplifiedAnswer out b
+unfolding callsIn writtenAnswer
+same-answer out (given t s) = refl
+same-answer out (refusing why s s′) = refl
+
 module _ (limit : ℕ) (allowed : isAllowed limit ≡ true) (store : List (List ℕ)) {desk list values : List ℕ} (out : List ℕ) {j : Job} {l₁ : Lent} {table : List ℕ}
     (p : ReadsJob list values j (lent store desk) l₁ table) where
   from-job : {r : Simplified × List ℕ} → r ≡ simplifyJob limit out (job (room (memory store)) list values) → r ≡ simplifyCall (min (length store) 4096) limit list values out
   unfolding simplifyCall
   from-job e = in-room store (λ n. simplifyCall n limit list values out) (rw allowed e)
 
+  -- the machine's count is the definition's: nothing was counted when the job was read, and the bound of a limit up to 10 fits a word
+  agrees : {root : ℕ} {rows : Counts} → j ≡ Job.Ready root rows
+      → simplifiedAnswer out (simplifyBy oneMore (rowsOf table rows) limit (treeIn l₁ root) (stateIn l₁)) ≡ simplifiedAnswer out (simplify (rowsOf table rows) limit (treeIn l₁ root) (stateIn l₁))
+  unfolding FreshJob isAllowed
+  agrees {root} {rows} told =
+      let f : FreshJob (Calls.ready (treeIn l₁ root) (stateIn l₁) (rowsOf table rows)) = subst FreshJob (sym (rw told at (p .answer))) (job-fresh (room (memory store)) list values) in
+      same-answer out (machine-agrees (rowsOf table rows) limit (treeIn l₁ root) (stateIn l₁) (omega (arith, f .uncounted, bound-to-ten limit (leb-true limit 10 allowed))))
+
   pub simplifies : {root built calls : ℕ} {rows : Counts} {l₂ : Lent} {r : Simplified} {w : Written} {out′ : List ℕ} → j ≡ Job.Ready root rows
-      → Built (simplify (rowsOf table rows) limit (treeIn l₁ root) (stateIn l₁)) built l₁ l₂
+      → Built (simplifyBy oneMore (rowsOf table rows) limit (treeIn l₁ root) (stateIn l₁)) built l₁ l₂
       → WritesAnswer l₂ built w out out′ → calls ≡ callsOn (l₂ .desk) → r ≡ withCalls calls w
       → _≡_ {A = Simplified × List ℕ} (r, out′) (simplifyCall (min (length store) 4096) limit list values out)
   unfolding simplifyJob
   simplifies {built = built} {l₂ = l₂} {out′ = out′} told b w q e =
       let y = w (b .step .sound) (b .inside) in
       ap (λ r. (r, out′)) e ∙ (λ i. (withCalls (q i) (y i .0), y i .1)) ∙ ap (λ r. (r, writtenAnswer out (seen built l₂) .1)) (counted l₂ built out)
-      ∙ ap (simplifiedAnswer out) (b .answer) ∙ from-job (ap (simplifyJob limit out) (rw told at (p .answer)))
+      ∙ ap (simplifiedAnswer out) (b .answer) ∙ agrees told ∙ from-job (ap (simplifyJob limit out) (rw told at (p .answer)))
 
   pub simplifies-refused : {why : Refusal} → j ≡ Job.Refused why
       → _≡_ {A = Simplified × List ℕ} (Simplified.Refused why, out) (simplifyCall (min (length store) 4096) limit list values out)

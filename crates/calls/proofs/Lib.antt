@@ -6,3 +6,4 @@ pub mod OneAnswer
 pub mod Results
 pub mod Accepted
 pub mod Demand
+pub mod Examples

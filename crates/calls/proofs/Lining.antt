@@ -2,7 +2,8 @@
 use mathlib.Core.List.{List, [], _∷_}
 use Prim.Native.Nat.{ℕ, zero, suc}
 use Rattle.text.specs.Lines as Lines
-use Rattle.text.specs.Lines.{Line, goes, stops, Whole, afterLine, atLine, lines}
+use lib.ListN.{length}
+use Rattle.text.specs.Lines.{Line, goes, stops, Whole, afterLine, atLine, linesBy, lines}
 
 module _ {S R : Type 0} (P : S → Type 0) where
   unfoldable pub InLine : Line S R → Type 0
@@ -18,9 +19,13 @@ module _ {S R : Type 0} (P : S → Type 0) where
   after (goes s rest) next x f = f s rest x
   after (stops why) next x f = tt
 
-  pub to-the-end : (line : S → ℕ → List ℕ → Line S R) → ((s : S) (b : ℕ) (bs : List ℕ) → P s → InLine (line s b bs))
-      → (fuel : ℕ) (s : S) (bs : List ℕ) → P s → InWhole (lines line fuel s bs)
-  unfolding lines atLine InWhole
-  to-the-end line f zero s bs x = x
-  to-the-end line f (suc fuel) s [] x = x
-  to-the-end line f (suc fuel) s (b ∷ bs) x = after (line s b bs) (λ s bs. lines line fuel s bs) (f s b bs x) λ s bs y. to-the-end line f fuel s bs y
+  with-fuel : (line : S → ℕ → List ℕ → Line S R) → ((s : S) (b : ℕ) (bs : List ℕ) → P s → InLine (line s b bs))
+      → (fuel : ℕ) (s : S) (bs : List ℕ) → P s → InWhole (linesBy fuel line s bs)
+  unfolding linesBy atLine InWhole
+  with-fuel line f zero s bs x = x
+  with-fuel line f (suc fuel) s [] x = x
+  with-fuel line f (suc fuel) s (b ∷ bs) x = after (line s b bs) (λ s bs. linesBy fuel line s bs) (f s b bs x) λ s bs y. with-fuel line f fuel s bs y
+
+  pub to-the-end : (line : S → ℕ → List ℕ → Line S R) → ((s : S) (b : ℕ) (bs : List ℕ) → P s → InLine (line s b bs)) → (s : S) (bs : List ℕ) → P s → InWhole (lines line s bs)
+  unfolding lines
+  to-the-end line f s bs x = with-fuel line f (length bs) s bs x

@@ -8,7 +8,7 @@ use Rattle.evaluation.specs.declared.real.Real.{Real}
 use Rattle.calls.specs.declared.Evaluated.{Evaluated}
 use Rattle.calls.specs.declared.Simplified.{Simplified}
 use Rattle.calls.specs.Lent.{Work}
-use Rattle.calls.specs.Frame.{Evaluates, Substitutes, ReadsReal, Simplifies, Compiles, Plays}
+use Rattle.calls.specs.Promises.{Evaluates, Substitutes, ReadsReal, Simplifies, Compiles, Plays}
 
 pub one-evaluated : (list values : List ℕ) (w : Work) {r r′ : Evaluated} {w₁ w₂ : Work}
     → Evaluates list values w r w₁ → Evaluates list values w r′ w₂ → _≡_ {A = Evaluated × Work} (r, w₁) (r′, w₂)

@@ -4,7 +4,6 @@ use mathlib.Core.Bool.{Bool, true, false, cond, _&&_}
 use mathlib.Core.List.{List, [], _∷_}
 use Prim.Native.Nat.{ℕ, _+_, _≤_, _<_}
 use native.Mathlib.Omega.{arith}
-use borrow.Author.Tests.{leb-true}
 use lib.Dec.{ltb, eqb}
 use lib.ListN.{length}
 use Rattle.expression.specs.declared.refusal.Refusal.{Refusal}
@@ -12,7 +11,7 @@ use Rattle.expression.specs.Trees.{Tree, size, depth}
 use Rattle.expression.specs.Limits.{Limited, Proper, largest, deepest}
 use Rattle.text.specs.Reading.{Read, is, bad}
 use Rattle.text.specs.Lines as Lines
-use Rattle.text.specs.Lines.{Line, Whole, lines}
+use Rattle.text.specs.Lines.{Line, Whole, lines, none, aboveLast}
 use Rattle.store.specs.Storing as Storing
 use Rattle.store.specs.Storing.{nothing, State, state, Answer, gives, among, intern, recall, fresh}
 use Rattle.store.specs.Memory.{room, trees}
@@ -23,7 +22,7 @@ use Rattle.store.proofs.Building.{seen-node}
 use Rattle.store.proofs.Stored.{stored as stored-in, limited, proper}
 use Rattle.writing.specs.declared.Written.{Written}
 use Rattle.listing.specs.Listings as Listings
-use Rattle.listing.specs.Listings.{Listing, Swap, accepted, Known, known, none, stored, formed, mostNodes, mostSwaps, nodeLine, above, swapFields, swapped, swapLine, listingLine, rooted, whole, listing}
+use Rattle.listing.specs.Listings.{Listing, Swap, accepted, Known, known, stored, formed, mostNodes, mostSwaps, nodeLine, swapFields, swapped, swapLine, listingLine, rooted, whole, listing, aboveVariable}
 use Rattle.node_lines.specs.NodeLines.{nodeFields}
 use Rattle.writing.specs.Order.{order, textOf}
 use Rattle.writing.proofs.Fits.{written-reads-back}
@@ -31,12 +30,12 @@ use Rattle.sheet.specs.Rows.{Rows, sheet}
 use Rattle.tasks.specs.Tasks.{isAllowed}
 use Rattle.simplification.specs.Bounds.{mostCalls}
 use Rattle.simplification.specs.Simplifying.{simplify}
-use Rattle.simplification.proofs.Counting.{count, Below, bounded, bound-to-ten}
+use Rattle.simplification.proofs.Counting.{count, Below, bounded, bound-at-ten}
 use Rattle.calls.specs.declared.Simplified.{Simplified}
 use Rattle.calls.specs.Lent.{Work, capacity}
 use Rattle.calls.specs.Calls as Calls
 use Rattle.calls.specs.Calls.{Job, ready, afterListing, withSheet, job, writtenAnswer, withCalls, callsIn, simplifyJob, simplifyCall}
-use Rattle.calls.specs.Frame.{Simplifies}
+use Rattle.calls.specs.Promises.{Simplifies}
 use Rattle.calls.proofs.Lining.{InLine, InWhole, to-the-end}
 
 -- ---- a store into which a listing was read: nothing is counted, and nothing kept
@@ -81,7 +80,7 @@ formed-fresh k (is t rest) f = stored-fresh k rest (intern t (k .store)) (stores
 swapped-fresh : (substituting : Bool) (k : Known) (r : Read Swap) → Fresh (k .store) → InLine FreshKnown (swapped substituting k r)
 unfolding swapped InLine FreshKnown
 swapped-fresh substituting k bad f = tt
-swapped-fresh substituting k (is s rest) f = line-either (substituting && above (k .swaps) s) _ _ f tt
+swapped-fresh substituting k (is s rest) f = line-either (substituting && aboveLast aboveVariable (k .swaps) s) _ _ f tt
 
 line-fresh : (substituting : Bool) (k : Known) (first : ℕ) (bs : List ℕ) → FreshKnown k → InLine FreshKnown (listingLine substituting k first bs)
 unfolding listingLine swapLine nodeLine InLine FreshKnown
@@ -111,8 +110,8 @@ fresh-is room = record { uncounted = refl; unkept = λ t. refl }
 listing-fresh : (substituting : Bool) (bs : List ℕ) (room : ℕ) → FreshListing (listing substituting bs (fresh room 0))
 unfolding listing FreshKnown
 listing-fresh substituting bs room =
-    whole-fresh (lines (listingLine substituting) 1281 (known [] [] (fresh room 0)) bs)
-    (to-the-end FreshKnown (listingLine substituting) (line-fresh substituting) 1281 (known [] [] (fresh room 0)) bs (fresh-is room))
+    whole-fresh (lines (listingLine substituting) (known [] [] (fresh room 0)) bs)
+    (to-the-end FreshKnown (listingLine substituting) (line-fresh substituting) (known [] [] (fresh room 0)) bs (fresh-is room))
 
 unfoldable pub FreshJob : Job → Type 0
 FreshJob (ready root store rows) = Fresh store
@@ -133,37 +132,44 @@ job-fresh room list values = go (listing false list (fresh room 0)) (listing-fre
 
 -- ---- the count
 
-unfoldable pub Within : Simplified → Type 0
-Within (Simplified.Bytes bytes calls) = calls ≤ 244531
-Within (Simplified.Refused why) = Unit {0}
+unfoldable pub Within : (most : ℕ) → Simplified → Type 0
+Within most (Simplified.Bytes bytes calls) = calls ≤ most
+Within most (Simplified.Refused why) = Unit {0}
 
-answer-within : (n : ℕ) (a : Answer) (w : Written) → n ≤ 244531 → Below n a → Within (withCalls (callsIn a) w)
+answer-within : (n : ℕ) (a : Answer) (w : Written) → Below n a → Within n (withCalls (callsIn a) w)
 unfolding withCalls callsIn Below count Within
-answer-within n (gives t (state room ts kept calls)) (Written.Bytes bytes) l b = omega (arith, l, b)
-answer-within n (gives t (state room ts kept calls)) (Written.Refused why) l b = tt
-answer-within n (Storing.refused why s) (Written.Bytes bytes) l b = omega arith
-answer-within n (Storing.refused why s) (Written.Refused why′) l b = tt
+answer-within n (gives t (state room ts kept calls)) (Written.Bytes bytes) b = b
+answer-within n (gives t (state room ts kept calls)) (Written.Refused why) b = tt
+answer-within n (Storing.refused why s) (Written.Bytes bytes) b = omega arith
+answer-within n (Storing.refused why s) (Written.Refused why′) b = tt
 
-job-within : (limit : ℕ) (out : List ℕ) (j : Job) → limit ≤ 10 → FreshJob j → Within (simplifyJob limit out j .0)
+job-within : (limit : ℕ) (out : List ℕ) (j : Job) → FreshJob j → Within (mostCalls limit) (simplifyJob limit out j .0)
 unfolding simplifyJob FreshJob Within
-job-within limit out (Calls.refused why) l f = tt
-job-within limit out (ready root store rows) l f =
+job-within limit out (Calls.refused why) f = tt
+job-within limit out (ready root store rows) f =
     let a = simplify rows limit root store in
-    answer-within (count store + mostCalls limit) a (writtenAnswer out a .0) (omega (arith, f .uncounted, bound-to-ten limit l)) (bounded rows limit root store)
+    let b : Below (count store + mostCalls limit) a = bounded rows limit root store in
+    let z : count store + mostCalls limit ≡ mostCalls limit = omega (arith, f .uncounted) in
+    answer-within (mostCalls limit) a (writtenAnswer out a .0) (rw z at b)
 
--- "It is at most 244,531 at limit 10": so for every call
-pub calls-within : (room limit : ℕ) (list values out : List ℕ) → Within (simplifyCall room limit list values out .0)
-unfolding simplifyCall isAllowed Within
-calls-within room limit list values out = go (isAllowed limit) λ e. leb-true limit 10 e
+-- the bound of the limit: "1 at limit 0; else 1 plus twice the bound at 1 less plus four times the bound at 2 less, stopping at 0"
+pub calls-within : (room limit : ℕ) (list values out : List ℕ) → Within (mostCalls limit) (simplifyCall room limit list values out .0)
+unfolding simplifyCall Within
+calls-within room limit list values out = go (isAllowed limit)
   where
-    go : (b : Bool) → (b ≡ true → limit ≤ 10) → Within (cond b (simplifyJob limit out (job room list values)) (Simplified.Refused Refusal.BadLimit, out) .0)
-    go true l = job-within limit out (job room list values) (l refl) (job-fresh room list values)
-    go false l = tt
+    go : (b : Bool) → Within (mostCalls limit) (cond b (simplifyJob limit out (job room list values)) (Simplified.Refused Refusal.BadLimit, out) .0)
+    go true = job-within limit out (job room list values) (job-fresh room list values)
+    go false = tt
 
 pub at-most : (limit : ℕ) (list values out : List ℕ) (w : Work) {bytes calls : ℕ} {out′ : List ℕ} {w′ : Work}
-    → Simplifies limit list values out w (Simplified.Bytes bytes calls) out′ w′ → calls ≤ 244531
+    → Simplifies limit list values out w (Simplified.Bytes bytes calls) out′ w′ → calls ≤ mostCalls limit
 unfolding Within
-at-most limit list values out w p = subst Within (sym (ap (λ x. x .0 .0) p)) (calls-within (capacity w) limit list values out)
+at-most limit list values out w p = subst (Within (mostCalls limit)) (sym (ap (λ x. x .0 .0) p)) (calls-within (capacity w) limit list values out)
+
+-- "It is at most 244,531 at limit 10"
+pub at-most-at-ten : (list values out : List ℕ) (w : Work) {bytes calls : ℕ} {out′ : List ℕ} {w′ : Work}
+    → Simplifies 10 list values out w (Simplified.Bytes bytes calls) out′ w′ → calls ≤ 244531
+at-most-at-ten list values out w p = omega (arith, at-most 10 list values out w p, bound-at-ten)
 
 -- ---- the result
 

@@ -10,7 +10,8 @@ use lib.Ieee.{Float, fin, binary64, up, down, hid, top, size, eq, toBits, ofBits
 use lib.Ieee.Fits.{down-pos, eq→eqb}
 use lib.Ieee.Nearest.{div-same}
 use Rattle.complex.specs.Bits.{bitsOf, doubleOf}
-use Rattle.complex.specs.Equality.{identicalDoubles, equalDoubles, classOf, classOfBits}
+use Rattle.complex.specs.Equality.{identicalDoubles, equalDoubles}
+use Rattle.complex.specs.Classes.{classOf, classOfBits}
 use Rattle.complex.specs.Zero.{magnitude}
 use Rattle.complex.proofs.Doubles.{double-back, same-bits}
 use Rattle.complex.proofs.Tests.{one-truth}

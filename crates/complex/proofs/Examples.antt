@@ -10,7 +10,8 @@ use Rattle.complex.specs.declared.Complex.{Complex}
 use Rattle.complex.specs.Arithmetic.{times, over, negated}
 use Rattle.complex.specs.Bits.{bitsOf, doubleOf}
 use Rattle.complex.specs.Constants.{ofParts, zeroNumber, oneNumber, twoNumber, minusOneNumber, piNumber, nanNumber}
-use Rattle.complex.specs.Equality.{identicalDoubles, equalDoubles, classOf, classOfBits}
+use Rattle.complex.specs.Equality.{identicalDoubles, equalDoubles}
+use Rattle.complex.specs.Classes.{classOf, classOfBits}
 use Rattle.complex.specs.Zero.{magnitude, threshold, squaresBelow, isZero, isOne}
 
 -- both parts of a number have these bits

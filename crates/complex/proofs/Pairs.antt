@@ -11,7 +11,8 @@ use Rattle.complex.specs.declared.Complex.{Complex}
 use Rattle.complex.specs.Arithmetic.{_⊕_, _⊖_, _⊗_, plus, minus, times, over, negated}
 use Rattle.complex.specs.Bits.{bitsOf, Canonical, Fitting}
 use Rattle.complex.specs.Constants.{ofParts}
-use Rattle.complex.specs.Equality.{identicalDoubles, equalDoubles, identical, equal, classOf}
+use Rattle.complex.specs.Equality.{identicalDoubles, equalDoubles, identical, equal}
+use Rattle.complex.specs.Classes.{classOf}
 use Rattle.complex.proofs.Alike as Alike
 use Rattle.complex.proofs.Doubles.{bits-back, same-bits}
 use Rattle.complex.proofs.Classes.{equal-is-same-class, identical-equal}

@@ -1,6 +1,5 @@
--- Identical and equal, for doubles and for complex numbers, and one number for each class of equal doubles. Definitions only.
-use Prim.Native.Nat.{ℕ}
-use mathlib.Core.Bool.{Bool, cond, _&&_, _||_}
+-- Identical and equal, for doubles and for complex numbers. Definitions only.
+use mathlib.Core.Bool.{Bool, _&&_, _||_}
 use lib.Dec.{eqb}
 use lib.Ieee as Ieee
 use lib.Ieee.{Float}
@@ -21,10 +20,3 @@ identical x y = identicalDoubles (x .re) (y .re) && identicalDoubles (x .im) (y 
 
 unfoldable pub equal : Complex → Complex → Bool
 equal x y = equalDoubles (x .re) (y .re) && equalDoubles (x .im) (y .im)
-
--- a double's bits, but those of 0 for -0: equal doubles, and no others, have the same (proofs/Classes.antt, `equal-is-same-class`)
-unfoldable pub classOfBits : ℕ → ℕ
-classOfBits b = cond (eqb b 0x8000_0000_0000_0000) 0 b
-
-unfoldable pub classOf : Float → ℕ
-classOf x = classOfBits (bitsOf x)

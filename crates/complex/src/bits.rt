@@ -3,7 +3,7 @@
 ghost use mathlib.Core.Path.{_≡_};
 ghost use Prim.Native.Nat.{_%_, _^_};
 ghost use Rattle.complex.specs.Bits.{bitsOf, doubleOf};
-ghost use Rattle.complex.specs.Equality.{classOf, classOfBits};
+ghost use Rattle.complex.specs.Classes.{classOf, classOfBits};
 
 // Where bits without the sign pass the infinity's they are a NaN's.
 const INFINITY_BITS: u64 = 0x7FF0_0000_0000_0000;

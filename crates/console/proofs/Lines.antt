@@ -17,7 +17,8 @@ use Rattle.expression.specs.declared.refusal.Refusal.{Refusal}
 use Rattle.expression.proofs.refusal.Refusal.{the-type}
 use Rattle.expression.specs.Refusals.{numberOf, placeOf}
 use Rattle.expression.proofs.Carrying.{others, is-placed}
-use Rattle.text.specs.Writing.{inDecimal, inHex, line, Put}
+use Rattle.text.specs.Writing.{inDecimal, inHex, line}
+use Rattle.text.specs.Put.{Put}
 use Rattle.text.proofs.Putting.{hex-length, few-digits, put-length}
 use Rattle.spelling.specs.Names.{functionName, operationName}
 use Rattle.console.specs.Answers.{valueLine, realLine, refusedLine, needLine, carriedLine, refusalLine}

@@ -10,7 +10,8 @@ use lib.ListN.{length, set, getD, take, drop, drop-of-length-le, length-append, 
 use lib.Seq.{take-suc, take-all, take-suc-set, length-take-le}
 use borrow.Author.Tests.{lt-ltb, le-ltb, eq-eqb, ne-eqb}
 use Rattle.text.specs.Reading.{Read, is, bad, then, ended, digitOf, hexFrom}
-use Rattle.text.specs.Writing.{byteOf, Put}
+use Rattle.text.specs.Writing.{byteOf}
+use Rattle.text.specs.Put.{Put}
 use Rattle.text.proofs.Putting.{put-none, put-then, put-byte}
 use Rattle.text.proofs.Running.{here, ended-bad}
 use Rattle.text.proofs.Only.{ended-only, byte-digit}

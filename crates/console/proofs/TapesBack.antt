@@ -72,7 +72,7 @@ over-digit : (d : ℕ) (l : List ℕ) → nextLine (byteOf d ∷ l) ≡ nextLine
 unfolding nextLine byteOf
 over-digit d l = elim (decLt d 10) [
   | yes lt ↦ rw (lt-ltb d 10 lt, ne-eqb (48 + d) 10 (λ e. omega arith))
-  | no ge ↦ rw (le-ltb d 10 (omega arith), ne-eqb (55 + d) 10 (λ e. omega arith))
+  | no ge ↦ rw (le-ltb d 10 (omega arith), ne-eqb (65 + (d - 10)) 10 (λ e. omega arith))
 ]
 
 over-stop : (stop : ℕ) (l : List ℕ) → stop < 10 → nextLine (stopping stop ++ l) ≡ nextLine l

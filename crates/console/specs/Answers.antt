@@ -7,25 +7,26 @@ use Rattle.complex.specs.Bits.{bitsOf}
 use Rattle.expression.specs.declared.refusal.Operation.{Operation}
 use Rattle.expression.specs.declared.refusal.Refusal.{Refusal}
 use Rattle.expression.specs.Refusals.{numberOf, Carried, place, lacking, carries}
+use Rattle.text.specs.Letters.{bytes}
 use Rattle.text.specs.Writing.{inDecimal, inHex, line}
 use Rattle.spelling.specs.Names.{operationName}
 
 -- `value`, and the two parts
 unfoldable pub valueLine : Complex → List ℕ
-valueLine z = line ((118 ∷ 97 ∷ 108 ∷ 117 ∷ 101 ∷ []) ∷ inHex (bitsOf (z .re)) ∷ inHex (bitsOf (z .im)) ∷ [])
+valueLine z = line (bytes "value" ∷ inHex (bitsOf (z .re)) ∷ inHex (bitsOf (z .im)) ∷ [])
 
 -- `real`, and the number
 unfoldable pub realLine : Float → List ℕ
-realLine x = line ((114 ∷ 101 ∷ 97 ∷ 108 ∷ []) ∷ inHex (bitsOf x) ∷ [])
+realLine x = line (bytes "real" ∷ inHex (bitsOf x) ∷ [])
 
 -- "`refused·number·place`"
 unfoldable pub refusedLine : (number at : ℕ) → List ℕ
-refusedLine number at = line ((114 ∷ 101 ∷ 102 ∷ 117 ∷ 115 ∷ 101 ∷ 100 ∷ []) ∷ inDecimal number ∷ inDecimal at ∷ [])
+refusedLine number at = line (bytes "refused" ∷ inDecimal number ∷ inDecimal at ∷ [])
 
 -- "`need·name` and four operand fields"
 unfoldable pub needLine : Operation → (x y : Complex) → List ℕ
 needLine operation x y =
-    line ((110 ∷ 101 ∷ 101 ∷ 100 ∷ []) ∷ operationName operation ∷ inHex (bitsOf (x .re)) ∷ inHex (bitsOf (x .im)) ∷ inHex (bitsOf (y .re)) ∷ inHex (bitsOf (y .im)) ∷ [])
+    line (bytes "need" ∷ operationName operation ∷ inHex (bitsOf (x .re)) ∷ inHex (bitsOf (x .im)) ∷ inHex (bitsOf (y .re)) ∷ inHex (bitsOf (y .im)) ∷ [])
 
 unfoldable pub carriedLine : (number : ℕ) → Carried → List ℕ
 carriedLine number (place k) = refusedLine number k

@@ -4,10 +4,11 @@ use Prim.Native.Nat.{ℕ, _<_}
 use mathlib.Core.List.{List, _∷_}
 use lib.ListN.{length, getD}
 use Rattle.io.specs.Counts.{Counts}
+use Rattle.text.specs.Reading.{lf}
 
 -- at this place of a text stands a line feed that is a line by itself: the first byte, or one that follows on a line feed
 abbrev pub EmptyLine : (text : List ℕ) (place : ℕ) → Type 0
-EmptyLine text place = (getD (10 ∷ text) place 0 ≡ 10) × (getD text place 0 ≡ 10)
+EmptyLine text place = (getD (lf ∷ text) place 0 ≡ lf) × (getD text place 0 ≡ lf)
 
 -- a listing of n bytes: no empty line begins in it, and one follows unless the text ends there
 pub record Parted (text : List ℕ) (n : ℕ) : Type 0 where

@@ -4,13 +4,13 @@ use mathlib.Core.List.{List, [], _∷_, _++_}
 use mathlib.Core.Bool.{cond}
 use lib.ListN.{getD, replicate}
 use lib.Dec.{eqb}
-use Rattle.text.specs.Reading.{Read, is, bad, then, lf, ended, hexFrom}
+use Rattle.text.specs.Reading.{Read, is, bad, then, tab, lf, ended, hexFrom}
 use Rattle.text.specs.Writing.{byteOf}
 
 -- What stands after byte k of a step, 0 to 23, if anything: a tab after the opcode, the sub, the u16, the u32 and the real bits, and the line feed
 -- after the imaginary bits. 0 says that nothing does.
 abbrev pub stops : List ℕ
-stops = 9 ∷ 9 ∷ 0 ∷ 9 ∷ 0 ∷ 0 ∷ 0 ∷ 9 ∷ 0 ∷ 0 ∷ 0 ∷ 0 ∷ 0 ∷ 0 ∷ 0 ∷ 9 ∷ 0 ∷ 0 ∷ 0 ∷ 0 ∷ 0 ∷ 0 ∷ 0 ∷ 10 ∷ []
+stops = tab ∷ tab ∷ 0 ∷ tab ∷ 0 ∷ 0 ∷ 0 ∷ tab ∷ 0 ∷ 0 ∷ 0 ∷ 0 ∷ 0 ∷ 0 ∷ 0 ∷ tab ∷ 0 ∷ 0 ∷ 0 ∷ 0 ∷ 0 ∷ 0 ∷ 0 ∷ lf ∷ []
 
 unfoldable pub stopAfter : (k : ℕ) → ℕ
 stopAfter k = getD stops k 0

@@ -4,8 +4,8 @@ ghost use Prim.Native.Nat.{_+_, _*_, _<_, _≤_};
 ghost use mathlib.Core.List.{[]};
 ghost use lib.ListN.{length, drop};
 ghost use Rattle.io.specs.Counts.{Counts};
-ghost use Rattle.text.specs.Seen.{seen};
-ghost use Rattle.text.specs.Writing.{Put};
+ghost use Rattle.text.specs.Seen.{Reads};
+ghost use Rattle.text.specs.Put.{Put};
 ghost use Rattle.console.specs.TapeText.{stopAfter, inDigits, inLines, byteFrom, stepFrom, orZeros, nextLine, tapeIn};
 use text::reading::Number;
 use text::reading::byte_at;
@@ -62,7 +62,7 @@ pub fn write_tape(out: &mut [u8], tape: &[u8]) -> usize
 }
 
 fn read_byte(s: &[u8], at: usize, stop: u8) -> Number
-    ensures { λ r. ⌜ seen (now (s .entry)) r ≡ byteFrom stop (drop at (now (s .entry))) ⌝ }
+    ensures { λ r. ⌜ Reads (byteFrom stop (drop at (now (s .entry)))) (now (s .entry)) r ⌝ }
 {
     let high = digit(byte_at(s, at));
     if 15 < high {

@@ -22,7 +22,7 @@ use Rattle.tape.specs.Tapes.{picked, partOf}
 use Rattle.calls.specs.declared.Evaluated.{Evaluated}
 use Rattle.calls.specs.declared.Simplified.{Simplified}
 use Rattle.calls.specs.Lent.{Work}
-use Rattle.calls.specs.Frame as Frame
+use Rattle.calls.specs.Promises as Calls
 use Rattle.exports.specs.Words.{words, carriedWords, refusalWords, evaluatedWords, realWords, writtenWords, simplifiedWords, firstWord, Answered, Evaluates, Substitutes, ReadsReal, Simplifies, Compiles, Plays, Picks, whichNumber}
 
 -- all six are written
@@ -72,29 +72,29 @@ has-real told p a = known-as ((λ i. words 0 0 (p i) 0 0 0) ∙ ap realWords (sy
 
 -- ---- the calls
 
-pub evaluates : {list values : List ℕ} {w w′ : Work} {e : Evaluated} {r : ℕ} {answer : List ℕ} → Frame.Evaluates list values w e w′
+pub evaluates : {list values : List ℕ} {w w′ : Work} {e : Evaluated} {r : ℕ} {answer : List ℕ} → Calls.Evaluates list values w e w′
     → Answered (evaluatedWords e) r answer → Evaluates list values w r answer w′
 evaluates p a = record { answered = known-as (ap (λ x. evaluatedWords (x .0)) p) a; left = ap (λ x. x .1) p }
 
-pub substitutes : {list out : List ℕ} {w w′ : Work} {e : Written} {r : ℕ} {answer out′ : List ℕ} → Frame.Substitutes list out w e out′ w′
+pub substitutes : {list out : List ℕ} {w w′ : Work} {e : Written} {r : ℕ} {answer out′ : List ℕ} → Calls.Substitutes list out w e out′ w′
     → Answered (writtenWords e) r answer → Substitutes list out w r answer out′ w′
 substitutes p a = record { answered = known-as (ap (λ x. writtenWords (x .0 .0)) p) a; output = ap (λ x. x .0 .1) p; left = ap (λ x. x .1) p }
 
-pub reads-real : {list : List ℕ} {w w′ : Work} {e : Real} {r : ℕ} {answer : List ℕ} → Frame.ReadsReal list w e w′
+pub reads-real : {list : List ℕ} {w w′ : Work} {e : Real} {r : ℕ} {answer : List ℕ} → Calls.ReadsReal list w e w′
     → Answered (realWords e) r answer → ReadsReal list w r answer w′
 reads-real p a = record { answered = known-as (ap (λ x. realWords (x .0)) p) a; left = ap (λ x. x .1) p }
 
-pub simplifies : {limit : ℕ} {list values out : List ℕ} {w w′ : Work} {e : Simplified} {r : ℕ} {answer out′ : List ℕ} → Frame.Simplifies limit list values out w e out′ w′
+pub simplifies : {limit : ℕ} {list values out : List ℕ} {w w′ : Work} {e : Simplified} {r : ℕ} {answer out′ : List ℕ} → Calls.Simplifies limit list values out w e out′ w′
     → Answered (simplifiedWords e) r answer → Simplifies limit list values out w r answer out′ w′
 simplifies p a = record { answered = known-as (ap (λ x. simplifiedWords (x .0 .0)) p) a; output = ap (λ x. x .0 .1) p; left = ap (λ x. x .1) p }
 
 -- ---- tapes
 
-pub compiles : {list out : List ℕ} {w w′ : Work} {e : Written} {r : ℕ} {answer out′ : List ℕ} → Frame.Compiles list out w e out′ w′
+pub compiles : {list out : List ℕ} {w w′ : Work} {e : Written} {r : ℕ} {answer out′ : List ℕ} → Calls.Compiles list out w e out′ w′
     → Answered (writtenWords e) r answer → Compiles list out w r answer out′ w′
 compiles p a = record { answered = known-as (ap (λ x. writtenWords (x .0 .0)) p) a; output = ap (λ x. x .0 .1) p; left = ap (λ x. x .1) p }
 
-pub plays : {tape values table table′ : List ℕ} {e : Evaluated} {r : ℕ} {answer : List ℕ} → Frame.Plays tape values table e table′
+pub plays : {tape values table table′ : List ℕ} {e : Evaluated} {r : ℕ} {answer : List ℕ} → Calls.Plays tape values table e table′
     → Answered (evaluatedWords e) r answer → Plays tape values table r answer table′
 plays p a = record { answered = known-as (ap (λ x. evaluatedWords (x .0)) p) a; left = ap (λ x. x .1) p }
 

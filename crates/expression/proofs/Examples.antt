@@ -11,7 +11,7 @@ use Rattle.expression.specs.declared.PrefixOperator.{PrefixOperator}
 use Rattle.expression.specs.declared.ExpressionFunction.{ExpressionFunction}
 use Rattle.expression.specs.declared.refusal.Operation.{Operation}
 use Rattle.expression.specs.declared.refusal.Refusal.{Refusal}
-use Rattle.expression.specs.Trees.{Tree, leaf, number, pi, variable, cell, functionCall, prefixed, infixed, measure, size, depth}
+use Rattle.expression.specs.Trees.{Tree, leaf, number, pi, variable, cell, functionCall, prefixed, infixed, size, depth}
 use Rattle.expression.specs.Alike.{alike, alikeLeaves, identical, equal}
 use Rattle.expression.specs.Refusals.{numberOf, placeOf}
 
@@ -41,7 +41,7 @@ sizes : T (all
     ∷ eqb (size turned) 5
     ∷ eqb (depth turned) 4
     ∷ []))
-unfolding all a b neighbour turned measure
+unfolding all a b neighbour turned size depth
 sizes = tt
 
 zero : Tree

@@ -1,6 +1,6 @@
 -- The laws of `alike`, once for identical and for equal trees: it is an equivalence if the comparison of numbers is one, a finer comparison
 -- of numbers gives a finer one of trees, and trees that are alike have the same size and depth. Assumes nothing.
-use mathlib.Core.Path.{_≡_, refl, ap, subst}
+use mathlib.Core.Path.{_≡_, refl, sym, ap, subst, _∙_}
 use mathlib.Core.Bool.{Bool, _&&_}
 use Prim.Native.Nat.{ℕ, _+_, max}
 use lib.Dec.{T, eqb, eqb→eq, eqb-refl}
@@ -13,7 +13,9 @@ use Rattle.expression.specs.declared.InfixOperator.{InfixOperator}
 use Rattle.expression.specs.declared.PrefixOperator.{PrefixOperator}
 use Rattle.expression.specs.declared.ExpressionFunction.{ExpressionFunction}
 use Rattle.expression.specs.Codes.{infixCode, prefixCode, functionCode}
-use Rattle.expression.specs.Trees.{Leaf, number, pi, variable, cell, Tree, leaf, functionCall, prefixed, infixed, measure, size, depth}
+use Rattle.expression.specs.Trees.{Leaf, number, pi, variable, cell, Tree, leaf, functionCall, prefixed, infixed, size, depth}
+use Rattle.expression.specs.Nodes.{measure}
+use Rattle.expression.proofs.Sizes.{size-is, depth-is}
 use Rattle.expression.specs.Alike.{alike, alikeLeaves, identical, equal}
 use Rattle.expression.specs.Limits.{Proper}
 use Rattle.expression.proofs.Numbering.{same-infix, same-prefix, same-function}
@@ -168,10 +170,10 @@ pub equal-trans : (s t u : Tree) → T (equal s t) → T (equal t u) → T (equa
 equal-trans = alike-trans Numbers.equal Pairs.equal-trans
 
 pub equal-size : (s t : Tree) → T (equal s t) → size s ≡ size t
-equal-size s t h = like-measure _+_ (like-of Numbers.equal s t h)
+equal-size s t h = size-is s ∙ like-measure _+_ (like-of Numbers.equal s t h) ∙ sym (size-is t)
 
 pub equal-depth : (s t : Tree) → T (equal s t) → depth s ≡ depth t
-equal-depth s t h = like-measure max (like-of Numbers.equal s t h)
+equal-depth s t h = depth-is s ∙ like-measure max (like-of Numbers.equal s t h) ∙ sym (depth-is t)
 
 -- equal trees pass the same tests of equality
 pub equal-tests : (s t : Tree) → T (equal s t) → (u : Tree) → equal s u ≡ equal t u

@@ -1,35 +1,34 @@
 -- Operators and functions by number: there and back, and so the same number is the same operator. Assumes nothing.
 use mathlib.Core.Path.{_≡_, refl, sym, ap, _∙_}
-use Prim.Native.Nat.{ℕ, zero, suc, _≤_}
+use Prim.Native.Nat.{ℕ, _≤_}
+use mathlib.Core.List.{List, [], _∷_}
 use native.Mathlib.Omega.{arith}
+use native.Mathlib.Decide.{ℕ-discrete}
+use borrow.Author.Tests.{eq-eqb, ne-eqb}
 use Rattle.expression.specs.declared.InfixOperator.{InfixOperator}
 use Rattle.expression.specs.declared.PrefixOperator.{PrefixOperator}
 use Rattle.expression.specs.declared.ExpressionFunction.{ExpressionFunction}
 use Rattle.expression.specs.declared.refusal.Operation.{Operation}
-use Rattle.expression.specs.Codes.{infixCode, prefixCode, functionCode, operationCode, ofFive, infixOf, prefixOf, functionOf, operationOf}
+use Rattle.expression.specs.Codes.{infixCode, prefixCode, functionCode, operationCode, numbered, infixOf, prefixOf, functionOf, operationOf}
 
-pub other : {A : Type 0} (a b c d e : A) (k : ℕ) → (k ≡ 1 → ⊥) → (k ≡ 2 → ⊥) → (k ≡ 3 → ⊥) → (k ≡ 4 → ⊥) → e ≡ ofFive a b c d e k
-unfolding ofFive
-other a b c d e zero p q r s = refl
-other a b c d e (suc zero) p q r s = absurd (p refl)
-other a b c d e (suc (suc zero)) p q r s = absurd (q refl)
-other a b c d e (suc (suc (suc zero))) p q r s = absurd (r refl)
-other a b c d e (suc (suc (suc (suc zero)))) p q r s = absurd (s refl)
-other a b c d e (suc (suc (suc (suc (suc k))))) p q r s = refl
+-- a number that is none of these
+abbrev pub Missed : {A : Type 0} → (code : A → ℕ) → List A → ℕ → Type 0
+Missed code [] k = Unit {0}
+Missed code (x ∷ xs) k = (k ≡ code x → ⊥) × Missed code xs k
 
-pub not-first : {A : Type 0} (a b : A) (k : ℕ) → (k ≡ 1 → ⊥) → b ≡ ofFive a b b b b k
-unfolding ofFive
-not-first a b zero p = refl
-not-first a b (suc zero) p = absurd (p refl)
-not-first a b (suc (suc zero)) p = refl
-not-first a b (suc (suc (suc zero))) p = refl
-not-first a b (suc (suc (suc (suc zero)))) p = refl
-not-first a b (suc (suc (suc (suc (suc k))))) p = refl
+-- what has a number has that number, if the last has it where the others have not
+pub found-back : {A : Type 0} (code : A → ℕ) (xs : List A) (last : A) (k : ℕ) → (Missed code xs k → code last ≡ k) → code (numbered code xs last k) ≡ k
+unfolding numbered
+found-back code [] last k h = h tt
+found-back code (x ∷ xs) last k h = elim (ℕ-discrete k (code x)) [
+  | yes e ↦ rw (eq-eqb k (code x) e) (sym e)
+  | no p ↦ rw (ne-eqb k (code x) p) (found-back code xs last k λ m. h (p, m))
+]
 
 -- ---- a number of each, and each by its number
 
 pub infix-back : (o : InfixOperator) → infixOf (infixCode o) ≡ o
-unfolding ofFive
+unfolding numbered
 infix-back InfixOperator.Plus = refl
 infix-back InfixOperator.Minus = refl
 infix-back InfixOperator.Star = refl
@@ -37,12 +36,12 @@ infix-back InfixOperator.Slash = refl
 infix-back InfixOperator.Caret = refl
 
 pub prefix-back : (o : PrefixOperator) → prefixOf (prefixCode o) ≡ o
-unfolding ofFive
+unfolding numbered
 prefix-back PrefixOperator.Plus = refl
 prefix-back PrefixOperator.Minus = refl
 
 pub function-back : (f : ExpressionFunction) → functionOf (functionCode f) ≡ f
-unfolding ofFive
+unfolding numbered
 function-back ExpressionFunction.Sine = refl
 function-back ExpressionFunction.Cosine = refl
 function-back ExpressionFunction.Exponent = refl
@@ -50,7 +49,7 @@ function-back ExpressionFunction.SquareRoot = refl
 function-back ExpressionFunction.Cis = refl
 
 pub operation-back : (o : Operation) → operationOf (operationCode o) ≡ o
-unfolding ofFive
+unfolding numbered
 operation-back Operation.Sine = refl
 operation-back Operation.Cosine = refl
 operation-back Operation.Exponent = refl
@@ -97,30 +96,14 @@ operation-known Operation.Exponent = record { least = omega arith; most = omega 
 operation-known Operation.SquareRoot = record { least = omega arith; most = omega arith }
 operation-known Operation.Power = record { least = omega arith; most = omega arith }
 
--- what a function gives at each of five, it gives at each known number
-of-five : {A : Type 0} (f : A → ℕ) (a b c d e : A) → f a ≡ 1 → f b ≡ 2 → f c ≡ 3 → f d ≡ 4 → f e ≡ 5
-    → (k : ℕ) → Known 5 k → f (ofFive a b c d e k) ≡ k
-unfolding ofFive
-of-five f a b c d e p q r s t zero h = absurd (omega (arith, h .least))
-of-five f a b c d e p q r s t (suc zero) h = p
-of-five f a b c d e p q r s t (suc (suc zero)) h = q
-of-five f a b c d e p q r s t (suc (suc (suc zero))) h = r
-of-five f a b c d e p q r s t (suc (suc (suc (suc zero)))) h = s
-of-five f a b c d e p q r s t (suc (suc (suc (suc (suc zero))))) h = t
-of-five f a b c d e p q r s t (suc (suc (suc (suc (suc (suc k)))))) h = absurd (omega (arith, h .most))
-
 pub infix-code-back : (k : ℕ) → Known 5 k → infixCode (infixOf k) ≡ k
-infix-code-back = of-five infixCode _ _ _ _ _ refl refl refl refl refl
+infix-code-back k h = found-back infixCode _ _ k λ m. omega (arith, h .least, h .most, m .0, m .1 .0, m .1 .1 .0, m .1 .1 .1 .0)
 
 pub operation-code-back : (k : ℕ) → Known 5 k → operationCode (operationOf k) ≡ k
-operation-code-back = of-five operationCode _ _ _ _ _ refl refl refl refl refl
+operation-code-back k h = found-back operationCode _ _ k λ m. omega (arith, h .least, h .most, m .0, m .1 .0, m .1 .1 .0, m .1 .1 .1 .0)
 
 pub function-code-back : (k : ℕ) → Known 5 k → functionCode (functionOf k) ≡ k
-function-code-back = of-five functionCode _ _ _ _ _ refl refl refl refl refl
+function-code-back k h = found-back functionCode _ _ k λ m. omega (arith, h .least, h .most, m .0, m .1 .0, m .1 .1 .0, m .1 .1 .1 .0)
 
 pub prefix-code-back : (k : ℕ) → Known 2 k → prefixCode (prefixOf k) ≡ k
-unfolding ofFive
-prefix-code-back zero h = absurd (omega (arith, h .least))
-prefix-code-back (suc zero) h = refl
-prefix-code-back (suc (suc zero)) h = refl
-prefix-code-back (suc (suc (suc k))) h = absurd (omega (arith, h .most))
+prefix-code-back k h = found-back prefixCode _ _ k λ m. omega (arith, h .least, h .most, m .0)

@@ -1,5 +1,8 @@
 -- The small numbers of operators and functions: those that 01 gives them on the tape. Definitions only.
-use Prim.Native.Nat.{ℕ, zero, suc}
+use Prim.Native.Nat.{ℕ}
+use mathlib.Core.List.{List, [], _∷_}
+use mathlib.Core.Bool.{cond}
+use lib.Dec.{eqb}
 use Rattle.expression.specs.declared.InfixOperator.{InfixOperator}
 use Rattle.expression.specs.declared.PrefixOperator.{PrefixOperator}
 use Rattle.expression.specs.declared.ExpressionFunction.{ExpressionFunction}
@@ -34,23 +37,19 @@ operationCode Operation.Exponent = 3
 operationCode Operation.SquareRoot = 4
 operationCode Operation.Power = 5
 
--- and back; a number that is none of these stands for the last
-unfoldable pub ofFive : {A : Type 0} → A → A → A → A → A → ℕ → A
-ofFive a b c d e zero = e
-ofFive a b c d e (suc zero) = a
-ofFive a b c d e (suc (suc zero)) = b
-ofFive a b c d e (suc (suc (suc zero))) = c
-ofFive a b c d e (suc (suc (suc (suc zero)))) = d
-ofFive a b c d e (suc (suc (suc (suc (suc k))))) = e
+-- and back: the first of some that has this number; the last stands for any other number
+unfoldable pub numbered : {A : Type 0} → (code : A → ℕ) → List A → (last : A) → ℕ → A
+numbered code [] last n = last
+numbered code (x ∷ xs) last n = cond (eqb n (code x)) x (numbered code xs last n)
 
 abbrev pub infixOf : ℕ → InfixOperator
-infixOf = ofFive InfixOperator.Plus InfixOperator.Minus InfixOperator.Star InfixOperator.Slash InfixOperator.Caret
+infixOf = numbered infixCode (InfixOperator.Plus ∷ InfixOperator.Minus ∷ InfixOperator.Star ∷ InfixOperator.Slash ∷ []) InfixOperator.Caret
 
 abbrev pub prefixOf : ℕ → PrefixOperator
-prefixOf = ofFive PrefixOperator.Plus PrefixOperator.Minus PrefixOperator.Minus PrefixOperator.Minus PrefixOperator.Minus
+prefixOf = numbered prefixCode (PrefixOperator.Plus ∷ []) PrefixOperator.Minus
 
 abbrev pub functionOf : ℕ → ExpressionFunction
-functionOf = ofFive ExpressionFunction.Sine ExpressionFunction.Cosine ExpressionFunction.Exponent ExpressionFunction.SquareRoot ExpressionFunction.Cis
+functionOf = numbered functionCode (ExpressionFunction.Sine ∷ ExpressionFunction.Cosine ∷ ExpressionFunction.Exponent ∷ ExpressionFunction.SquareRoot ∷ []) ExpressionFunction.Cis
 
 abbrev pub operationOf : ℕ → Operation
-operationOf = ofFive Operation.Sine Operation.Cosine Operation.Exponent Operation.SquareRoot Operation.Power
+operationOf = numbered operationCode (Operation.Sine ∷ Operation.Cosine ∷ Operation.Exponent ∷ Operation.SquareRoot ∷ []) Operation.Power

@@ -55,6 +55,13 @@ Sound (Expression.FunctionCall f a) = Unit {0}
 Sound (Expression.Prefix o a) = Unit {0}
 Sound (Expression.Infix o a b) = Unit {0}
 
+-- size and depth as one: `both` is + for size and the greater for depth (proofs/Sizes.antt, `size-is`, `depth-is`)
+unfoldable pub measure : (both : ℕ → ℕ → ℕ) → Tree → ℕ
+measure both (leaf l) = 1
+measure both (functionCall f t) = 1 + measure both t
+measure both (prefixed o t) = 1 + measure both t
+measure both (infixed o l r) = 1 + both (measure both l) (measure both r)
+
 -- size or depth of a node's tree, from those of its operands'
 unfoldable pub measureFrom : (both : ℕ → ℕ → ℕ) (of : ℕ → ℕ) → Expression → ℕ
 measureFrom both of (Expression.Number z) = 1

@@ -18,14 +18,14 @@ pub data Tree : Type 0 where
   infixed : InfixOperator → Tree → Tree → Tree
 
 -- "Leaf size and depth are 1; a parent's size is 1 plus its children's, its depth 1 plus the greater"
-unfoldable pub measure : (both : ℕ → ℕ → ℕ) → Tree → ℕ
-measure both (leaf l) = 1
-measure both (functionCall f t) = 1 + measure both t
-measure both (prefixed o t) = 1 + measure both t
-measure both (infixed o l r) = 1 + both (measure both l) (measure both r)
+unfoldable pub size : Tree → ℕ
+size (leaf l) = 1
+size (functionCall f t) = 1 + size t
+size (prefixed o t) = 1 + size t
+size (infixed o l r) = 1 + (size l + size r)
 
-abbrev pub size : Tree → ℕ
-size = measure _+_
-
-abbrev pub depth : Tree → ℕ
-depth = measure max
+unfoldable pub depth : Tree → ℕ
+depth (leaf l) = 1
+depth (functionCall f t) = 1 + depth t
+depth (prefixed o t) = 1 + depth t
+depth (infixed o l r) = 1 + max (depth l) (depth r)

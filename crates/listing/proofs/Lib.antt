@@ -1,6 +1,7 @@
 -- The laws that the proofs of this crate, and where `pub` of its callers, cite.
 pub mod Numbers
 pub mod Taking
+pub mod Shortening
 pub mod Whole
 mod Naming
 mod Examples

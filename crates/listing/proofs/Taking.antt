@@ -26,12 +26,12 @@ use Rattle.memory.proofs.Values.{length-upTo, at-upTo, upTo-snoc, upTo-alike, u
 use Rattle.memory.proofs.Ascending.{ascends-more}
 use Rattle.text.specs.Reading.{is}
 use Rattle.text.specs.Lines as Lines
-use Rattle.text.specs.Lines.{goes, stops}
+use Rattle.text.specs.Lines.{goes, stops, none, aboveLast}
 use Rattle.node_lines.specs.declared.Line.{Line}
 use Rattle.listing.specs.declared.Progress.{Progress}
 use Rattle.listing.specs.declared.Step as StepEnum
 use Rattle.listing.specs.declared.SwapLine.{SwapLine}
-use Rattle.listing.specs.Listings.{Known, known, Swap, swap, none, above, stored, formed, nodeLine, swapFields, swapped, swapLine, listingLine}
+use Rattle.listing.specs.Listings.{Known, known, Swap, swap, aboveVariable, stored, formed, nodeLine, swapFields, swapped, swapLine, listingLine}
 use Rattle.node_lines.specs.NodeLines.{nodeFields}
 use Rattle.listing.specs.Tables.{movedTo, moved, lineTrees, swapTrees, knownAt, Lists, Ready, Takes, FindsSwap, Above}
 use Rattle.node_lines.specs.Seen.{Finds}
@@ -190,21 +190,21 @@ module _ {text table : List ℕ} {p : Progress} (ready : Ready text table p) {l 
 
 -- ---- an s line
 
-above-snoc : (ss : List Swap) (v v′ : ℕ) (t t′ : Tree) → above (ss ++ (swap v t ∷ [])) (swap v′ t′) ≡ ltb v v′
-unfolding above
+above-snoc : (ss : List Swap) (v v′ : ℕ) (t t′ : Tree) → aboveLast aboveVariable (ss ++ (swap v t ∷ [])) (swap v′ t′) ≡ ltb v v′
+unfolding aboveLast aboveVariable
 above-snoc [] v v′ t t′ = refl
 above-snoc (s ∷ []) v v′ t t′ = refl
 above-snoc (s ∷ r ∷ ss) v v′ t t′ = above-snoc (r ∷ ss) v v′ t t′
 
-pub above-first : (m : Memory) (table : List ℕ) (swaps v : ℕ) (t : Tree) → swaps ≡ 0 → true ≡ above (swapTrees m table swaps) (swap v t)
-unfolding upTo above
+pub above-first : (m : Memory) (table : List ℕ) (swaps v : ℕ) (t : Tree) → swaps ≡ 0 → true ≡ aboveLast aboveVariable (swapTrees m table swaps) (swap v t)
+unfolding upTo aboveLast
 above-first m table swaps v t e = rw e
 
-pub above-later : (m : Memory) (table : List ℕ) (swaps v : ℕ) (t : Tree) → (swaps ≡ 0 → ⊥) → ltb (getD table (swapsFrom + 2 * (swaps - 1)) 0) v ≡ above (swapTrees m table swaps) (swap v t)
+pub above-later : (m : Memory) (table : List ℕ) (swaps v : ℕ) (t : Tree) → (swaps ≡ 0 → ⊥) → ltb (getD table (swapsFrom + 2 * (swaps - 1)) 0) v ≡ aboveLast aboveVariable (swapTrees m table swaps) (swap v t)
 above-later m table zero v t h = absurd (h refl)
 above-later m table (suc k) v t h =
     let z : swapsFrom + 2 * (suc k - 1) ≡ swapsFrom + 2 * k = omega arith in
-    rw z (sym (ap (λ ss. above ss (swap v t)) (upTo-snoc k _) ∙ above-snoc (swapTrees m table k) (getD table (swapsFrom + 2 * k) 0) v _ t))
+    rw z (sym (ap (λ ss. aboveLast aboveVariable ss (swap v t)) (upTo-snoc k _) ∙ above-snoc (swapTrees m table k) (getD table (swapsFrom + 2 * k) 0) v _ t))
 
 module _ (substituting : Bool) {text table : List ℕ} {p : Progress} (ready : Ready text table p) {l : Lent} (li : Lists l table (p .lines) (p .swaps)) where
   pub swap-long : {l′ : Lent} {table′ : List ℕ} → 256 ≤ p .swaps
@@ -243,7 +243,7 @@ module _ (substituting : Bool) {text table : List ℕ} {p : Progress} (ready : R
             → Takes (swapLine substituting (knownAt l table p) (getD text (p .at) 0) (drop (p .at + 1) text)) text p (StepEnum.Step.Refused (Refusal.BadList (p .lines + p .swaps))) l′ table′
         unfolding swapLine swapped named-tree
         swap-low e =
-            let t : above (swapTrees (l .rows) table (p .swaps)) (swap v named-tree) ≡ false = sym (tests (l .rows) named-tree) ∙ e in
+            let t : aboveLast aboveVariable (swapTrees (l .rows) table (p .swaps)) (swap v named-tree) ≡ false = sym (tests (l .rows) named-tree) ∙ e in
             record { answer = sym (rw (swaps-long ready li, lt-ltb (p .swaps) 256 few, found-swap, asked, t, lines-long ready li, swaps-long ready li)); after = tt }
 
         pub swap-next : {table₁ table′ : List ℕ} {node : ℕ} → a ≡ true → node ≡ getD table line 0 → table₁ ≡ set table (swapsFrom + 2 * p .swaps) v → table′ ≡ set table₁ (swapsFrom + 2 * p .swaps + 1) node
@@ -251,7 +251,7 @@ module _ (substituting : Bool) {text table : List ℕ} {p : Progress} (ready : R
             (StepEnum.Step.Next (record { at = next; lines = p .lines; swaps = p .swaps + 1 })) l table′
         unfolding swapLine swapped named-tree
         swap-next {table₁} {table′} {node} e n w₁ w₂ =
-            let t : above (swapTrees (l .rows) table (p .swaps)) (swap v named-tree) ≡ true = sym (tests (l .rows) named-tree) ∙ e in
+            let t : aboveLast aboveVariable (swapTrees (l .rows) table (p .swaps)) (swap v named-tree) ≡ true = sym (tests (l .rows) named-tree) ∙ e in
             record {
               answer = sym (rw (swaps-long ready li, lt-ltb (p .swaps) 256 few, found-swap, asked, t)
                   (ap (λ ts. goes (known ts (swapTrees (l .rows) table (p .swaps) ++ (swap v named-tree ∷ [])) (stateIn l)) (drop next text)) same-lines

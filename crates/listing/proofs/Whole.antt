@@ -20,7 +20,8 @@ use Rattle.listing.specs.declared.Listing.{Listing}
 use Rattle.listing.specs.declared.Progress.{Progress}
 use Rattle.listing.specs.declared.Step.{Step}
 use Rattle.listing.specs.Listings as Spec
-use Rattle.listing.specs.Listings.{known, Swap, accepted, last, rooted, whole, listing, listingLine, mostLines}
+use Rattle.listing.specs.Listings.{known, Swap, accepted, last, rooted, whole, listing, listingLine}
+use Rattle.listing.proofs.Shortening.{listing-shortens}
 use Rattle.listing.specs.Tables.{lineTrees, swapTrees, knownAt, Lists, Ready, Takes, linesSeen, Ended, ReadsLines, listingSeen, ListsAfter, Reads, rootOf}
 
 -- after some lines
@@ -30,8 +31,7 @@ pub record Going (substituting : Bool) (text : List ℕ) (l₀ l : Lent) (table 
   pub swaps : p .swaps ≤ 256
   pub long : tableWords ≤ length table
   pub lists : Lists l table (p .lines) (p .swaps)
-  pub left : Left (listingLine substituting) (suc mostLines) (p .lines + p .swaps) (knownAt l table p) text at
-      (Lines.lines (listingLine substituting) (suc mostLines) (known [] [] (stateIn l₀)) text)
+  pub left : Left (listingLine substituting) (knownAt l table p) text at (Lines.lines (listingLine substituting) (known [] [] (stateIn l₀)) text)
 
 abbrev pub atStart : Progress
 atStart = record { at = 0; lines = 0; swaps = 0 }
@@ -44,7 +44,7 @@ going-begins substituting text l table o h = record {
   swaps = omega arith;
   long = o;
   lists = record { sound = h; nodes = λ k o. absurd (omega arith); named = λ k o. absurd (omega arith); ascends = record { each = λ j o. absurd (omega arith) } };
-  left = begins (listingLine substituting) (suc mostLines) (known [] [] (stateIn l)) text;
+  left = begins (listingLine substituting) (listing-shortens substituting) (known [] [] (stateIn l)) text;
 }
 
 module _ {substituting : Bool} {text : List ℕ} {l₀ l : Lent} {table : List ℕ} {p : Progress} {at : ℕ} (g : Going substituting text l₀ l table p at) where
@@ -63,20 +63,19 @@ module _ {substituting : Bool} {text : List ℕ} {l₀ l : Lent} {table : List �
     pub going-stops : {why : Refusal} → r ≡ Step.Refused why → ReadsLines substituting text r l₀ l′ table′
     going-stops {why} e =
         let a = rw e at (t .answer) in
-        rw e (record { answer = stops-at (g .left) inside (omega (arith, g .lines, g .swaps)) (sym (a ∙ at-place)); after = tt })
+        rw e (record { answer = stops-at (g .left) inside (sym (a ∙ at-place)); after = tt })
 
     pub going-on : {q : Progress} → r ≡ Step.Next q → length table′ ≡ length table → Going substituting text l₀ l′ table′ q (q .at)
     going-on {q} e k =
         let a = rw e at (t .answer) in
         let f = rw e at (t .after) in
-        let z = goes-on (g .left) inside (omega (arith, g .lines, g .swaps)) (sym (a ∙ at-place)) in
         record {
           here = refl;
           lines = f .lines;
           swaps = f .swaps;
           long = omega (arith, g .long, k);
           lists = f .lists;
-          left = rw (f .count) z;
+          left = goes-on (g .left) inside (sym (a ∙ at-place));
         }
 
     pub less : {q : Progress} → r ≡ Step.Next q → 1281 - (q .lines + q .swaps) < 1281 - (p .lines + p .swaps)

@@ -1,18 +1,19 @@
 -- A listing, on bytes and trees: which trees its lines give, in order, and when a line is refused. What a node line says is defined in
 -- `node_lines`. Definitions only.
-use Prim.Native.Nat.{ℕ, suc, _+_}
+use Prim.Native.Nat.{ℕ, _+_}
 use mathlib.Core.List.{List, [], _∷_, _++_}
-use mathlib.Core.Bool.{Bool, true, false, cond, _&&_}
+use mathlib.Core.Bool.{Bool, cond, _&&_}
 use lib.ListN.{length}
 use lib.Dec.{ltb, eqb}
 use Rattle.expression.specs.declared.refusal.Refusal.{Refusal}
 use Rattle.expression.specs.Trees.{Tree}
 use Rattle.store.specs.Storing as Storing
 use Rattle.store.specs.Storing.{State, Answer, intern}
+use Rattle.text.specs.Letters.{letter}
 use Rattle.text.specs.Reading.{Read, is, bad, then, tab, lf, ended, decimalField}
 use Rattle.node_lines.specs.NodeLines.{childField, nodeFields}
 use Rattle.text.specs.Lines as Lines
-use Rattle.text.specs.Lines.{Line, goes, stops, Whole, lines}
+use Rattle.text.specs.Lines.{Line, goes, stops, Whole, lines, none, aboveLast}
 
 -- ---- a line after the lines so far
 
@@ -33,10 +34,6 @@ known nodes swaps store = record { nodes = nodes; swaps = swaps; store = store }
 abbrev pub lineNumber : Known → ℕ
 lineNumber k = length (k .nodes) + length (k .swaps)
 
-unfoldable pub none : {A : Type 0} → List A → Bool
-none [] = true
-none (x ∷ xs) = false
-
 -- 6, 7, 8 as the node is stored
 unfoldable pub stored : Known → List ℕ → Answer → Line Known Refusal
 stored k rest (Storing.gives t store) = goes (known (k .nodes ++ (t ∷ [])) (k .swaps) store) rest
@@ -53,9 +50,6 @@ mostNodes = 1024
 abbrev pub mostSwaps : ℕ
 mostSwaps = 256
 
-abbrev pub mostLines : ℕ
-mostLines = 1280
-
 -- "2 LONG_LIST: 1025th node line", before the form (1); nodes stand before the s lines
 unfoldable pub nodeLine : Known → (first : ℕ) → List ℕ → Line Known Refusal
 nodeLine k first bs =
@@ -70,16 +64,14 @@ swapFields nodes first bs =
     then (childField lf nodes bs) λ t bs.
     is (swap v t) bs
 
--- "variables ascending", "without repeats"
-unfoldable pub above : List Swap → Swap → Bool
-above [] s = true
-above (swap v t ∷ []) (swap v′ t′) = ltb v v′
-above (s ∷ r ∷ ss) s′ = above (r ∷ ss) s′
+-- "variables ascending"
+unfoldable pub aboveVariable : Swap → Swap → Bool
+aboveVariable (swap v t) (swap v′ t′) = ltb v v′
 
 unfoldable pub swapped : (substituting : Bool) → Known → Read Swap → Line Known Refusal
 swapped substituting k bad = stops (Refusal.BadList (lineNumber k))
 swapped substituting k (is s rest) =
-    cond (substituting && above (k .swaps) s) (goes (known (k .nodes) (k .swaps ++ (s ∷ [])) (k .store)) rest)
+    cond (substituting && aboveLast aboveVariable (k .swaps) s) (goes (known (k .nodes) (k .swaps ++ (s ∷ [])) (k .store)) rest)
     (stops (Refusal.BadList (lineNumber k)))
 
 -- "or 257th s line"; "For substituting only"
@@ -91,7 +83,7 @@ swapLine substituting k first bs =
 
 -- "A line's first byte decides its count; in a listing all but s lines are node lines"
 unfoldable pub listingLine : (substituting : Bool) → Known → (first : ℕ) → List ℕ → Line Known Refusal
-listingLine substituting k first bs = cond (eqb first 115) (swapLine substituting k first bs) (nodeLine k first bs)
+listingLine substituting k first bs = cond (eqb first (letter "s")) (swapLine substituting k first bs) (nodeLine k first bs)
 
 -- ---- a listing
 
@@ -114,7 +106,7 @@ whole (Lines.read k) = rooted (k .nodes) (k .swaps) (k .store)
 whole (Lines.refused why) = refused why
 
 unfoldable pub listing : (substituting : Bool) → List ℕ → State → Listing
-listing substituting bs store = whole (lines (listingLine substituting) (suc mostLines) (known [] [] store) bs)
+listing substituting bs store = whole (lines (listingLine substituting) (known [] [] store) bs)
 
 -- the tree that the s line of a variable names
 pub data Named : Type 0 where

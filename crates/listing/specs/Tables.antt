@@ -18,14 +18,14 @@ use Rattle.memory.specs.Layout.{tableWords, swapsFrom}
 use Rattle.memory.specs.Keys.{upTo, keyAt, Ascends}
 use Rattle.text.specs.Reading.{Read, is, bad}
 use Rattle.text.specs.Lines as Lines
-use Rattle.text.specs.Lines.{goes, stops}
+use Rattle.text.specs.Lines.{goes, stops, aboveLast}
 use Rattle.listing.specs.declared.Listing.{Listing}
 use Rattle.listing.specs.declared.Swap.{Swap}
 use Rattle.listing.specs.declared.Progress.{Progress}
 use Rattle.listing.specs.declared.Step.{Step}
 use Rattle.listing.specs.declared.SwapLine.{SwapLine}
 use Rattle.listing.specs.Listings as Spec
-use Rattle.listing.specs.Listings.{Known, known, accepted, swap, names, nothing, swapFor, above, swapFields, swapLine, listingLine, mostLines, listing}
+use Rattle.listing.specs.Listings.{Known, known, accepted, swap, names, nothing, swapFor, aboveVariable, swapFields, swapLine, listingLine, listing}
 
 -- a node with other numbers for its operands, those that stand for them in a list: the node of a line, or the line of a node
 unfoldable pub movedTo : List ℕ → Expression → Operands → Expression
@@ -106,7 +106,7 @@ pub record FindsSwap (text : List ℕ) (at lines : ℕ) (r : SwapLine) : Type 0 
 
 -- whether a variable is above those of the s lines in the table, whatever trees they name
 abbrev pub Above : (table : List ℕ) (swaps variable : ℕ) → Bool → Type 0
-Above table swaps variable r = (m : Memory) (t : Tree) → r ≡ above (swapTrees m table swaps) (swap variable t)
+Above table swaps variable r = (m : Memory) (t : Tree) → r ≡ aboveLast aboveVariable (swapTrees m table swaps) (swap variable t)
 
 -- ---- all lines
 
@@ -124,7 +124,7 @@ LinesAfter l table (Step.Next q) = Ended l table q
 LinesAfter l table (Step.Refused why) = Unit {0}
 
 pub record ReadsLines (substituting : Bool) (text : List ℕ) (r : Step) (l l′ : Lent) (table : List ℕ) : Type 0 where
-  pub answer : linesSeen l′ table r ≡ Lines.lines (listingLine substituting) (suc mostLines) (known [] [] (stateIn l)) text
+  pub answer : linesSeen l′ table r ≡ Lines.lines (listingLine substituting) (known [] [] (stateIn l)) text
   pub after : LinesAfter l′ table r
 
 -- ---- a listing

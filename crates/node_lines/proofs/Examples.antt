@@ -4,7 +4,7 @@ use mathlib.Core.List.{List, [], _∷_}
 use Rattle.expression.specs.declared.InfixOperator.{InfixOperator}
 use Rattle.expression.specs.declared.PrefixOperator.{PrefixOperator}
 use Rattle.expression.specs.declared.ExpressionFunction.{ExpressionFunction}
-use Rattle.expression.specs.Codes.{ofFive}
+use Rattle.expression.specs.Codes.{numbered}
 use Rattle.expression.specs.Trees.{Tree, leaf, pi, variable, cell, functionCall, prefixed, infixed}
 use Rattle.text.specs.Reading.{is, bad, then, ended, digitOf, run, value, spelt, decimal, starts, nameFrom}
 use Rattle.node_lines.specs.NodeLines.{childField, variableFields, cellFields, functionFields, prefixFields, infixFields, fieldsOf, nodeFields}
@@ -48,7 +48,7 @@ cell-zeros = refl
 
 -- `f·cis·1`, and `f·tan·1`
 function-line : nodeFields two 102 (9 ∷ 99 ∷ 105 ∷ 115 ∷ 9 ∷ 49 ∷ 10 ∷ []) ≡ is (functionCall ExpressionFunction.Cis b) []
-unfolding nodeFields fieldsOf functionFields childField then ended decimal spelt run value digitOf nameFrom starts ofFive
+unfolding nodeFields fieldsOf functionFields childField then ended decimal spelt run value digitOf nameFrom starts numbered
 function-line = refl
 
 function-unknown : nodeFields two 102 (9 ∷ 116 ∷ 97 ∷ 110 ∷ 9 ∷ 49 ∷ 10 ∷ []) ≡ bad
@@ -57,12 +57,12 @@ function-unknown = refl
 
 -- `u·-·0`
 prefix-line : nodeFields two 117 (9 ∷ 45 ∷ 9 ∷ 48 ∷ 10 ∷ []) ≡ is (prefixed PrefixOperator.Minus a) []
-unfolding nodeFields fieldsOf prefixFields childField then ended decimal spelt run value digitOf nameFrom starts ofFive
+unfolding nodeFields fieldsOf prefixFields childField then ended decimal spelt run value digitOf nameFrom starts numbered
 prefix-line = refl
 
 -- `b·-·0·1`; with its own number as a child, `b·-·0·2`; and with no LF
 infix-line : nodeFields two 98 (9 ∷ 45 ∷ 9 ∷ 48 ∷ 9 ∷ 49 ∷ 10 ∷ []) ≡ is difference []
-unfolding nodeFields fieldsOf infixFields childField then ended decimal spelt run value digitOf nameFrom starts ofFive
+unfolding nodeFields fieldsOf infixFields childField then ended decimal spelt run value digitOf nameFrom starts numbered
 infix-line = refl
 
 infix-own-child : nodeFields two 98 (9 ∷ 45 ∷ 9 ∷ 48 ∷ 9 ∷ 50 ∷ 10 ∷ []) ≡ bad

@@ -8,6 +8,7 @@ use Rattle.complex.specs.Constants.{ofParts}
 use Rattle.expression.specs.Codes.{infixOf, prefixOf, functionOf}
 use Rattle.spelling.specs.Names.{functionNames, prefixNames, infixNames}
 use Rattle.expression.specs.Trees.{Tree, leaf, number, pi, variable, cell, functionCall, prefixed, infixed}
+use Rattle.text.specs.Letters.{letter}
 use Rattle.text.specs.Reading.{Read, is, bad, then, tab, lf, ended, decimalField, hexField, nameField}
 
 -- ---- the fields after the first byte and a tab
@@ -50,19 +51,19 @@ infixFields earlier bs =
     then (childField lf earlier bs) λ r bs.
     is (infixed (infixOf o) l r) bs
 
--- n, v, m, f, u, b
+-- the fields of a line by its first byte
 unfoldable pub fieldsOf : (earlier : List Tree) → (first : ℕ) → List ℕ → Read Tree
 fieldsOf earlier first bs =
-    cond (eqb first 110) (numberFields bs)
-    (cond (eqb first 118) (variableFields bs)
-    (cond (eqb first 109) (cellFields bs)
-    (cond (eqb first 102) (functionFields earlier bs)
-    (cond (eqb first 117) (prefixFields earlier bs)
-    (cond (eqb first 98) (infixFields earlier bs)
+    cond (eqb first (letter "n")) (numberFields bs)
+    (cond (eqb first (letter "v")) (variableFields bs)
+    (cond (eqb first (letter "m")) (cellFields bs)
+    (cond (eqb first (letter "f")) (functionFields earlier bs)
+    (cond (eqb first (letter "u")) (prefixFields earlier bs)
+    (cond (eqb first (letter "b")) (infixFields earlier bs)
     bad)))))
 
 -- a node line by its first byte; p, which is pi, is a line of its own
 unfoldable pub nodeFields : (earlier : List Tree) → (first : ℕ) → List ℕ → Read Tree
 nodeFields earlier first bs =
-    cond (eqb first 112) (ended lf (is (leaf pi) bs))
+    cond (eqb first (letter "p")) (ended lf (is (leaf pi) bs))
     (then (ended tab (is first bs)) λ first bs. fieldsOf earlier first bs)

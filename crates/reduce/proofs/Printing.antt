@@ -11,7 +11,7 @@ use Rattle.io.specs.Counts.{Counts}
 use Rattle.calls.specs.declared.Simplified.{Simplified}
 use Rattle.calls.specs.Calls.{simplifyCall}
 use Rattle.calls.specs.Lent.{Work, capacity}
-use Rattle.calls.specs.Frame.{Simplifies}
+use Rattle.calls.specs.Promises.{Simplifies}
 use Rattle.expression.specs.declared.refusal.Refusal.{Refusal}
 use Rattle.console.specs.Parting.{Parted}
 use Rattle.console.specs.Answers.{refusedLine, refusalLine}

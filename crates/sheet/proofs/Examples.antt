@@ -14,9 +14,12 @@ use Rattle.complex.specs.Constants.{ofParts}
 use Rattle.expression.specs.declared.refusal.Operation.{Operation}
 use Rattle.expression.specs.declared.refusal.Refusal.{Refusal}
 use Rattle.text.specs.Reading.{is, bad, then, ended, digitOf, run, value, spelt, decimal, hexFrom, hex, starts, nameFrom}
-use Rattle.text.specs.Lines.{goes, stops, read, refused, afterLine, atLine, lines}
-use Rattle.sheet.specs.Rows.{Variable, variable, Cell, cell, Row, row, Rows, rows, complexField, variableFields, cellFields, secondOperand, rowFields, aboveVariables, abovePair, aboveCells, none, lineNumber, formed, counted, fieldsAfter, variableLine, cellLine, functionLine, sheetLine, sheet, found, missing, valueOf, cellValue, sameBits, functionValue}
-use Rattle.expression.specs.Codes.{ofFive, operationCode}
+use Rattle.text.specs.Lines.{goes, stops, read, refused, afterLine, lines, none, aboveLast}
+use Rattle.complex.specs.Equality.{identical, identicalDoubles}
+use Rattle.text.proofs.Lining.{no-line, next-line}
+use Rattle.sheet.proofs.Shortening.{sheet-shortens}
+use Rattle.sheet.specs.Rows.{Variable, variable, Cell, cell, Row, row, Rows, rows, complexField, variableFields, cellFields, secondOperand, rowFields, aboveNumber, abovePair, lineNumber, formed, counted, fieldsAfter, variableLine, cellLine, functionLine, sheetLine, sheet, found, missing, valueOf, cellValue, functionValue}
+use Rattle.expression.specs.Codes.{numbered, operationCode}
 use Rattle.sheet.proofs.Taking.{too-many, taken}
 
 -- sixteen digits before other bytes: 0, 1, -0, and the bits of a NaN that is not the canonical one
@@ -54,24 +57,23 @@ the11 = ofParts 0x3FF0_0000_0000_0000 0x3FF0_0000_0000_0000
 
 -- ---- one line after another
 
-module _ (fuel : ℕ) (s : Rows) (b : ℕ) (bs : List ℕ) where
-  next : (s′ : Rows) (rest : List ℕ) → sheetLine s b bs ≡ goes s′ rest → lines sheetLine (suc fuel) s (b ∷ bs) ≡ lines sheetLine fuel s′ rest
-  unfolding lines atLine afterLine
-  next s′ rest e = rw e
+module _ (s : Rows) (b : ℕ) (bs : List ℕ) where
+  next : (s′ : Rows) (rest : List ℕ) → sheetLine s b bs ≡ goes s′ rest → lines sheetLine s (b ∷ bs) ≡ lines sheetLine s′ rest
+  unfolding afterLine
+  next s′ rest e = next-line sheetLine sheet-shortens s b bs ∙ rw e
 
-  stop : (why : Refusal) → sheetLine s b bs ≡ stops why → lines sheetLine (suc fuel) s (b ∷ bs) ≡ refused why
-  unfolding lines atLine afterLine
-  stop why e = rw e
+  stop : (why : Refusal) → sheetLine s b bs ≡ stops why → lines sheetLine s (b ∷ bs) ≡ refused why
+  unfolding afterLine
+  stop why e = next-line sheetLine sheet-shortens s b bs ∙ rw e
 
-end : (fuel : ℕ) (s : Rows) → lines sheetLine (suc fuel) s [] ≡ read s
-unfolding lines atLine
-end fuel s = refl
+end : (s : Rows) → lines sheetLine s [] ≡ read s
+end s = no-line sheetLine sheet-shortens s
 
 -- ---- each kind of line with its values
 
 empty : sheet [] ≡ read (rows [] [] [])
 unfolding sheet
-empty = end 1536 (rows [] [] [])
+empty = end (rows [] [] [])
 
 after-v : Rows
 after-v = rows (variable 7 the1 ∷ []) [] []
@@ -83,37 +85,37 @@ after-t : Rows
 after-t = rows (variable 7 the1 ∷ []) (cell 1 2 (doubleOf 0x3FF0_0000_0000_0000) ∷ []) (row Operation.Sine the1 the0 the11 ∷ [])
 
 v-line : (rest : List ℕ) → sheetLine (rows [] [] []) 118 (variable7 rest) ≡ goes after-v rest
-unfolding after-v sheetLine variableLine counted formed none aboveVariables variableFields complexField then ended decimal spelt run value hex hexFrom digitOf
+unfolding after-v sheetLine variableLine counted formed none aboveLast aboveNumber variableFields complexField then ended decimal spelt run value hex hexFrom digitOf
 v-line rest = refl
 
 m-line : (rest : List ℕ) → sheetLine after-v 109 (cell12 rest) ≡ goes after-m rest
-unfolding after-v after-m sheetLine cellLine counted formed none aboveCells cellFields then ended decimal spelt run value hex hexFrom digitOf
+unfolding after-v after-m sheetLine cellLine counted formed none aboveLast cellFields then ended decimal spelt run value hex hexFrom digitOf
 m-line rest = refl
 
 t-line : (rest : List ℕ) → sheetLine after-m 116 (sine zeros rest) ≡ goes after-t rest
-unfolding after-m after-t sheetLine functionLine counted formed rowFields complexField secondOperand ofFive then ended hex hexFrom digitOf nameFrom starts
+unfolding after-m after-t sheetLine functionLine counted formed rowFields complexField secondOperand numbered then ended hex hexFrom digitOf nameFrom starts
 t-line rest = refl
 
 each-kind : sheet (118 ∷ variable7 (109 ∷ cell12 (116 ∷ sine zeros []))) ≡ read after-t
 unfolding sheet
 each-kind =
-    next 1536 (rows [] [] []) 118 (variable7 (109 ∷ cell12 (116 ∷ sine zeros []))) after-v _ (v-line (109 ∷ cell12 (116 ∷ sine zeros [])))
-    ∙ next 1535 after-v 109 (cell12 (116 ∷ sine zeros [])) after-m _ (m-line (116 ∷ sine zeros []))
-    ∙ next 1534 after-m 116 (sine zeros []) after-t [] (t-line [])
-    ∙ end 1533 after-t
+    next (rows [] [] []) 118 (variable7 (109 ∷ cell12 (116 ∷ sine zeros []))) after-v _ (v-line (109 ∷ cell12 (116 ∷ sine zeros [])))
+    ∙ next after-v 109 (cell12 (116 ∷ sine zeros [])) after-m _ (m-line (116 ∷ sine zeros []))
+    ∙ next after-m 116 (sine zeros []) after-t [] (t-line [])
+    ∙ end after-t
 
 -- ---- refusal 3 at its boundary, whatever follows
 
 -- a repeated variable
 repeated : (rest : List ℕ) → sheetLine after-v 118 (variable7 rest) ≡ stops (Refusal.BadSheet 1)
-unfolding after-v sheetLine variableLine counted formed none aboveVariables variableFields complexField then ended decimal spelt run value hex hexFrom digitOf
+unfolding after-v sheetLine variableLine counted formed none aboveLast aboveNumber variableFields complexField then ended decimal spelt run value hex hexFrom digitOf
 repeated rest = refl
 
 repeated-sheet : sheet (118 ∷ variable7 (118 ∷ variable7 [])) ≡ refused (Refusal.BadSheet 1)
 unfolding sheet
 repeated-sheet =
-    next 1536 (rows [] [] []) 118 (variable7 (118 ∷ variable7 [])) after-v _ (v-line (118 ∷ variable7 []))
-    ∙ stop 1535 after-v 118 (variable7 []) (Refusal.BadSheet 1) (repeated [])
+    next (rows [] [] []) 118 (variable7 (118 ∷ variable7 [])) after-v _ (v-line (118 ∷ variable7 []))
+    ∙ stop after-v 118 (variable7 []) (Refusal.BadSheet 1) (repeated [])
 
 -- m before v, t before m
 v-after-m : (c : Cell) (rest : List ℕ) → sheetLine (rows [] (c ∷ []) []) 118 (variable7 rest) ≡ stops (Refusal.BadSheet 1)
@@ -168,7 +170,7 @@ module _ (vs : List Variable) (cs : List Cell) (fs : List Row) (bs : List ℕ) w
   unfolding sheetLine functionLine
   rows-full h = too-many (rows vs cs fs) 256 256 fs _ _ _ (rw h) h _ (omega arith)
 
-last-variable : (vs : List Variable) (v : Variable) (bs rest : List ℕ) → length vs ≡ 255 → aboveVariables vs v ≡ true → is v rest ≡ fieldsAfter 118 bs variableFields
+last-variable : (vs : List Variable) (v : Variable) (bs rest : List ℕ) → length vs ≡ 255 → aboveLast aboveNumber vs v ≡ true → is v rest ≡ fieldsAfter 118 bs variableFields
     → goes (rows (vs ++ (v ∷ [])) [] []) rest ≡ sheetLine (rows vs [] []) 118 bs
 unfolding sheetLine variableLine none
 last-variable vs v bs rest h a e = taken (rows vs [] []) 256 255 vs _ _ 255 (rw h) h _ v rest (omega arith) e (sym a)
@@ -181,18 +183,18 @@ unfolding after-t valueOf cellValue
 looked-up = (refl, refl, refl, refl, refl)
 
 called : (functionValue Operation.Sine the1 the0 (after-t .functions) ≡ found the11) × (functionValue Operation.Cosine the1 the0 (after-t .functions) ≡ missing)
-unfolding after-t functionValue sameBits toBits ofBits
+unfolding after-t functionValue identical identicalDoubles toBits ofBits
 called = (refl, refl)
 
 -- the first row that matches counts
 first-counts : (o : Operation) (x y a b : Complex) → functionValue o x y (row o x y a ∷ row o x y b ∷ []) ≡ found a
-unfolding functionValue sameBits
+unfolding functionValue identical identicalDoubles
 first-counts o x y a b =
     rw (eq-eqb (operationCode o) (operationCode o) refl, eq-eqb (bitsOf (x .re)) (bitsOf (x .re)) refl, eq-eqb (bitsOf (x .im)) (bitsOf (x .im)) refl, eq-eqb (bitsOf (y .re)) (bitsOf (y .re)) refl, eq-eqb (bitsOf (y .im)) (bitsOf (y .im)) refl)
 
 -- by bits: 0 is not -0, and every NaN is one
-by-bits : (sameBits the0 (ofParts 0x8000_0000_0000_0000 0) ≡ false) × (sameBits (ofParts 0xFFF8_0000_0000_0001 0) (ofParts 0x7FF0_0000_0000_0001 0) ≡ true)
-unfolding sameBits toBits ofBits
+by-bits : (identical the0 (ofParts 0x8000_0000_0000_0000 0) ≡ false) × (identical (ofParts 0xFFF8_0000_0000_0001 0) (ofParts 0x7FF0_0000_0000_0001 0) ≡ true)
+unfolding identical identicalDoubles toBits ofBits
 by-bits = (refl, refl)
 
 one-nan : (rest : List ℕ) → (complexField 10 (otherNan (9 ∷ zeros (10 ∷ rest))) ≡ is (ofParts 0xFFF8_0000_0000_0001 0) rest) × (bitsOf (doubleOf 0xFFF8_0000_0000_0001) ≡ nanPattern)

@@ -16,7 +16,8 @@ use Rattle.memory.specs.Keys.{upTo, keyAt, First, holds}
 use Rattle.memory.proofs.Values.{first, first-found, first-missing}
 use Rattle.memory.specs.Layout.{cellsFrom, functionsFrom}
 use Rattle.sheet.specs.declared.Counts.{Counts}
-use Rattle.sheet.specs.Rows.{Variable, variable, Cell, cell, Row, row, Lookup, found, missing, valueOf, cellValue, functionValue, sameBits}
+use Rattle.complex.specs.Equality.{identical, identicalDoubles}
+use Rattle.sheet.specs.Rows.{Variable, variable, Cell, cell, Row, row, Lookup, found, missing, valueOf, cellValue, functionValue}
 use Rattle.expression.specs.Codes.{operationCode, operationOf}
 use Rattle.expression.proofs.Numbering.{operation-code-back}
 use Rattle.sheet.specs.Table.{numberAt, variableAt, cellAt, rowAt, Comparable, Held, wordsOf, rowMatches}
@@ -47,7 +48,7 @@ cells-first region index [] = refl
 cells-first region index (cell region′ index′ real ∷ cs) = rw (cells-first region index cs)
 
 called : Operation → (x y : Complex) → Row → Bool
-called o x y (row o′ x′ y′ value) = eqb (operationCode o) (operationCode o′) && (sameBits x x′ && sameBits y y′)
+called o x y (row o′ x′ y′ value) = eqb (operationCode o) (operationCode o′) && (identical x x′ && identical y y′)
 
 result-of : Row → Lookup
 result-of (row o x y value) = found value
@@ -73,7 +74,7 @@ number-back : (w : ℕ) → 0 < w → w < 6 → operationCode (operationOf w) �
 number-back w p q = operation-code-back w (record { least = omega (arith, p); most = omega (arith, q) })
 
 row-test : (t : List ℕ) (o : Operation) (x y : Complex) (j : ℕ) → Comparable t j → rowMatches t (operationCode o) (wordsOf x) (wordsOf y) j ≡ called o x y (rowAt t j)
-unfolding called sameBits
+unfolding called identical identicalDoubles
 row-test t o x y j c =
     let xr : bitsOf (doubleOf (getD t (7 * j + functionsFrom + 1) 0)) ≡ getD t (7 * j + functionsFrom + 1) 0 = bits-back _ (c .operands (7 * j + functionsFrom + 1) (omega arith) (omega arith)) in
     let xi : bitsOf (doubleOf (getD t (7 * j + functionsFrom + 1 + 1) 0)) ≡ getD t (7 * j + functionsFrom + 1 + 1) 0 = bits-back _ (c .operands (7 * j + functionsFrom + 1 + 1) (omega arith) (omega arith)) in

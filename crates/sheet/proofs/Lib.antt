@@ -5,6 +5,7 @@ mod Placing
 mod Parsing
 mod Taking
 mod Finding
+pub mod Shortening
 mod Sheets
 mod Examples
 pub mod OneAnswer

@@ -15,7 +15,8 @@ use Rattle.memory.specs.Keys.{upTo, keyAt, Ascends}
 use Rattle.memory.proofs.Ascending.{ascends-same}
 use Rattle.memory.specs.Layout.{cellsFrom}
 use Rattle.sheet.specs.declared.Counts.{Counts}
-use Rattle.sheet.specs.Rows.{variable, cell, aboveVariables, abovePair, aboveCells, none}
+use Rattle.text.specs.Lines.{none, aboveLast}
+use Rattle.sheet.specs.Rows.{variable, cell, aboveNumber, abovePair}
 use Rattle.sheet.specs.Table.{numberKey, pairKey, above, variableMay, cellMay}
 
 pub none-upTo : {A : Type 0} (n : ℕ) (f : ℕ → A) → none (upTo n f) ≡ eqb n 0
@@ -24,8 +25,8 @@ none-upTo zero f = refl
 none-upTo (suc n) f = sym (ne-eqb (suc n) 0 λ q. omega arith)
 
 pub variables-above : (key : ℕ → ℕ) (value : ℕ → Complex) (n k : ℕ) (z : Complex)
-    → aboveVariables (upTo n (λ j. variable (key j) (value j))) (variable k z) ≡ above key n k
-unfolding aboveVariables above upTo
+    → aboveLast aboveNumber (upTo n (λ j. variable (key j) (value j))) (variable k z) ≡ above key n k
+unfolding aboveLast aboveNumber above upTo
 variables-above key value zero k z = refl
 variables-above key value (suc zero) k z = refl
 variables-above key value (suc (suc n)) k z = variables-above (λ j. key (suc j)) (λ j. value (suc j)) (suc n) k z
@@ -46,8 +47,8 @@ pair-above w region index r r′ h = elim (decLt (w / 4294967296) region) [
 ]
 
 pub cells-above : (key : ℕ → ℕ) (real : ℕ → Float) (n region index : ℕ) (r : Float) → index < 4294967296
-    → aboveCells (upTo n (λ j. cell (key j / 4294967296) (key j % 4294967296) (real j))) (cell region index r) ≡ above key n (region * 4294967296 + index)
-unfolding aboveCells above upTo
+    → aboveLast abovePair (upTo n (λ j. cell (key j / 4294967296) (key j % 4294967296) (real j))) (cell region index r) ≡ above key n (region * 4294967296 + index)
+unfolding aboveLast above upTo
 cells-above key real zero region index r h = refl
 cells-above key real (suc zero) region index r h = pair-above (key zero) region index (real zero) r h
 cells-above key real (suc (suc n)) region index r h = cells-above (λ j. key (suc j)) (λ j. real (suc j)) (suc n) region index r h

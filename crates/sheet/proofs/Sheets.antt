@@ -13,12 +13,13 @@ use Rattle.sheet.specs.declared.Counts.{Counts}
 use Rattle.sheet.specs.declared.lines.Step.{Step}
 use Rattle.sheet.specs.Rows.{sheet, sheetLine}
 use Rattle.sheet.specs.Table.{rowsOf, lineOf, Held, Takes}
+use Rattle.sheet.proofs.Shortening.{sheet-shortens}
 
 pub record Reading (text t₀ t : List ℕ) (at : ℕ) (n : Counts) : Type 0 where
   pub same : length t ≡ length t₀
   pub room : tableWords ≤ length t
   pub held : Held t n
-  pub left : Left sheetLine 1537 (lineOf n) (rowsOf t n) text at (sheet text)
+  pub left : Left sheetLine (rowsOf t n) text at (sheet text)
 
 pub reading-begins : (text t : List ℕ) → tableWords ≤ length t → Reading text t t 0 (record { variables = 0; cells = 0; functions = 0 })
 unfolding sheet upTo
@@ -33,7 +34,7 @@ reading-begins text t h = record {
     pairs = record { each = λ j l. absurd (omega arith) };
     operands = λ j l. absurd (omega arith);
   };
-  left = begins sheetLine 1537 _ text;
+  left = begins sheetLine sheet-shortens _ text;
 }
 
 module _ {text t₀ t : List ℕ} {at : ℕ} {n : Counts} (r : Reading text t₀ t at n) where
@@ -49,11 +50,11 @@ module _ {text t₀ t : List ℕ} {at : ℕ} {n : Counts} (r : Reading text t₀
       same = e ∙ r .same;
       room = omega (arith, r .room, e);
       held = s .held .0;
-      left = rw (s .held .1) (goes-on (r .left) l few (sym (s .answer)));
+      left = goes-on (r .left) l (sym (s .answer));
     }
 
   pub reading-stops : {t′ : List ℕ} {why : Refusal} → at < length text → Takes text t′ n (sheetLine (rowsOf t n) (getD text at 0) (drop (at + 1) text)) (Step.Stop why) → refused why ≡ sheet text
-  reading-stops l s = stops-at (r .left) l few (sym (s .answer))
+  reading-stops l s = stops-at (r .left) l (sym (s .answer))
 
   pub reading-ends : length text ≤ at → read (rowsOf t n) ≡ sheet text
   reading-ends l = ends (r .left) l

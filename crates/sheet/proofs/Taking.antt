@@ -13,7 +13,7 @@ use Rattle.complex.specs.declared.Complex.{Complex}
 use Rattle.complex.specs.Bits.{doubleOf}
 use Rattle.expression.specs.declared.refusal.Refusal.{Refusal}
 use Rattle.text.specs.Reading.{Read, is, bad}
-use Rattle.text.specs.Lines.{Line, goes, stops}
+use Rattle.text.specs.Lines.{Line, goes, stops, none, aboveLast}
 use Rattle.memory.specs.Keys.{upTo}
 use Rattle.memory.proofs.Values.{length-upTo, upTo-alike, upTo-grown}
 use Rattle.memory.proofs.Ascending.{ascends-same, ascends-more}
@@ -22,7 +22,7 @@ use Rattle.sheet.specs.declared.fields.Words.{Words}
 use Rattle.sheet.specs.declared.Counts.{Counts}
 use Rattle.sheet.specs.declared.lines.Step.{Step}
 use Rattle.sheet.specs.Seen.{numberOf}
-use Rattle.sheet.specs.Rows.{variable, cell, row, Rows, rows, none, aboveVariables, aboveCells, lineNumber, formed, counted, variableFields, cellFields, rowFields, fieldsAfter, variableLine, cellLine, functionLine, sheetLine}
+use Rattle.sheet.specs.Rows.{variable, cell, row, Rows, rows, aboveNumber, abovePair, lineNumber, formed, counted, variableFields, cellFields, rowFields, fieldsAfter, variableLine, cellLine, functionLine, sheetLine}
 use Rattle.expression.specs.Codes.{operationOf}
 use Rattle.sheet.specs.Table.{numberAt, variableAt, cellAt, rowAt, rowsOf, lineOf, numberKey, pairKey, Held, Takes, withVariable, withCell, withRow, above, variableMay, cellMay}
 use Rattle.sheet.proofs.Ordering.{none-upTo, variables-above, cells-above, above-last}
@@ -97,12 +97,12 @@ module _ (t : List ℕ) (n : Counts) (line : ℕ) (here : line ≡ lineOf n) (fi
 
 module _ (t : List ℕ) (n : Counts) where
   pub variable-order : (k : ℕ) (z : Complex)
-      → variableMay t n k ≡ none (upTo (n .cells) (cellAt t)) && (none (upTo (n .functions) (rowAt t)) && aboveVariables (upTo (n .variables) (variableAt t)) (variable k z))
+      → variableMay t n k ≡ none (upTo (n .cells) (cellAt t)) && (none (upTo (n .functions) (rowAt t)) && aboveLast aboveNumber (upTo (n .variables) (variableAt t)) (variable k z))
   variable-order k z =
       rw (none-upTo (n .cells) (cellAt t), none-upTo (n .functions) (rowAt t), variables-above (λ j. getD t (3 * j) 0) (λ j. numberAt t (3 * j + 1)) (n .variables) k z)
 
   pub cell-order : (region index : ℕ) (r : Float) → index < 4294967296
-      → cellMay t n (region * 4294967296 + index) ≡ none (upTo (n .functions) (rowAt t)) && aboveCells (upTo (n .cells) (cellAt t)) (cell region index r)
+      → cellMay t n (region * 4294967296 + index) ≡ none (upTo (n .functions) (rowAt t)) && aboveLast abovePair (upTo (n .cells) (cellAt t)) (cell region index r)
   cell-order region index r h =
       rw (none-upTo (n .functions) (rowAt t), cells-above (λ j. getD t (2 * j + cellsFrom) 0) (λ j. doubleOf (getD t (2 * j + cellsFrom + 1) 0)) (n .cells) region index r h)
 

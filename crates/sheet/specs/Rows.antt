@@ -1,19 +1,21 @@
 -- A value sheet, on bytes: what its lines bind, when a line is refused, and what is looked up in it. Definitions only.
-use Prim.Native.Nat.{ℕ, zero, suc, _+_}
+use Prim.Native.Nat.{ℕ, _+_}
 use mathlib.Core.List.{List, [], _∷_, _++_}
 use mathlib.Core.Bool.{Bool, true, false, cond, _&&_, _||_}
 use lib.ListN.{length}
 use lib.Dec.{ltb, eqb}
 use lib.Ieee.{Float}
 use Rattle.complex.specs.declared.Complex.{Complex}
-use Rattle.complex.specs.Bits.{bitsOf, doubleOf}
+use Rattle.complex.specs.Bits.{doubleOf}
+use Rattle.complex.specs.Equality.{identical}
 use Rattle.complex.specs.Constants.{ofParts}
 use Rattle.expression.specs.declared.refusal.Operation.{Operation}
 use Rattle.expression.specs.declared.refusal.Refusal.{Refusal}
 use Rattle.expression.specs.Codes.{operationCode, operationOf}
 use Rattle.spelling.specs.Names.{operationNames}
+use Rattle.text.specs.Letters.{letter}
 use Rattle.text.specs.Reading.{Read, is, bad, then, tab, lf, ended, decimalField, hexField, nameField}
-use Rattle.text.specs.Lines.{Line, goes, stops, Whole, lines}
+use Rattle.text.specs.Lines.{Line, goes, stops, Whole, lines, none, aboveLast}
 
 -- `v·number·re·im`, `m·region·index·real`, `t·name·re·im·re2·im2·re·im`
 pub data Variable : Type 0 where
@@ -51,7 +53,7 @@ cellFields bs =
 
 -- the number of the name pow
 abbrev pub power : ℕ
-power = 5
+power = operationCode Operation.Power
 
 -- "For all but pow the second operand is two fields of zeros"
 unfoldable pub secondOperand : (name : ℕ) → List ℕ → Read Complex
@@ -70,23 +72,12 @@ rowFields bs =
 
 -- ---- a line after the rows so far
 
--- "ascending" is "without repeats": above the last number, above the last pair
-unfoldable pub aboveVariables : List Variable → Variable → Bool
-aboveVariables [] v = true
-aboveVariables (variable n z ∷ []) (variable n′ z′) = ltb n n′
-aboveVariables (v ∷ w ∷ vs) v′ = aboveVariables (w ∷ vs) v′
+-- "ascending" by number, and "ascending by pair"
+unfoldable pub aboveNumber : Variable → Variable → Bool
+aboveNumber (variable n z) (variable n′ z′) = ltb n n′
 
 unfoldable pub abovePair : Cell → Cell → Bool
 abovePair (cell region index r) (cell region′ index′ r′) = ltb region region′ || (eqb region region′ && ltb index index′)
-
-unfoldable pub aboveCells : List Cell → Cell → Bool
-aboveCells [] c = true
-aboveCells (c ∷ []) c′ = abovePair c c′
-aboveCells (c ∷ d ∷ cs) c′ = aboveCells (d ∷ cs) c′
-
-unfoldable pub none : {A : Type 0} → List A → Bool
-none [] = true
-none (x ∷ xs) = false
 
 -- the line that comes next, from 0
 abbrev pub lineNumber : Rows → ℕ
@@ -111,9 +102,6 @@ mostCells = 1024
 abbrev pub mostFunctions : ℕ
 mostFunctions = 256
 
-abbrev pub mostRows : ℕ
-mostRows = 1536
-
 -- what follows the tab after a line's first byte
 abbrev pub fieldsAfter : {A : Type 0} → (first : ℕ) → List ℕ → (List ℕ → Read A) → Read A
 fieldsAfter first bs fields = then (ended tab (is first bs)) λ _ bs. fields bs
@@ -121,14 +109,14 @@ fieldsAfter first bs fields = then (ended tab (is first bs)) λ _ bs. fields bs
 unfoldable pub variableLine : Rows → (first : ℕ) → List ℕ → Line Rows Refusal
 variableLine s first bs =
     counted s mostVariables (s .variables)
-    (formed s (λ v. none (s .cells) && (none (s .functions) && aboveVariables (s .variables) v))
+    (formed s (λ v. none (s .cells) && (none (s .functions) && aboveLast aboveNumber (s .variables) v))
     (λ v. rows (s .variables ++ (v ∷ [])) (s .cells) (s .functions))
     (fieldsAfter first bs variableFields))
 
 unfoldable pub cellLine : Rows → (first : ℕ) → List ℕ → Line Rows Refusal
 cellLine s first bs =
     counted s mostCells (s .cells)
-    (formed s (λ c. none (s .functions) && aboveCells (s .cells) c)
+    (formed s (λ c. none (s .functions) && aboveLast abovePair (s .cells) c)
     (λ c. rows (s .variables) (s .cells ++ (c ∷ [])) (s .functions))
     (fieldsAfter first bs cellFields))
 
@@ -142,14 +130,14 @@ functionLine s first bs =
 -- "A line's first byte decides its count": v, m, t; any other has none, and is 3
 unfoldable pub sheetLine : Rows → (first : ℕ) → List ℕ → Line Rows Refusal
 sheetLine s first bs =
-    cond (eqb first 118) (variableLine s first bs)
-    (cond (eqb first 109) (cellLine s first bs)
-    (cond (eqb first 116) (functionLine s first bs)
+    cond (eqb first (letter "v")) (variableLine s first bs)
+    (cond (eqb first (letter "m")) (cellLine s first bs)
+    (cond (eqb first (letter "t")) (functionLine s first bs)
     (stops (Refusal.BadSheet (lineNumber s)))))
 
 -- a sheet, "possibly empty"
 unfoldable pub sheet : List ℕ → Whole Rows Refusal
-sheet bs = lines sheetLine (suc mostRows) (rows [] [] []) bs
+sheet bs = lines sheetLine (rows [] [] []) bs
 
 -- ---- what is looked up
 
@@ -168,10 +156,7 @@ cellValue region index (cell region′ index′ real ∷ cs) =
     cond (eqb region region′ && eqb index index′) (found (record { re = real; im = doubleOf 0 })) (cellValue region index cs)
 
 -- "The first row that matches in name and operand bits counts"
-unfoldable pub sameBits : Complex → Complex → Bool
-sameBits x y = eqb (bitsOf (x .re)) (bitsOf (y .re)) && eqb (bitsOf (x .im)) (bitsOf (y .im))
-
 unfoldable pub functionValue : Operation → (x y : Complex) → List Row → Lookup
 functionValue o x y [] = missing
 functionValue o x y (row o′ x′ y′ value ∷ rs) =
-    cond (eqb (operationCode o) (operationCode o′) && (sameBits x x′ && sameBits y y′)) (found value) (functionValue o x y rs)
+    cond (eqb (operationCode o) (operationCode o′) && (identical x x′ && identical y y′)) (found value) (functionValue o x y rs)

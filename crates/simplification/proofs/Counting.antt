@@ -1,4 +1,4 @@
--- The count of simplify calls is at most the bound of 01's recurrence: 244,531 at limit 10, so that it never comes near the largest word.
+-- The count of simplify calls is at most the bound of 01's recurrence: 244,531 at limit 10.
 -- Assumes nothing.
 use mathlib.Core.Path.{_≡_, refl, ap, subst}
 use mathlib.Core.Bool.{Bool, true, false, cond}
@@ -12,10 +12,10 @@ use Rattle.store.specs.Storing.{Kept, nothing, result, State, state, Answer, gi
 use Rattle.sheet.specs.Rows.{Rows}
 use Rattle.evaluation.specs.declared.Evaluation.{Evaluation}
 use Rattle.evaluation.specs.Evaluating.{calculateFunction, calculateInfix}
-use Rattle.tasks.specs.Tasks.{oneMore, Task, number-of-pi, itself, calling, prefixing, infixing, taskAt}
+use Rattle.tasks.specs.Tasks.{Task, number-of-pi, itself, calling, prefixing, infixing, taskAt}
 use Rattle.arms.specs.Arms.{Plan, smaller, infixPlan, functionPlan, prefixPlan, the, new, folded, called, negation, combined, S, lesser, affine, minus, sum, product}
 use Rattle.simplification.specs.Bounds.{mostCalls}
-use Rattle.simplification.specs.Simplifying.{Simplifier, counted, foldedTo, again, keeping, carryOut, simplifyFunctionCall, simplifyPrefix, simplifyInfix, perform, resume, step, simplify}
+use Rattle.simplification.specs.Simplifying.{Simplifier, counted, foldedTo, again, keeping, carryOut, simplifyFunctionCall, simplifyPrefix, simplifyInfix, perform, resume, step, simplifyBy, simplify}
 use Rattle.simplification.proofs.Shapes.{weight, Closed, Fine, fine-infix, fine-function, fine-prefix}
 
 unfoldable pub count : State → ℕ
@@ -128,13 +128,9 @@ four R σ n f p x s = more (carryOut R σ p s) (heavy (count s) (weight p) n (x 
     heavy : (c a n : ℕ) → a ≤ 4 → c + a * n ≤ c + 4 * n
     heavy c a n l = omega (arith, ap (λ x. x * n) (rest a l))
 
-once-more : (s : State) → count (counted s) ≤ count s + 1
-unfolding count counted oneMore
-once-more (state room stored kept calls) = go (ltb calls 18446744073709551615)
-  where
-    go : (b : Bool) → cond b (suc calls) calls ≤ calls + 1
-    go true = omega arith
-    go false = omega arith
+once-more : (s : State) → count (counted suc s) ≤ count s + 1
+unfolding count counted
+once-more (state room stored kept calls) = omega arith
 
 module _ (R : Rows) (b f : Simplifier) (m n : ℕ) (x : Makes b m) (y : Makes f n) where
   performs : (task : Task) (s : State) → Below (count s + (2 * m + 4 * n)) (perform R b f task s)
@@ -157,9 +153,9 @@ module _ (R : Rows) (b f : Simplifier) (m n : ℕ) (x : Makes b m) (y : Makes f 
   resumes (result u) limit t s = omega arith
   resumes nothing limit t s = keeps _ t (perform R b f (taskAt limit t) s) (performs (taskAt limit t) s)
 
-  steps : (limit : ℕ) → Makes (step R b f limit) (1 + 2 * m + 4 * n)
+  steps : (limit : ℕ) → Makes (step suc R b f limit) (1 + 2 * m + 4 * n)
   unfolding step Makes
-  steps limit t s = more (resume R b f (recall t s) limit t (counted s)) (omega (arith, once-more s)) (resumes (recall t s) limit t (counted s))
+  steps limit t s = more (resume R b f (recall t s) limit t (counted suc s)) (omega (arith, once-more s)) (resumes (recall t s) limit t (counted suc s))
 
 -- ---- the bound
 
@@ -168,7 +164,7 @@ unfolding Makes Below
 gives-makes t s = omega arith
 
 makes-bound : (R : Rows) (k : ℕ) → Makes (simplify R k) (mostCalls k)
-unfolding simplify mostCalls Makes
+unfolding simplifyBy mostCalls Makes
 makes-bound R zero t s = steps R gives gives 0 0 gives-makes gives-makes 0 t s
 makes-bound R (suc zero) t s = steps R (simplify R 0) (simplify R 0) 1 1 (makes-bound R zero) (makes-bound R zero) 1 t s
 makes-bound R (suc (suc k)) t s =

@@ -3,5 +3,8 @@ mod Carrying
 pub mod Operating
 mod Shapes
 pub mod Counting
+pub mod Machine
+pub mod Complete
+pub mod Computing
 mod Examples
 pub mod Pi

@@ -18,12 +18,13 @@ use Rattle.store.proofs.Stored.{linked-above}
 use Rattle.sheet.specs.Rows.{Rows}
 use Rattle.evaluation.specs.declared.Evaluation.{Evaluation}
 use Rattle.tasks.specs.declared.Task.{Task}
-use Rattle.tasks.specs.Tasks.{oneMore, leafTask, taskAt}
+use Rattle.tasks.specs.Tasks.{leafTask, taskAt}
+use Rattle.tasks.specs.Deciding.{oneMore}
 use Rattle.tasks.specs.Deciding.{taskOf, TaskIn, Decides}
 use Rattle.arms.specs.declared.Arm.{Arm}
 use Rattle.arms.specs.Arms.{Plan, infixPlan}
 use Rattle.arms.specs.Choosing.{Sits, Chosen, ArmIn, planOf}
-use Rattle.simplification.specs.Simplifying.{Simplifier, counted, foldedTo, keeping, carryOut, perform, resume, step, simplify}
+use Rattle.simplification.specs.Simplifying.{Simplifier, counted, foldedTo, keeping, carryOut, perform, resume, step, simplifyBy}
 use Rattle.simplification.specs.Run.{KeepsAnswer}
 
 -- ---- a limit
@@ -46,19 +47,19 @@ once k = omega arith
 twice : (k : ℕ) → k ≡ suc (suc k) - 1 - 1
 twice k = omega arith
 
-pub unrolled : (R : Rows) (k : ℕ) (t : Tree) (s : State) → simplify R k t s ≡ step R (simplify R (k - 1)) (simplify R (k - 1 - 1)) k t s
-unfolding simplify step
-unrolled R zero t s = at-zero R gives gives (simplify R 0) (simplify R 0) (recall t s) t (counted s)
+pub unrolled : (R : Rows) (k : ℕ) (t : Tree) (s : State) → simplifyBy oneMore R k t s ≡ step oneMore R (simplifyBy oneMore R (k - 1)) (simplifyBy oneMore R (k - 1 - 1)) k t s
+unfolding simplifyBy step
+unrolled R zero t s = at-zero R gives gives (simplifyBy oneMore R 0) (simplifyBy oneMore R 0) (recall t s) t (counted oneMore s)
 unrolled R (suc zero) t s = refl
-unrolled R (suc (suc k)) t s = λ i. step R (simplify R (once k i)) (simplify R (twice k i)) (suc (suc k)) t s
+unrolled R (suc (suc k)) t s = λ i. step oneMore R (simplifyBy oneMore R (once k i)) (simplifyBy oneMore R (twice k i)) (suc (suc k)) t s
 
 -- ---- an arm, and a task
 
 module _ (R : Rows) where
   -- an arm that was chosen is carried out, where the limit is 1 less
   pub carried : {low k : ℕ} {arm : Arm} {plan : Plan} (s : State) {r : ℕ} {l l′ : Lent} → low ≡ k → Chosen (l .rows) (count (l .desk)) arm plan
-      → (ArmIn (count (l .desk)) arm → Built (carryOut R (simplify R low) (planOf (l .rows) arm) s) r l l′) → Built (carryOut R (simplify R k) plan s) r l l′
-  carried s e c b = named (λ i. carryOut R (simplify R (e i)) (c .wants i) s) (b (c .inside))
+      → (ArmIn (count (l .desk)) arm → Built (carryOut R (simplifyBy oneMore R low) (planOf (l .rows) arm) s) r l l′) → Built (carryOut R (simplifyBy oneMore R k) plan s) r l l′
+  carried s e c b = named (λ i. carryOut R (simplifyBy oneMore R (e i)) (c .wants i) s) (b (c .inside))
 
   -- the task of a node is done
   pub performed : (b f : Simplifier) {limit node : ℕ} {e : Expression} {task : Task} (s : State) {r : ℕ} {l l′ : Lent}
@@ -97,19 +98,19 @@ module _ (desk : List ℕ) {desk′ : List ℕ} (q : desk′ ≡ withCalls desk 
   pub sound-counted : (m : Memory) → Sound (of m desk) → Sound (of m desk′)
   sound-counted m h = sound-on m count-same (ap length q ∙ length-kept desk _) h
 
-  state-counted : (m : Memory) → Sound (of m desk) → stateIn (of m desk′) ≡ counted (stateIn (of m desk))
+  state-counted : (m : Memory) → Sound (of m desk) → stateIn (of m desk′) ≡ counted oneMore (stateIn (of m desk))
   unfolding stateIn counted
   state-counted m h = let x : callsOn desk′ ≡ oneMore (callsOn desk) = ap callsOn q ∙ calls-set desk _ (h .long) in rw (count-same, x) refl
 
 module _ (R : Rows) (k : ℕ) {kept : ℕ} {m : Memory} {desk desk′ : List ℕ} {node : ℕ} (o : node < count desk) (h : Sound (of m desk))
     (q : desk′ ≡ withCalls desk (oneMore (callsOn desk))) (c : Recalls m node kept) where
-  started : (u : Kept) → linked m kept ≡ u → step R (simplify R (k - 1)) (simplify R (k - 1 - 1)) k (treeAt m node) (stateIn (of m desk))
-      ≡ resume R (simplify R (k - 1)) (simplify R (k - 1 - 1)) u k (treeAt m node) (stateIn (of m desk′))
+  started : (u : Kept) → linked m kept ≡ u → step oneMore R (simplifyBy oneMore R (k - 1)) (simplifyBy oneMore R (k - 1 - 1)) k (treeAt m node) (stateIn (of m desk))
+      ≡ resume R (simplifyBy oneMore R (k - 1)) (simplifyBy oneMore R (k - 1 - 1)) u k (treeAt m node) (stateIn (of m desk′))
   unfolding step stateIn
   started u e =
-      λ i. resume R (simplify R (k - 1)) (simplify R (k - 1 - 1)) ((sym (c (count desk) (callsOn desk) (h .holds) o .1) ∙ e) i) k (treeAt m node) (sym (state-counted desk q m h) i)
+      λ i. resume R (simplifyBy oneMore R (k - 1)) (simplifyBy oneMore R (k - 1 - 1)) ((sym (c (count desk) (callsOn desk) (h .holds) o .1) ∙ e) i) k (treeAt m node) (sym (state-counted desk q m h) i)
 
-  pub was-kept : (kept ≡ 0 → ⊥) → Built (simplify R k (treeAt m node) (stateIn (of m desk))) (kept - 1) (of m desk) (of m desk′)
+  pub was-kept : (kept ≡ 0 → ⊥) → Built (simplifyBy oneMore R k (treeAt m node) (stateIn (of m desk))) (kept - 1) (of m desk) (of m desk′)
   unfolding resume
   was-kept x =
       on-desk m (count-same desk q)
@@ -117,20 +118,20 @@ module _ (R : Rows) (k : ℕ) {kept : ℕ} {m : Memory} {desk desk′ : List ℕ
       (stays (sound-counted desk q m h) (let z = c (count desk) (callsOn desk) (h .holds) o .0 in omega (arith, z, x, count-same desk q)) refl))
 
   pub was-done : {e : Expression} {r : ℕ} {m₁ m₂ : Memory} {desk₁ : List ℕ} → kept ≡ 0 → Sits m (count desk′) node e
-      → Built (perform R (simplify R (k - 1)) (simplify R (k - 1 - 1)) (taskAt k (treeOf m e)) (stateIn (of m desk′))) r (of m desk′) (of m₁ desk₁)
-      → KeepsAnswer node r m₁ m₂ → Built (simplify R k (treeAt m node) (stateIn (of m desk))) r (of m desk) (of m₂ desk₁)
+      → Built (perform R (simplifyBy oneMore R (k - 1)) (simplifyBy oneMore R (k - 1 - 1)) (taskAt k (treeOf m e)) (stateIn (of m desk′))) r (of m desk′) (of m₁ desk₁)
+      → KeepsAnswer node r m₁ m₂ → Built (simplifyBy oneMore R k (treeAt m node) (stateIn (of m desk))) r (of m desk) (of m₂ desk₁)
   unfolding resume linked
   was-done {e} {r} x z b w =
       on-desk m (count-same desk q)
       (named
-      (ap (λ t. keeping (treeAt m node) (perform R (simplify R (k - 1)) (simplify R (k - 1 - 1)) (taskAt k t) (stateIn (of m desk′)))) (sym (z .at .tree))
+      (ap (λ t. keeping (treeAt m node) (perform R (simplifyBy oneMore R (k - 1)) (simplifyBy oneMore R (k - 1 - 1)) (taskAt k t) (stateIn (of m desk′)))) (sym (z .at .tree))
       ∙ sym (unrolled R k (treeAt m node) (stateIn (of m desk)) ∙ started nothing (ap (linked m) x)))
       (kept-on r (still desk q o) b w))
 
 -- ---- the second operand, which was simplified in a store that had grown
 
-pub later : (R : Rows) (k : ℕ) (s : State) {t u : Tree} {r : ℕ} {l l′ : Lent} → t ≡ u → Built (simplify R k t s) r l l′ → Built (simplify R k u s) r l l′
-later R k s e b = named (ap (λ t. simplify R k t s) e) b
+pub later : (R : Rows) (k : ℕ) (s : State) {t u : Tree} {r : ℕ} {l l′ : Lent} → t ≡ u → Built (simplifyBy oneMore R k t s) r l l′ → Built (simplifyBy oneMore R k u s) r l l′
+later R k s e b = named (ap (λ t. simplifyBy oneMore R k t s) e) b
 
 pub chosen-later : (op : InfixOperator) {t v : Tree} (u : Tree) {arm : Arm} {n : ℕ} {m : Memory} → t ≡ v → Chosen m n arm (infixPlan op t u) → Chosen m n arm (infixPlan op v u)
 chosen-later op u e c = record { inside = c .inside; wants = c .wants ∙ ap (λ t. infixPlan op t u) e }

@@ -10,7 +10,7 @@ use Rattle.complex.specs.Constants.{piNumber}
 use Rattle.expression.specs.declared.InfixOperator.{InfixOperator}
 use Rattle.expression.specs.declared.PrefixOperator.{PrefixOperator}
 use Rattle.expression.specs.declared.ExpressionFunction.{ExpressionFunction}
-use Rattle.expression.specs.Trees.{Tree, Leaf, number, pi, variable, cell, leaf, functionCall, prefixed, infixed, measure, size, depth}
+use Rattle.expression.specs.Trees.{Tree, Leaf, number, pi, variable, cell, leaf, functionCall, prefixed, infixed, size, depth}
 use Rattle.expression.specs.Alike.{equal}
 use Rattle.expression.specs.Limits.{largest, deepest}
 use Rattle.store.specs.Storing.{Kept, nothing, result, State, state, Answer, gives, refused, andThen, among, intern, recall, keep}
@@ -20,7 +20,7 @@ use Rattle.evaluation.specs.Evaluating.{calculateFunction, calculateInfix}
 use Rattle.tasks.specs.Tasks.{leafTask, taskAt}
 use Rattle.arms.specs.Looks.{under, left, right}
 use Rattle.arms.specs.Arms.{Plan, smaller, infixPlan, functionPlan, prefixPlan, the, new, folded, called, negation, combined, S, lesser, affine, minus, sum, product}
-use Rattle.simplification.specs.Simplifying.{Simplifier, counted, foldedTo, again, keeping, carryOut, simplifyFunctionCall, simplifyPrefix, simplifyInfix, perform, resume, step, simplify}
+use Rattle.simplification.specs.Simplifying.{Simplifier, counted, foldedTo, again, keeping, carryOut, simplifyFunctionCall, simplifyPrefix, simplifyInfix, perform, resume, step, simplifyBy, simplify}
 use Rattle.simplification.proofs.Shapes.{Closed, Over, fine-infix, fine-function, fine-prefix}
 
 -- no leaf is pi
@@ -159,28 +159,28 @@ pub data Ready (k : ℕ) (t : Tree) : Type 0 where
 Simplifies : Simplifier → ℕ → Type 0
 Simplifies σ k = (t : Tree) (s : State) → Ready k t → Clean s → Good (σ t s)
 
-counted-clean : (s : State) → Clean s → Clean (counted s)
+counted-clean : (s : State) → Clean s → Clean (counted suc s)
 unfolding Clean counted recall
 counted-clean (state room stored kept calls) c = c
 
 -- the operands, at 1 less
 call-operand : {k : ℕ} {f : ExpressionFunction} {t : Tree} → Ready (suc k) (functionCall f t) → Ready k t
-unfolding Piless measure
+unfolding Piless size depth
 call-operand (pure x) = pure x
 call-operand (shallow l) = shallow (omega (arith, l))
 
 prefix-operand : {k : ℕ} {o : PrefixOperator} {t : Tree} → Ready (suc k) (prefixed o t) → Ready k t
-unfolding Piless measure
+unfolding Piless size depth
 prefix-operand (pure x) = pure x
 prefix-operand (shallow l) = shallow (omega (arith, l))
 
 left-operand : {k : ℕ} {o : InfixOperator} {t u : Tree} → Ready (suc k) (infixed o t u) → Ready k t
-unfolding Piless measure
+unfolding Piless size depth
 left-operand (pure x) = pure (x .0)
 left-operand (shallow l) = shallow (omega (arith, l))
 
 right-operand : {k : ℕ} {o : InfixOperator} {t u : Tree} → Ready (suc k) (infixed o t u) → Ready k u
-unfolding Piless measure
+unfolding Piless size depth
 right-operand (pure x) = pure (x .1)
 right-operand (shallow l) = shallow (omega (arith, l))
 
@@ -190,7 +190,7 @@ as-it-is (pure x) n = x
 as-it-is (shallow l) n = absurd (n l)
 
 positive : (t : Tree) → 1 ≤ depth t
-unfolding measure
+unfolding size depth
 positive (leaf l) = omega arith
 positive (functionCall f t) = omega arith
 positive (prefixed o t) = omega arith
@@ -205,7 +205,7 @@ module _ (R : Rows) (b f : Simplifier) where
   performs-leaf (cell region index) s c = (tt, c)
 
   performs-none : (t : Tree) (s : State) → Ready 0 t → Clean s → Good (perform R b f (taskAt 0 t) s)
-  unfolding perform taskAt Good measure
+  unfolding perform taskAt Good size depth
   performs-none (leaf l) s r c = performs-leaf l s c
   performs-none (functionCall g t) s r c = (as-it-is r (λ l. omega (arith, l, positive t)), c)
   performs-none (prefixed o t) s r c = (as-it-is r (λ l. omega (arith, l, positive t)), c)
@@ -226,16 +226,16 @@ module _ (R : Rows) (b f : Simplifier) where
       then-good (b u s′) (λ z s. carryOut R f (infixPlan o x z) s) (hb u s′ (right-operand r) d) λ z s″ w e.
       carries R f hf (infixPlan o x z) s″ (fine-infix Piless piless o x z y w .over) e
 
-  steps : (limit : ℕ) (t : Tree) (s : State) → Clean s → ((s : State) → Clean s → Good (perform R b f (taskAt limit t) s)) → Good (step R b f limit t s)
+  steps : (limit : ℕ) (t : Tree) (s : State) → Clean s → ((s : State) → Clean s → Good (perform R b f (taskAt limit t) s)) → Good (step suc R b f limit t s)
   unfolding step resume Good Clean
   steps limit t s c p = go (recall t s) refl
     where
-      go : (k : Kept) → recall t s ≡ k → Good (resume R b f k limit t (counted s))
+      go : (k : Kept) → recall t s ≡ k → Good (resume R b f k limit t (counted suc s))
       go (result u) e = (c t u e, counted-clean s c)
-      go nothing e = keeps t (perform R b f (taskAt limit t) (counted s)) (p (counted s) (counted-clean s c))
+      go nothing e = keeps t (perform R b f (taskAt limit t) (counted suc s)) (p (counted suc s) (counted-clean s c))
 
 simplifies : (R : Rows) (k : ℕ) → Simplifies (simplify R k) k
-unfolding simplify Simplifies
+unfolding simplifyBy Simplifies
 simplifies R zero t s r c = steps R gives gives 0 t s c λ s d. performs-none R gives gives t s r d
 simplifies R (suc zero) t s r c =
     steps R (simplify R 0) (simplify R 0) 1 t s c λ s d.

@@ -1,4 +1,4 @@
--- What the functions on nodes ensure where a store is held and the table has a sheet. Only connecting.
+-- What the functions on nodes ensure where a store is held and the table has a sheet: what simplifying gives, as a machine's word counts. Only connecting.
 use Prim.Native.Nat.{ℕ, _-_, _≤_, _<_}
 use mathlib.Core.Path.{_≡_}
 use mathlib.Core.List.{List}
@@ -16,9 +16,10 @@ use Rattle.sheet.specs.Rows.{Rows}
 use Rattle.sheet.specs.Table.{rowsOf, Held}
 use Rattle.evaluation.specs.declared.Evaluation.{Evaluation}
 use Rattle.tasks.specs.Tasks.{taskAt}
+use Rattle.tasks.specs.Deciding.{oneMore}
 use Rattle.arms.specs.declared.Arm.{Arm}
 use Rattle.arms.specs.Choosing.{Sits, ArmIn, planOf, addedPlan}
-use Rattle.simplification.specs.Simplifying.{carryOut, foldedTo, simplifyFunctionCall, simplifyPrefix, simplifyInfix, perform, simplify}
+use Rattle.simplification.specs.Simplifying.{carryOut, foldedTo, simplifyFunctionCall, simplifyPrefix, simplifyInfix, perform, simplifyBy}
 
 -- a step that builds, where the table has a sheet
 abbrev pub BuildsBy : (table : List ℕ) → Counts → (Of : Lent → Type 0) (want : Rows → Lent → State → Answer) (r : ℕ) (l l′ : Lent) → Type 0
@@ -30,32 +31,32 @@ Stores value = Builds (λ l. Unit {0}) (λ l. foldedTo value)
 
 -- an arm is carried out at a limit
 abbrev pub Carries : (limit : ℕ) (table : List ℕ) → Counts → Arm → (r : ℕ) (l l′ : Lent) → Type 0
-Carries limit table rows arm = BuildsBy table rows (λ l. ArmIn (count (l .desk)) arm) λ R l. carryOut R (simplify R limit) (planOf (l .rows) arm)
+Carries limit table rows arm = BuildsBy table rows (λ l. ArmIn (count (l .desk)) arm) λ R l. carryOut R (simplifyBy oneMore R limit) (planOf (l .rows) arm)
 
 -- S(S(a)+S(b))
 abbrev pub Adds : (limit : ℕ) (table : List ℕ) → Counts → (a b : Expression) (r : ℕ) (l l′ : Lent) → Type 0
 Adds limit table rows a b =
-    BuildsBy table rows (λ l. Within (count (l .desk)) a × Within (count (l .desk)) b) λ R l. carryOut R (simplify R limit) (addedPlan (l .rows) a b)
+    BuildsBy table rows (λ l. Within (count (l .desk)) a × Within (count (l .desk)) b) λ R l. carryOut R (simplifyBy oneMore R limit) (addedPlan (l .rows) a b)
 
 -- the operations, whose operands are simplified at `limit`
 abbrev pub CallsFunction : (limit : ℕ) (table : List ℕ) → Counts → ExpressionFunction → (child r : ℕ) (l l′ : Lent) → Type 0
 CallsFunction limit table rows f child =
-    BuildsBy table rows (λ l. child < count (l .desk)) λ R l. simplifyFunctionCall R (simplify R limit) (simplify R (limit - 1)) f (treeIn l child)
+    BuildsBy table rows (λ l. child < count (l .desk)) λ R l. simplifyFunctionCall R (simplifyBy oneMore R limit) (simplifyBy oneMore R (limit - 1)) f (treeIn l child)
 
 abbrev pub Prefixes : (limit : ℕ) (table : List ℕ) → Counts → PrefixOperator → (child r : ℕ) (l l′ : Lent) → Type 0
 Prefixes limit table rows o child =
-    BuildsBy table rows (λ l. child < count (l .desk)) λ R l. simplifyPrefix R (simplify R limit) (simplify R (limit - 1)) o (treeIn l child)
+    BuildsBy table rows (λ l. child < count (l .desk)) λ R l. simplifyPrefix R (simplifyBy oneMore R limit) (simplifyBy oneMore R (limit - 1)) o (treeIn l child)
 
 abbrev pub Infixes : (limit : ℕ) (table : List ℕ) → Counts → InfixOperator → (left right r : ℕ) (l l′ : Lent) → Type 0
 Infixes limit table rows op left right =
     BuildsBy table rows (λ l. (left < count (l .desk)) × (right < count (l .desk)))
-    λ R l. simplifyInfix R (simplify R limit) (simplify R (limit - 1)) op (treeIn l left) (treeIn l right)
+    λ R l. simplifyInfix R (simplifyBy oneMore R limit) (simplifyBy oneMore R (limit - 1)) op (treeIn l left) (treeIn l right)
 
 -- what is done at a node for which nothing is kept
 abbrev pub Performs : (limit : ℕ) (table : List ℕ) → Counts → (node : ℕ) (e : Expression) (r : ℕ) (l l′ : Lent) → Type 0
 Performs limit table rows node e =
     BuildsBy table rows (λ l. Sits (l .rows) (count (l .desk)) node e)
-    λ R l. perform R (simplify R (limit - 1)) (simplify R (limit - 1 - 1)) (taskAt limit (treeOf (l .rows) e))
+    λ R l. perform R (simplifyBy oneMore R (limit - 1)) (simplifyBy oneMore R (limit - 1 - 1)) (taskAt limit (treeOf (l .rows) e))
 
 -- the answer is kept, if it is a node
 pub record KeepsAnswer (node r : ℕ) (m m′ : Memory) : Type 0 where
@@ -64,4 +65,4 @@ pub record KeepsAnswer (node r : ℕ) (m m′ : Memory) : Type 0 where
 
 -- the tree of a node is simplified
 abbrev pub Simplifies : (limit : ℕ) (table : List ℕ) → Counts → (node r : ℕ) (l l′ : Lent) → Type 0
-Simplifies limit table rows node = BuildsBy table rows (λ l. node < count (l .desk)) λ R l. simplify R limit (treeIn l node)
+Simplifies limit table rows node = BuildsBy table rows (λ l. node < count (l .desk)) λ R l. simplifyBy oneMore R limit (treeIn l node)

@@ -10,15 +10,15 @@ use Rattle.store.specs.Storing.{Kept, nothing, result, State, state, Answer, gi
 use Rattle.sheet.specs.Rows.{Rows}
 use Rattle.evaluation.specs.declared.Evaluation.{Evaluation}
 use Rattle.evaluation.specs.Evaluating.{calculateFunction, calculateInfix}
-use Rattle.tasks.specs.Tasks.{oneMore, Task, number-of-pi, itself, calling, prefixing, infixing, taskAt}
+use Rattle.tasks.specs.Tasks.{Task, number-of-pi, itself, calling, prefixing, infixing, taskAt}
 use Rattle.arms.specs.Arms.{Plan, the, new, folded, called, negation, combined, S, lesser, affine, smaller, minus, sum, product, infixPlan, functionPlan, prefixPlan}
 
 abbrev pub Simplifier : Type 0
 Simplifier = Tree → State → Answer
 
--- one more simplify call
-unfoldable pub counted : State → State
-counted (state room stored kept calls) = state room stored kept (oneMore calls)
+-- one more simplify call, as `more` counts
+unfoldable pub counted : (more : ℕ → ℕ) → State → State
+counted more (state room stored kept calls) = state room stored kept (more calls)
 
 -- NEED before the folded number is stored; no operation on numbers is incomplete
 unfoldable pub foldedTo : Evaluation → State → Answer
@@ -74,11 +74,18 @@ module _ (rows : Rows) where
     resume (result u) limit t s = gives u s
     resume nothing limit t s = keeping t (perform (taskAt limit t) s)
 
-    unfoldable pub step : (limit : ℕ) → Tree → State → Answer
-    step limit t s = resume (recall t s) limit t (counted s)
+-- `more` is how a call is counted
+module _ (more : ℕ → ℕ) (rows : Rows) where
+  unfoldable pub step : (below further : Simplifier) (limit : ℕ) → Tree → State → Answer
+  step below further limit t s = resume rows below further (recall t s) limit t (counted more s)
 
   -- S at a limit; "subtraction stops at 0". At limit 0 nothing is simplified further
-  unfoldable pub simplify : (limit : ℕ) → Tree → State → Answer
-  simplify zero t s = step gives gives 0 t s
-  simplify (suc zero) t s = step (simplify zero) (simplify zero) 1 t s
-  simplify (suc (suc k)) t s = step (simplify (suc k)) (simplify k) (suc (suc k)) t s
+  unfoldable pub simplifyBy : (limit : ℕ) → Tree → State → Answer
+  simplifyBy zero t s = step gives gives 0 t s
+  simplifyBy (suc zero) t s = step (simplifyBy zero) (simplifyBy zero) 1 t s
+  simplifyBy (suc (suc k)) t s = step (simplifyBy (suc k)) (simplifyBy k) (suc (suc k)) t s
+
+-- "The answer carries the number of simplify calls made, cache hits counted": counted without end. (A machine's count has an end, which it
+-- never comes near: proofs/Machine.antt.)
+abbrev pub simplify : Rows → (limit : ℕ) → Simplifier
+simplify = simplifyBy suc

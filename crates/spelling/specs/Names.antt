@@ -2,6 +2,7 @@
 use Prim.Native.Nat.{ℕ, _-_}
 use mathlib.Core.List.{List, [], _∷_}
 use lib.ListN.{getD}
+use Rattle.text.specs.Letters.{bytes}
 use Rattle.expression.specs.declared.InfixOperator.{InfixOperator}
 use Rattle.expression.specs.declared.PrefixOperator.{PrefixOperator}
 use Rattle.expression.specs.declared.ExpressionFunction.{ExpressionFunction}
@@ -10,22 +11,22 @@ use Rattle.expression.specs.Codes.{infixCode, prefixCode, functionCode, operati
 
 -- sin, cos, exp, sqrt, and a fifth
 abbrev pub namesWith : (fifth : List ℕ) → List (List ℕ)
-namesWith fifth = (115 ∷ 105 ∷ 110 ∷ []) ∷ (99 ∷ 111 ∷ 115 ∷ []) ∷ (101 ∷ 120 ∷ 112 ∷ []) ∷ (115 ∷ 113 ∷ 114 ∷ 116 ∷ []) ∷ fifth ∷ []
+namesWith fifth = bytes "sin" ∷ bytes "cos" ∷ bytes "exp" ∷ bytes "sqrt" ∷ fifth ∷ []
 
 -- "name sin, cos, exp, sqrt or cis"
 abbrev pub functionNames : List (List ℕ)
-functionNames = namesWith (99 ∷ 105 ∷ 115 ∷ [])
+functionNames = namesWith (bytes "cis")
 
 -- "name sin, cos, exp, sqrt or pow"
 abbrev pub operationNames : List (List ℕ)
-operationNames = namesWith (112 ∷ 111 ∷ 119 ∷ [])
+operationNames = namesWith (bytes "pow")
 
 -- "op + or -", "op + - * / ^"
 abbrev pub prefixNames : List (List ℕ)
-prefixNames = (43 ∷ []) ∷ (45 ∷ []) ∷ []
+prefixNames = bytes "+" ∷ bytes "-" ∷ []
 
 abbrev pub infixNames : List (List ℕ)
-infixNames = (43 ∷ []) ∷ (45 ∷ []) ∷ (42 ∷ []) ∷ (47 ∷ []) ∷ (94 ∷ []) ∷ []
+infixNames = bytes "+" ∷ bytes "-" ∷ bytes "*" ∷ bytes "/" ∷ bytes "^" ∷ []
 
 -- the name with a number
 abbrev pub named : (names : List (List ℕ)) → (code : ℕ) → List ℕ

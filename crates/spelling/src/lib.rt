@@ -4,8 +4,8 @@ ghost use mathlib.Core.List.{[], _∷_};
 ghost use Prim.Native.Nat.{_+_, _<_, _≤_};
 ghost use lib.ListN.{length, drop};
 ghost use Rattle.text.specs.Reading.{nameFrom};
-ghost use Rattle.text.specs.Seen.{seen};
-ghost use Rattle.text.specs.Writing.{Put};
+ghost use Rattle.text.specs.Seen.{Reads};
+ghost use Rattle.text.specs.Put.{Put};
 ghost use Rattle.spelling.specs.Names.{namesWith, functionNames, operationNames, prefixNames, infixNames, named, functionName, operationName, prefixName, infixName};
 use expression::ExpressionFunction;
 use expression::InfixOperator;
@@ -18,7 +18,7 @@ use text::writing::write_bytes;
 // sin, cos, exp, sqrt, and a fifth.
 fn name_at(s: &[u8], at: usize, fifth: &[u8]) -> Number
     requires { ⌜ 0 < length (now fifth) ⌝ }
-    ensures { λ r. ⌜ seen (now (s .entry)) r ≡ nameFrom 1 (namesWith (now (fifth .entry))) (drop at (now (s .entry))) ⌝ }
+    ensures { λ r. ⌜ Reads (nameFrom 1 (namesWith (now (fifth .entry))) (drop at (now (s .entry)))) (now (s .entry)) r ⌝ }
 {
     if word_at(s, at, b"sin") {
         return Number::Is(1, at + 3);
@@ -39,19 +39,19 @@ fn name_at(s: &[u8], at: usize, fifth: &[u8]) -> Number
 }
 
 pub fn function_at(s: &[u8], at: usize) -> Number
-    ensures { λ r. ⌜ seen (now (s .entry)) r ≡ nameFrom 1 functionNames (drop at (now (s .entry))) ⌝ }
+    ensures { λ r. ⌜ Reads (nameFrom 1 functionNames (drop at (now (s .entry)))) (now (s .entry)) r ⌝ }
 {
     name_at(s, at, b"cis")
 }
 
 pub fn operation_at(s: &[u8], at: usize) -> Number
-    ensures { λ r. ⌜ seen (now (s .entry)) r ≡ nameFrom 1 operationNames (drop at (now (s .entry))) ⌝ }
+    ensures { λ r. ⌜ Reads (nameFrom 1 operationNames (drop at (now (s .entry)))) (now (s .entry)) r ⌝ }
 {
     name_at(s, at, b"pow")
 }
 
 pub fn prefix_at(s: &[u8], at: usize) -> Number
-    ensures { λ r. ⌜ seen (now (s .entry)) r ≡ nameFrom 1 prefixNames (drop at (now (s .entry))) ⌝ }
+    ensures { λ r. ⌜ Reads (nameFrom 1 prefixNames (drop at (now (s .entry)))) (now (s .entry)) r ⌝ }
 {
     if word_at(s, at, b"+") {
         return Number::Is(1, at + 1);
@@ -63,7 +63,7 @@ pub fn prefix_at(s: &[u8], at: usize) -> Number
 }
 
 pub fn infix_at(s: &[u8], at: usize) -> Number
-    ensures { λ r. ⌜ seen (now (s .entry)) r ≡ nameFrom 1 infixNames (drop at (now (s .entry))) ⌝ }
+    ensures { λ r. ⌜ Reads (nameFrom 1 infixNames (drop at (now (s .entry)))) (now (s .entry)) r ⌝ }
 {
     if word_at(s, at, b"+") {
         return Number::Is(1, at + 1);

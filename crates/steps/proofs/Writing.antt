@@ -6,7 +6,7 @@ use native.Mathlib.Nat.{add-zero, sub-zero}
 use native.Mathlib.Omega.{arith}
 use lib.ListN.{length, set, length-append}
 use lib.Seq.{sets, length-sets}
-use Rattle.text.specs.Writing.{Put}
+use Rattle.text.specs.Put.{Put}
 use Rattle.text.proofs.Putting.{put-then, put-length}
 use Rattle.steps.specs.declared.Step.{Step}
 use Rattle.steps.specs.declared.Fields.{Fields}

@@ -2,7 +2,7 @@
 ghost use mathlib.Core.Path.{_≡_};
 ghost use Prim.Native.Nat.{_+_, _<_, _≤_};
 ghost use lib.ListN.{length, drop};
-ghost use Rattle.text.specs.Writing.{Put};
+ghost use Rattle.text.specs.Put.{Put};
 ghost use Rattle.steps.specs.Steps.{first, fieldsIn, little, headOf, encoded};
 use super::Fields;
 use super::Step;

@@ -22,6 +22,7 @@ use Rattle.store.specs.Desk.{count, callsOn, withCount, refusalOn, refus
 use Rattle.store.specs.Held as Held
 use Rattle.store.specs.Held.{Holds, Lent, stateIn, Built, judged}
 use Rattle.store.specs.Walk.{Walked, Finds}
+use Rattle.expression.proofs.Sizes.{size-is as size-measure, depth-is as depth-measure}
 use Rattle.store.proofs.Trees.{measure-grown, room-each}
 use Rattle.store.proofs.Growing.{Limits, allowed-limits, found-answer, refused-answer, new-answer, holds-new, tree-old}
 use Rattle.store.proofs.Building.{seen-node, small, stays, refuses}
@@ -79,10 +80,10 @@ module _ {m : Memory} {desk : List ℕ} {n : ℕ} (en : n ≡ count desk) {e : E
   module _ (o : n ≤ node) {z y : ℕ} (ez : z ≡ measureFrom _+_ (sizeAt m) e) (ey : y ≡ measureFrom max (depthAt m) e) {v : ℕ}
       (ev : v ≡ judged (ltb largest z) (ltb deepest y) (ltb n most)) where
     size-is : z ≡ size (treeOf m e)
-    size-is = ez ∙ measure-grown _+_ (treeAt m) (sizeAt m) n e w λ i l. h .each i l .sized
+    size-is = ez ∙ measure-grown _+_ (treeAt m) (sizeAt m) n e w (λ i l. h .each i l .sized ∙ size-measure (treeAt m i)) ∙ sym (size-measure (treeOf m e))
 
     depth-is : y ≡ depth (treeOf m e)
-    depth-is = ey ∙ measure-grown max (treeAt m) (depthAt m) n e w λ i l. h .each i l .deep
+    depth-is = ey ∙ measure-grown max (treeAt m) (depthAt m) n e w (λ i l. h .each i l .deep ∙ depth-measure (treeAt m i)) ∙ sym (depth-measure (treeOf m e))
 
     verdict-is : v ≡ judged (ltb largest (size (treeOf m e))) (ltb deepest (depth (treeOf m e))) (ltb n (room m))
     verdict-is = ev ∙ rw (size-is, depth-is, k .most-is) refl

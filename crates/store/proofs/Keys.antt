@@ -10,7 +10,7 @@ use lib.Ieee.Fits.{and-i, and-l, and-r, eq→eqb}
 use Rattle.complex.specs.declared.Complex.{Complex}
 use Rattle.complex.specs.Bits.{bitsOf, doubleOf, Fitting}
 use Rattle.complex.specs.Constants.{ofParts}
-use Rattle.complex.specs.Equality.{classOfBits, classOf}
+use Rattle.complex.specs.Classes.{classOfBits, classOf}
 use Rattle.complex.specs.Equality as Numbers
 use Rattle.complex.proofs.Doubles.{bits-back, bits-canonical}
 use Rattle.complex.proofs.Pairs.{equal-by-classes, of-parts-fitting}

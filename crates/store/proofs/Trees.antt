@@ -9,12 +9,12 @@ use native.Mathlib.Omega.{arith}
 use lib.ListN.{length, getD, length-append, List·getD-append}
 use lib.Seq.{getD-at}
 use Rattle.complex.proofs.Pairs.{of-parts-fitting}
-use Rattle.expression.specs.Trees.{Tree, leaf, pi, functionCall, prefixed, measure}
+use Rattle.expression.specs.Trees.{Tree, leaf, pi, functionCall, prefixed}
 use Rattle.expression.specs.Limits.{Proper}
 use Rattle.expression.specs.declared.node.Expression.{Expression}
 use Rattle.store.specs.declared.node.Fields.{Fields}
 use Rattle.store.specs.Nodes.{expressionAs, expressionOf}
-use Rattle.expression.specs.Nodes.{grown, Within, Sound, measureFrom}
+use Rattle.expression.specs.Nodes.{grown, Within, Sound, measure, measureFrom}
 use Rattle.store.specs.Memory.{Memory, room, fieldsAt, expressionAt, trees, treeAt, treeOf}
 
 -- ---- nodes

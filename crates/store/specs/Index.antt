@@ -4,7 +4,7 @@ use mathlib.Core.Bool.{cond}
 use mathlib.Core.List.{List}
 use lib.Dec.{eqb, ltb}
 use lib.ListN.{getD, set}
-use Rattle.complex.specs.Equality.{classOfBits}
+use Rattle.complex.specs.Classes.{classOfBits}
 use Rattle.store.specs.declared.node.Fields.{Fields}
 use Rattle.store.specs.Words.{withNode, withHead, withKept}
 use Rattle.store.specs.Nodes.{fields}

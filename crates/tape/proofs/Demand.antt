@@ -8,7 +8,7 @@ use native.Mathlib.Omega.{arith}
 use lib.ListN.{length}
 use borrow.Author.Tests.{lt-ltb}
 use Rattle.complex.specs.declared.Complex.{Complex}
-use Rattle.expression.specs.Trees.{Tree, Leaf, number, pi, variable, cell, leaf, functionCall, prefixed, infixed, measure, size, depth}
+use Rattle.expression.specs.Trees.{Tree, Leaf, number, pi, variable, cell, leaf, functionCall, prefixed, infixed, size, depth}
 use Rattle.expression.specs.Limits.{Proper, ProperLeaf}
 use Rattle.sheet.specs.Rows.{Rows}
 use Rattle.evaluation.specs.declared.Evaluation.{Evaluation}
@@ -79,7 +79,7 @@ max-right : (a b : ℕ) → b ≤ max a b
 max-right a b = omega arith
 
 size-some : (t : Tree) → 1 ≤ size t
-unfolding measure
+unfolding size depth
 size-some (leaf l) = omega arith
 size-some (functionCall f t) = omega arith
 size-some (prefixed o t) = omega arith
@@ -121,7 +121,7 @@ same-place fs p q = λ i. checkFrom (p i) (q i) fs
 
 -- a tree's steps leave one value more
 tree-checks : (t : Tree) → Proper t → (at values : ℕ) (fs : List Fields) → values + depth t ≤ 64 → checkFrom at values (fieldsThen (steps t) fs) ≡ checkFrom (at + size t) (suc values) fs
-unfolding steps measure fieldsThen takes
+unfolding steps size depth fieldsThen takes
 tree-checks (leaf l) p at values fs d =
     let z = leaf-takes l in
     checks (leafStep l) (leaf-proper l p) at values fs (omega (arith, z)) (omega (arith, z, d)) ∙ same-place fs (omega arith) (omega (arith, z))
@@ -195,7 +195,7 @@ module _ (rows : Rows) where
 
   tree-plays : (t : Tree) (ss : List Step) (stack : List Complex) → length stack + depth t ≤ 64
       → run rows (steps t ++ ss) stack ≡ afterwards (evaluate rows t) (λ z. run rows ss (z ∷ stack))
-  unfolding steps run step evaluate measure
+  unfolding steps run step evaluate size depth
   tree-plays (leaf l) ss stack d =
       ap (λ o. andThen o (λ stack. run rows ss stack)) (leaf-step l stack) ∙ pushed (leafValue rows l) stack (λ stack. run rows ss stack) (omega (arith, d))
   tree-plays (functionCall f t) ss stack d =

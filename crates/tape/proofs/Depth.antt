@@ -10,7 +10,7 @@ use lib.Dec.{ltb}
 use borrow.Author.Tests.{lt-ltb}
 use Rattle.complex.specs.declared.Complex.{Complex}
 use Rattle.expression.specs.declared.InfixOperator.{InfixOperator}
-use Rattle.expression.specs.Trees.{Tree, Leaf, number, pi, variable, cell, leaf, functionCall, prefixed, infixed, measure, depth}
+use Rattle.expression.specs.Trees.{Tree, Leaf, number, pi, variable, cell, leaf, functionCall, prefixed, infixed, depth}
 use Rattle.sheet.specs.Rows.{Rows}
 use Rattle.evaluation.specs.declared.Evaluation.{Evaluation}
 use Rattle.evaluation.specs.Evaluating.{calculateFunction, calculateInfix, calculatePrefix, leafValue}
@@ -88,7 +88,7 @@ most-is t = ap (most 0) (sym (append-nil (steps t))) ∙ tree-most t 0 [] ∙ om
 
 -- and that is at most its depth
 pub need-depth : (t : Tree) → need t ≤ depth t
-unfolding need measure
+unfolding need depth
 need-depth (leaf l) = omega arith
 need-depth (functionCall f t) = omega (arith, need-depth t)
 need-depth (prefixed o t) = omega (arith, need-depth t)
@@ -104,7 +104,7 @@ chain o l zero = leaf l
 chain o l (suc k) = infixed o (leaf l) (chain o l k)
 
 pub chain-attains : (o : InfixOperator) (l : Leaf) (k : ℕ) → (most 0 (steps (chain o l k)) ≡ suc k) × (depth (chain o l k) ≡ suc k)
-unfolding chain need measure
+unfolding chain need depth
 chain-attains o l k = (most-is (chain o l k) ∙ needs k, deep k)
   where
     needs : (k : ℕ) → need (chain o l k) ≡ suc k

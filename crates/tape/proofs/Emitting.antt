@@ -8,13 +8,13 @@ use lib.ListN.{length, length-append, drop}
 use lib.Seq.{sets-eq}
 use borrow.Author.Tests.{lt-ltb, le-ltb}
 use Rattle.expression.specs.declared.refusal.Refusal.{Refusal}
-use Rattle.expression.specs.Trees.{Tree, leaf, functionCall, prefixed, infixed, measure, size}
+use Rattle.expression.specs.Trees.{Tree, leaf, functionCall, prefixed, infixed, size}
 use Rattle.expression.specs.declared.node.Expression.{Expression}
 use Rattle.expression.specs.Nodes.{grown, operandsOf}
 use Rattle.store.specs.Memory.{Memory, expressionAt, treeAt, treeOf}
 use Rattle.store.specs.Held.{Holds}
 use Rattle.store.proofs.Stored.{read-node}
-use Rattle.text.specs.Writing.{Put}
+use Rattle.text.specs.Put.{Put}
 use Rattle.text.proofs.Putting.{put-then, put-length}
 use Rattle.writing.specs.declared.Written.{Written}
 use Rattle.expression.specs.declared.node.Operands.{Operands}
@@ -28,7 +28,7 @@ use Rattle.tape.specs.Run.{stepFor, Places}
 -- ---- how many steps
 
 pub steps-size : (t : Tree) → length (steps t) ≡ size t
-unfolding steps measure
+unfolding steps size
 steps-size (leaf l) = refl
 steps-size (functionCall f t) = omega (arith, length-append (steps t) (Step.Function f ∷ []), steps-size t)
 steps-size (prefixed o t) = omega (arith, length-append (steps t) (Step.Prefix o ∷ []), steps-size t)

@@ -10,7 +10,7 @@ use Rattle.expression.specs.Trees.{number, pi, variable, cell}
 use Rattle.expression.specs.declared.node.Expression.{Expression}
 use Rattle.store.specs.Memory.{Memory, treeAt}
 use Rattle.store.specs.Held.{Holds}
-use Rattle.text.specs.Writing.{Put}
+use Rattle.text.specs.Put.{Put}
 use Rattle.writing.specs.declared.Written.{Written}
 use Rattle.sheet.specs.Rows.{Rows}
 use Rattle.evaluation.specs.declared.Evaluation.{Evaluation}

@@ -1,12 +1,19 @@
--- What `task_at` ensures: a task on nodes is a task on trees. Only connecting.
-use Prim.Native.Nat.{ℕ, _<_}
+-- How a machine's word counts, and what `task_at` ensures: a task on nodes is a task on trees. Only connecting.
+use Prim.Native.Nat.{ℕ, suc, _<_}
 use mathlib.Core.Path.{_≡_}
+use mathlib.Core.Bool.{cond}
+use lib.Dec.{ltb}
 use Rattle.expression.specs.Trees.{Tree}
 use Rattle.expression.specs.declared.node.Expression.{Expression}
 use Rattle.expression.specs.Nodes.{grown, Within}
 use Rattle.tasks.specs.declared.Task.{Task}
 use Rattle.tasks.specs.Tasks as Trees
 use Rattle.tasks.specs.Tasks.{number-of-pi, itself, calling, prefixing, infixing, taskAt}
+
+-- One more call. The word stays at its largest, which is never reached: the definition counts without end, and both counts agree
+-- (simplification/proofs/Machine.antt)
+unfoldable pub oneMore : (calls : ℕ) → ℕ
+oneMore calls = cond (ltb calls 18446744073709551615) (suc calls) calls
 
 -- a task read as one on trees, where `tree` gives the tree of each node
 abbrev pub taskOf : (tree : ℕ → Tree) → Task → Trees.Task

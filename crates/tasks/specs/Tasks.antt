@@ -1,8 +1,8 @@
--- 01's "Simplifying", as far as limit and tree decide alone: which limits are allowed, how calls are counted, and what is done at a tree for
+-- 01's "Simplifying", as far as limit and tree decide alone: which limits are allowed, and what is done at a tree for
 -- which nothing is kept. Definitions only.
 use Prim.Native.Nat.{ℕ, zero, suc}
-use mathlib.Core.Bool.{Bool, cond}
-use lib.Dec.{leb, ltb}
+use mathlib.Core.Bool.{Bool}
+use lib.Dec.{leb}
 use Rattle.expression.specs.declared.InfixOperator.{InfixOperator}
 use Rattle.expression.specs.declared.PrefixOperator.{PrefixOperator}
 use Rattle.expression.specs.declared.ExpressionFunction.{ExpressionFunction}
@@ -11,11 +11,6 @@ use Rattle.expression.specs.Trees.{Tree, Leaf, number, pi, variable, cell, leaf
 -- "5 BAD_LIMIT: limit above 10"
 unfoldable pub isAllowed : (limit : ℕ) → Bool
 isAllowed limit = leb limit 10
-
--- "The answer carries the number of simplify calls made, cache hits counted". The count is a machine word and would stay at its largest; it
--- never comes near it (`bounded` in simplification/proofs/Counting.antt)
-unfoldable pub oneMore : (calls : ℕ) → ℕ
-oneMore calls = cond (ltb calls 18446744073709551615) (suc calls) calls
 
 -- what is done at a tree for which nothing is kept
 pub data Task : Type 0 where

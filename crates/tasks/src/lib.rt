@@ -2,7 +2,7 @@
 // node and the limit alone. Nothing is built or simplified here.
 ghost use mathlib.Core.Path.{_≡_};
 ghost use Rattle.store.specs.Desk.{callsOn, withCalls};
-ghost use Rattle.tasks.specs.Tasks.{oneMore};
+ghost use Rattle.tasks.specs.Deciding.{oneMore};
 ghost use Rattle.tasks.specs.Deciding.{Decides};
 use expression::ExpressionFunction;
 use expression::InfixOperator;

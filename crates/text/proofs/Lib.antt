@@ -4,4 +4,5 @@ pub mod Putting
 pub mod RoundTrip
 pub mod Only
 pub mod Fields
+pub mod Shortening
 pub mod Lining

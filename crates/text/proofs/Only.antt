@@ -11,29 +11,22 @@ use lib.ListN.{length, getD, take, drop, take-append-drop}
 use lib.Seq.{append-snoc}
 use borrow.Author.Tests.{lt-ltb, le-ltb, eq-eqb, ne-eqb}
 use Rattle.text.specs.Reading.{Read, is, bad, ended, digitOf, run, value, spelt, decimal, hexFrom, hex, starts, nameFrom}
-use Rattle.text.specs.Writing.{byteOf, digits, inDecimal, lastHex, inHex}
+use Rattle.text.specs.Digits.{digits}
+use Rattle.text.specs.Writing.{byteOf, inDecimal, lastHex, inHex}
 use Rattle.text.proofs.Putting.{digits-one, digits-more}
-use Rattle.text.proofs.Running.{too-large}
+use Rattle.text.proofs.Running.{Digit, from-0-to-9, from-A-to-F, no-digit-at-all, which-digit, too-large}
 use Rattle.text.proofs.RoundTrip.{Small}
 
 -- a digit's byte is told by its value
 pub byte-digit : (b : ℕ) → digitOf b < 16 → byteOf (digitOf b) ≡ b
-unfolding digitOf byteOf
-byte-digit b h = elim (decLt b 48) [
-  | yes lt ↦ absurd (omega (arith, rw (lt-ltb b 48 lt) at h))
-  | no ge ↦ elim (decLt b 58) [
-    | yes lt ↦ rw (le-ltb b 48 (omega arith), lt-ltb b 58 lt, lt-ltb (b - 48) 10 (omega arith)) (omega arith)
-    | no ge2 ↦ elim (decLt b 65) [
-      | yes lt ↦ absurd (omega (arith, rw (le-ltb b 48 (omega arith), le-ltb b 58 (omega arith), lt-ltb b 65 lt) at h))
-      | no ge3 ↦ elim (decLt b 71) [
-        | yes lt ↦ rw (le-ltb b 48 (omega arith), le-ltb b 58 (omega arith), le-ltb b 65 (omega arith), lt-ltb b 71 lt, le-ltb (b - 55) 10 (omega arith)) (omega arith)
-        | no ge4 ↦ absurd (omega (arith, rw (le-ltb b 48 (omega arith), le-ltb b 58 (omega arith), le-ltb b 65 (omega arith), le-ltb b 71 (omega arith)) at h))
-      ]
-    ]
-  ]
+unfolding byteOf
+byte-digit b h = elim (which-digit b) [
+  | from-0-to-9 l g e ↦ rw (e, lt-ltb (b - 48) 10 (omega arith)) (omega arith)
+  | from-A-to-F l g e ↦ rw (e, le-ltb (10 + (b - 65)) 10 (omega arith)) (omega arith)
+  | no-digit-at-all p q e ↦ absurd (omega (arith, e, h))
 ]
 
-never : {A B : Type 0} {x : B} {rest : List ℕ} → bad ≡ is x rest → A
+pub never : {A B : Type 0} {x : B} {rest : List ℕ} → bad ≡ is x rest → A
 never e = let z : _≡_ {A = ℕ} 0 1 = cc in absurd (omega arith)
 
 -- ---- decimal

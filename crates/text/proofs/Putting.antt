@@ -11,7 +11,9 @@ use lib.Dec.{ltb}
 use lib.ListN.{length, set, getD, take, length-append}
 use lib.Seq.{sets, length-sets, take-suc, take-all}
 use borrow.Author.Tests.{lt-ltb, le-ltb}
-use Rattle.text.specs.Writing.{byteOf, digitsBy, digits, inDecimal, lastHex, inHex, Put}
+use Rattle.text.specs.Writing.{byteOf, inDecimal, lastHex, inHex}
+use Rattle.text.specs.Digits.{digitsBy, digits}
+use Rattle.text.specs.Put.{Put}
 
 -- ---- decimal digits
 
@@ -47,6 +49,10 @@ by-digits P one more n = go n n (omega arith)
     go : (f n : ℕ) → n ≤ f → P n
     go zero n h = one n (omega arith)
     go (suc f) n h = elim (decLt n 10) [ yes lt ↦ one n lt | no ge ↦ more n (omega arith) (go f (n / 10) (omega arith)) ]
+
+-- no other function has the two equations
+pub digits-only : (f : ℕ → List ℕ) → ((n : ℕ) → n < 10 → f n ≡ n ∷ []) → ((n : ℕ) → 10 ≤ n → f n ≡ f (n / 10) ++ (n % 10 ∷ [])) → (n : ℕ) → f n ≡ digits n
+digits-only f one more = by-digits (λ n. f n ≡ digits n) (λ n h. one n h ∙ sym (digits-one n h)) λ n h e. more n h ∙ ap (λ ds. ds ++ (n % 10 ∷ [])) e ∙ sym (digits-more n h)
 
 decimal-one : (n : ℕ) → n < 10 → inDecimal n ≡ byteOf n ∷ []
 unfolding inDecimal

@@ -1,7 +1,7 @@
 -- What is written reads back: `decimal-reads`, `hex-reads`, and as fields `decimal-field`, `hex-field`. Assumes nothing.
 use mathlib.Core.Path.{_≡_, refl, sym, ap, _∙_}
 use mathlib.Core.List.{List, [], _∷_, _++_, map, append-assoc, append-nil}
-use Prim.Native.Nat.{ℕ, zero, suc, _+_, _*_, _/_, _%_, _^_, _≤_, _<_}
+use Prim.Native.Nat.{ℕ, zero, suc, _+_, _-_, _*_, _/_, _%_, _^_, _≤_, _<_}
 use native.Mathlib.Nat.{pow-suc}
 use native.Mathlib.Omega.{arith}
 use native.Mathlib.Decide.{decLt}
@@ -9,14 +9,24 @@ use lib.ListN.{length, getD, length-append, length-map, List·getD-append}
 use lib.Seq.{drop-append-seam}
 use borrow.Author.Tests.{lt-ltb, le-ltb, eq-eqb, ne-eqb}
 use Rattle.text.specs.Reading.{is, ended, digitOf, run, value, spelt, decimal, hexFrom, hex, decimalField, hexField}
-use Rattle.text.specs.Writing.{byteOf, digits, inDecimal, lastHex, inHex}
+use Rattle.text.specs.Digits.{digits}
+use Rattle.text.specs.Writing.{byteOf, inDecimal, lastHex, inHex}
 use Rattle.text.proofs.Putting.{digits-one, digits-more, by-digits}
+use Rattle.text.proofs.Running.{Digit, from-0-to-9, from-A-to-F, no-digit-at-all, which-digit}
 
 pub digit-byte : (d : ℕ) → d < 16 → digitOf (byteOf d) ≡ d
-unfolding digitOf byteOf
+unfolding byteOf
 digit-byte d h = elim (decLt d 10) [
-  | yes lt ↦ rw (lt-ltb d 10 lt, le-ltb (48 + d) 48 (omega arith), lt-ltb (48 + d) 58 (omega arith)) (omega arith)
-  | no ge ↦ rw (le-ltb d 10 (omega arith), le-ltb (55 + d) 48 (omega arith), le-ltb (55 + d) 58 (omega arith), le-ltb (55 + d) 65 (omega arith), lt-ltb (55 + d) 71 (omega arith)) (omega arith)
+  | yes lt ↦ rw (lt-ltb d 10 lt) (elim (which-digit (48 + d)) [
+    | from-0-to-9 l g e ↦ omega (arith, e)
+    | from-A-to-F l g e ↦ absurd (omega (arith, l))
+    | no-digit-at-all p q e ↦ absurd (p (omega arith, omega arith))
+  ])
+  | no ge ↦ rw (le-ltb d 10 (omega arith)) (elim (which-digit (65 + (d - 10))) [
+    | from-0-to-9 l g e ↦ absurd (omega (arith, g))
+    | from-A-to-F l g e ↦ omega (arith, e)
+    | no-digit-at-all p q e ↦ absurd (q (omega arith, omega arith))
+  ])
 ]
 
 -- ---- decimal

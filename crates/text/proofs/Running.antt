@@ -10,7 +10,7 @@ use native.Mathlib.Decide.{decLt}
 use lib.ListN.{length, getD, drop, List·getD-eq-default, drop-of-length-le, length-drop}
 use lib.Dec.{eqb, ltb}
 use lib.Seq.{drop-cons, drop-drop}
-use borrow.Author.Tests.{lt-ltb, le-ltb, eq-eqb, ne-eqb}
+use borrow.Author.Tests.{lt-ltb, le-ltb, le-leb, lt-leb, eq-eqb, ne-eqb}
 use Rattle.text.specs.declared.reading.Number.{Number}
 use Rattle.text.specs.Seen.{lowDigit, highDigit}
 use Rattle.text.specs.Reading.{is, bad, ended, digitOf, run, value, spelt, decimal, hexFrom, hex, starts}
@@ -91,6 +91,7 @@ pub record Going (s : List ℕ) (at limit first d v i : ℕ) : Type 0 where
   pub small : v ≤ limit
   pub below : at < i → v < limit
   pub lead : at < i → first < 10
+  pub inside : at < i → i ≤ length s
   pub start : at ≡ i → d ≡ first
   pub digit : d ≡ digitOf (getD s i 0)
   pub place : i + length (run (drop i s)) ≡ at + length (run (drop at s))
@@ -102,6 +103,7 @@ begins s at limit d e = record {
   small = omega arith;
   below = λ h. absurd (omega arith);
   lead = λ h. absurd (omega arith);
+  inside = λ h. absurd (omega arith);
   start = λ h. refl;
   digit = e;
   place = refl;
@@ -122,6 +124,7 @@ module _ {s : List ℕ} {at limit f d v i : ℕ} (g : Going s at limit f d v i) 
     small = omega arith;
     below = λ _. m;
     lead = λ _. elim (decLt at i) [ yes l ↦ g .lead l | no n ↦ omega (arith, g .start (omega (arith, n, g .from)), h) ];
+    inside = λ _. omega (arith, in-text h);
     start = λ l. absurd (omega (arith, g .from, l));
     digit = q;
     place = omega (arith, rw (at-digit h) at (g .place));
@@ -182,17 +185,55 @@ module _ {s : List ℕ} {at limit f d v i : ℕ} (g : Going s at limit f d v i) 
 
 -- ---- a digit
 
+pub data Digit (b : ℕ) : Type 0 where
+  from-0-to-9 : 48 ≤ b → b ≤ 57 → digitOf b ≡ b - 48 → Digit b
+  from-A-to-F : 65 ≤ b → b ≤ 70 → digitOf b ≡ 10 + (b - 65) → Digit b
+  no-digit-at-all : ((48 ≤ b) × (b ≤ 57) → ⊥) → ((65 ≤ b) × (b ≤ 70) → ⊥) → digitOf b ≡ 16 → Digit b
+
+pub which-digit : (b : ℕ) → Digit b
+unfolding digitOf
+which-digit b = elim (decLt b 48) [
+  | yes l ↦ no-digit-at-all (λ h. omega (arith, h .0)) (λ h. omega (arith, h .0)) (rw (lt-leb 48 b l, lt-leb 65 b (omega arith)))
+  | no g ↦ elim (decLt b 58) [
+    | yes l ↦ from-0-to-9 (omega arith) (omega arith) (rw (le-leb 48 b (omega arith), le-leb b 57 (omega arith)))
+    | no g ↦ elim (decLt b 65) [
+      | yes l ↦ no-digit-at-all (λ h. omega (arith, h .1)) (λ h. omega (arith, h .0)) (rw (le-leb 48 b (omega arith), lt-leb b 57 (omega arith), lt-leb 65 b l))
+      | no g ↦ elim (decLt b 71) [
+        | yes l ↦ from-A-to-F (omega arith) (omega arith) (rw (le-leb 48 b (omega arith), lt-leb b 57 (omega arith), le-leb 65 b (omega arith), le-leb b 70 (omega arith)))
+        | no g ↦ no-digit-at-all (λ h. omega (arith, h .1)) (λ h. omega (arith, h .1)) (rw (le-leb 48 b (omega arith), lt-leb b 57 (omega arith), le-leb 65 b (omega arith), lt-leb b 70 (omega arith)))
+      ]
+    ]
+  ]
+]
+
 pub digit-low : (b : ℕ) → b < 58 → lowDigit b ≡ digitOf b
-unfolding lowDigit digitOf
-digit-low b h = rw (lt-ltb b 58 h)
+unfolding lowDigit
+digit-low b h = elim (which-digit b) [
+  | from-0-to-9 l g e ↦ rw (le-ltb b 48 l) (sym e)
+  | from-A-to-F l g e ↦ absurd (omega (arith, l))
+  | no-digit-at-all p q e ↦ elim (decLt b 48) [
+    | yes l ↦ rw (lt-ltb b 48 l) (sym e)
+    | no g ↦ absurd (p (omega arith, omega arith))
+  ]
+]
 
 pub digit-high : (b : ℕ) → 58 ≤ b → b < 71 → highDigit b ≡ digitOf b
-unfolding highDigit digitOf
-digit-high b l h = rw (le-ltb b 48 (omega arith), le-ltb b 58 l, lt-ltb b 71 h)
+unfolding highDigit
+digit-high b l h = elim (which-digit b) [
+  | from-0-to-9 p q e ↦ absurd (omega (arith, q))
+  | from-A-to-F p q e ↦ rw (le-ltb b 65 p) (omega (arith, e, p))
+  | no-digit-at-all p q e ↦ elim (decLt b 65) [
+    | yes m ↦ rw (lt-ltb b 65 m) (sym e)
+    | no g ↦ absurd (q (omega arith, omega arith))
+  ]
+]
 
 pub digit-none : (b : ℕ) → 71 ≤ b → 16 ≡ digitOf b
-unfolding digitOf
-digit-none b h = rw (le-ltb b 48 (omega arith), le-ltb b 58 (omega arith), le-ltb b 65 (omega arith), le-ltb b 71 h)
+digit-none b h = elim (which-digit b) [
+  | from-0-to-9 l g e ↦ absurd (omega (arith, g))
+  | from-A-to-F l g e ↦ absurd (omega (arith, g))
+  | no-digit-at-all p q e ↦ sym e
+]
 
 -- ---- sixteen hex digits: what is left to be done is the whole, unless there was a byte that is none
 

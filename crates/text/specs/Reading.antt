@@ -3,7 +3,9 @@ use Prim.Native.Nat.{ℕ, zero, suc, _+_, _-_, _*_}
 use mathlib.Core.List.{List, [], _∷_}
 use mathlib.Core.Bool.{Bool, true, false, cond, _&&_}
 use lib.ListN.{length, drop}
-use lib.Dec.{ltb, eqb}
+use lib.Dec.{leb, ltb, eqb}
+use Prim.Native.Char.{Char}
+use Rattle.text.specs.Letters.{letter}
 
 -- what was read, and the rest
 pub data Read (A : Type 0) : Type 0 where
@@ -28,9 +30,13 @@ ended stop (is x []) = bad
 ended stop (is x (b ∷ rest)) = cond (eqb b stop) (is x rest) bad
 ended stop bad = bad
 
+-- one of the letters from the first to the last
+abbrev pub isFrom : (first last : Char) → ℕ → Bool
+isFrom first last b = leb (letter first) b && leb b (letter last)
+
 -- the value of the byte of a digit, 0-9 or A-F, and 16 for any other byte
 unfoldable pub digitOf : ℕ → ℕ
-digitOf b = cond (ltb b 48) 16 (cond (ltb b 58) (b - 48) (cond (ltb b 65) 16 (cond (ltb b 71) (b - 55) 16)))
+digitOf b = cond (isFrom "0" "9" b) (b - letter "0") (cond (isFrom "A" "F" b) (10 + (b - letter "A")) 16)
 
 -- the decimal digits up to the first byte that is none
 unfoldable pub run : List ℕ → List ℕ

@@ -1,8 +1,9 @@
 -- What the code's answer says, as what is read of a list of bytes. Only connecting.
-use Prim.Native.Nat.{ℕ, _-_}
+use mathlib.Core.Path.{_≡_}
+use Prim.Native.Nat.{ℕ, _-_, _≤_}
 use mathlib.Core.Bool.{cond}
 use mathlib.Core.List.{List}
-use lib.ListN.{drop}
+use lib.ListN.{length, drop}
 use lib.Dec.{ltb}
 use Rattle.text.specs.declared.reading.Number.{Number}
 use Rattle.text.specs.Reading.{Read, is, bad}
@@ -11,6 +12,17 @@ use Rattle.text.specs.Reading.{Read, is, bad}
 abbrev pub seen : List ℕ → Number → Read ℕ
 seen text (Number.Is v next) = is v (drop next text)
 seen text Number.Bad = bad
+
+-- the place is one of the text or its end
+abbrev pub Inside : List ℕ → Number → Type 0
+Inside text (Number.Is v next) = next ≤ length text
+Inside text Number.Bad = Unit {0}
+
+-- what a reader ensures: it finds what the definition says, and a place inside the text, so that its answer is determined (proofs/Fields.antt,
+-- `one-number`)
+pub record Reads (want : Read ℕ) (text : List ℕ) (r : Number) : Type 0 where
+  pub answer : seen text r ≡ want
+  pub inside : Inside text r
 
 -- the value of a byte as a digit 0-9, if it is below 58, and as a digit A-F, if it is below 71
 unfoldable pub lowDigit : ℕ → ℕ

@@ -3,7 +3,7 @@ ghost use mathlib.Core.Path.{_≡_};
 ghost use Prim.Native.Nat.{_^_, _<_, _≤_, max};
 ghost use lib.ListN.{getD, drop};
 ghost use Rattle.text.specs.Reading.{digitOf, decimal, hex, starts, ended, decimalField, hexField};
-ghost use Rattle.text.specs.Seen.{seen, lowDigit, highDigit};
+ghost use Rattle.text.specs.Seen.{seen, Reads, lowDigit, highDigit};
 
 // What is read at a place: a number and the place after it, or none such.
 pub enum Number {
@@ -52,7 +52,7 @@ fn greater(a: u64, b: u64) -> u64
 // A decimal number below the limit.
 pub fn read_decimal(s: &[u8], at: usize, limit: u64) -> Number
     requires { ⌜ limit ≤ 2 ^ 33 ⌝ }
-    ensures { λ r. ⌜ seen (now (s .entry)) r ≡ decimal limit (drop at (now (s .entry))) ⌝ }
+    ensures { λ r. ⌜ Reads (decimal limit (drop at (now (s .entry)))) (now (s .entry)) r ⌝ }
 {
     let first = digit(byte_at(s, at));
     let mut d = first;
@@ -79,7 +79,7 @@ pub fn read_decimal(s: &[u8], at: usize, limit: u64) -> Number
 
 // 16 hex digits: all are read before it is asked whether one of them is none.
 pub fn read_hex(s: &[u8], at: usize) -> Number
-    ensures { λ r. ⌜ seen (now (s .entry)) r ≡ hex (drop at (now (s .entry))) ⌝ }
+    ensures { λ r. ⌜ Reads (hex (drop at (now (s .entry)))) (now (s .entry)) r ⌝ }
 {
     if s.len() < 16 {
         return Number::Bad;
@@ -105,7 +105,7 @@ pub fn read_hex(s: &[u8], at: usize) -> Number
 // The byte that ends a field, after what stood in it.
 pub fn end_field(s: &[u8], n: Number, stop: u8) -> Number
     requires { ⌜ 0 < stop ⌝ }
-    ensures { λ r. ⌜ seen (now (s .entry)) r ≡ ended stop (seen (now (s .entry)) n) ⌝ }
+    ensures { λ r. ⌜ Reads (ended stop (seen (now (s .entry)) n)) (now (s .entry)) r ⌝ }
 {
     let Number::Is(v, next) = n else {
         return Number::Bad;
@@ -118,14 +118,14 @@ pub fn end_field(s: &[u8], n: Number, stop: u8) -> Number
 
 pub fn decimal_field(s: &[u8], at: usize, stop: u8, limit: u64) -> Number
     requires { ⌜ (0 < stop) × (limit ≤ 2 ^ 33) ⌝ }
-    ensures { λ r. ⌜ seen (now (s .entry)) r ≡ decimalField stop limit (drop at (now (s .entry))) ⌝ }
+    ensures { λ r. ⌜ Reads (decimalField stop limit (drop at (now (s .entry)))) (now (s .entry)) r ⌝ }
 {
     end_field(s, read_decimal(s, at, limit), stop)
 }
 
 pub fn hex_field(s: &[u8], at: usize, stop: u8) -> Number
     requires { ⌜ 0 < stop ⌝ }
-    ensures { λ r. ⌜ seen (now (s .entry)) r ≡ hexField stop (drop at (now (s .entry))) ⌝ }
+    ensures { λ r. ⌜ Reads (hexField stop (drop at (now (s .entry)))) (now (s .entry)) r ⌝ }
 {
     end_field(s, read_hex(s, at), stop)
 }

@@ -4,7 +4,8 @@ ghost use mathlib.Core.Path.{_≡_};
 ghost use mathlib.Core.List.{[], _∷_, _++_};
 ghost use Prim.Native.Nat.{_+_, _<_, _≤_};
 ghost use lib.ListN.{length};
-ghost use Rattle.text.specs.Writing.{byteOf, inDecimal, inHex, Put};
+ghost use Rattle.text.specs.Writing.{byteOf, inDecimal, inHex};
+ghost use Rattle.text.specs.Put.{Put};
 
 // The byte of a digit.
 pub fn digit_byte(d: u64) -> u8

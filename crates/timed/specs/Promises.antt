@@ -22,6 +22,7 @@ use Rattle.tape.specs.Run as Taping
 use Rattle.calls.specs.Calls.{evaluated}
 use Rattle.calls.specs.Lent.{Work}
 use Rattle.calls.specs.Frame as Frame
+use Rattle.calls.specs.Promises as Calls
 use Rattle.timed.specs.Packed.{builtOf, listingOf, sheetOf, jobOf, writtenOf, simplifiedOf, checkedOf, valueOf}
 
 -- r is an answer of which P holds, packed
@@ -66,7 +67,7 @@ abbrev pub EvaluatesNode : (m : Memory) (table : List ℕ) (rows : Counts) (node
 EvaluatesNode m table rows node below r out out′ = PacksValue (λ x. Evaluating.Evaluates m table rows node below x) r out out′
 
 abbrev pub EvaluatesTexts : (list values : List ℕ) (w : Work) (r : ℕ) (out out′ : List ℕ) (w′ : Work) → Type 0
-EvaluatesTexts list values w r out out′ w′ = Packs (λ x. valueOf x out) (λ x. Frame.Evaluates list values w x w′) (r, out′)
+EvaluatesTexts list values w r out out′ w′ = Packs (λ x. valueOf x out) (λ x. Calls.Evaluates list values w x w′) (r, out′)
 
 -- ---- simplifying
 
@@ -74,7 +75,7 @@ abbrev pub SimplifiesNode : (limit : ℕ) (table : List ℕ) (rows : Counts) (no
 SimplifiesNode limit table rows node r l l′ = Packs (builtOf (l′ .desk)) (λ x. Simplifying.Simplifies limit table rows node x l l′) r
 
 abbrev pub SimplifiesTexts : (limit : ℕ) (list values out : List ℕ) (w : Work) (r : ℕ) (out′ : List ℕ) (w′ : Work) → Type 0
-SimplifiesTexts limit list values out w r out′ w′ = Packs simplifiedOf (λ x. Frame.Simplifies limit list values out w x out′ w′) r
+SimplifiesTexts limit list values out w r out′ w′ = Packs simplifiedOf (λ x. Calls.Simplifies limit list values out w x out′ w′) r
 
 -- ---- tapes
 
@@ -91,4 +92,4 @@ ChecksAndPlays Checked.Sound tape table rows r out out′ = Plays tape table row
 ChecksAndPlays (Checked.Bad step) tape table rows r out out′ = _≡_ {A = ℕ × List ℕ} (r, out′) (checkedOf (Checked.Bad step), out)
 
 abbrev pub PlaysBytes : (tape values table : List ℕ) (r : ℕ) (out out′ table′ : List ℕ) → Type 0
-PlaysBytes tape values table r out out′ table′ = Packs (λ x. valueOf x out) (λ x. Frame.Plays tape values table x table′) (r, out′)
+PlaysBytes tape values table r out out′ table′ = Packs (λ x. valueOf x out) (λ x. Calls.Plays tape values table x table′) (r, out′)

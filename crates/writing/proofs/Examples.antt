@@ -5,7 +5,8 @@ use Rattle.expression.specs.declared.InfixOperator.{InfixOperator}
 use Rattle.expression.specs.Trees.{Tree, leaf, variable, infixed}
 use Rattle.expression.specs.Alike.{alike, alikeLeaves}
 use Rattle.store.specs.Storing.{among, place}
-use Rattle.text.specs.Writing.{byteOf, digits, digitsBy, inDecimal, line}
+use Rattle.text.specs.Digits.{digits, digitsBy}
+use Rattle.text.specs.Writing.{byteOf, inDecimal, line}
 use Rattle.writing.specs.Order.{once, finished, order, leafFields, lineFields, text, textOf}
 
 abbrev a : Tree

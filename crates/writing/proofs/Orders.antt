@@ -8,7 +8,7 @@ use native.Mathlib.Decide.{decLt}
 use lib.Dec.{T}
 use lib.ListN.{length, getD, length-append, List·getD-append}
 use lib.Seq.{getD-at}
-use Rattle.expression.specs.Trees.{Tree, leaf, pi, functionCall, prefixed, infixed, size, measure}
+use Rattle.expression.specs.Trees.{Tree, leaf, pi, functionCall, prefixed, infixed, size}
 use Rattle.expression.specs.Alike.{identical}
 use Rattle.expression.specs.Limits.{Limited, Proper}
 use Rattle.expression.proofs.Likeness.{identical-refl, identical-is-equal, equal-size}
@@ -177,7 +177,7 @@ once-smaller u t done p q h e = go (among done u)
     go false = among-snoc done u t ∙ or-no (among done t) (identical t u) e (apart (identical t u) refl)
 
 pub not-yet : (u t : Tree) (done : List Tree) → Proper u → Proper t → size u < size t → among done t ≡ false → among (finished u done) t ≡ false
-unfolding finished measure
+unfolding finished size
 not-yet (leaf l) t done p q h e = once-smaller (leaf l) t done p q h e
 not-yet (functionCall f s) t done p q h e = once-smaller (functionCall f s) t (finished s done) p q h (not-yet s t done p q (omega (arith, h)) e)
 not-yet (prefixed o s) t done p q h e = once-smaller (prefixed o s) t (finished s done) p q h (not-yet s t done p q (omega (arith, h)) e)

@@ -17,7 +17,7 @@ use Rattle.expression.specs.declared.InfixOperator.{InfixOperator}
 use Rattle.expression.specs.declared.PrefixOperator.{PrefixOperator}
 use Rattle.expression.specs.declared.ExpressionFunction.{ExpressionFunction}
 use Rattle.expression.specs.Codes.{infixCode, prefixCode, functionCode}
-use Rattle.expression.specs.Trees.{Tree, leaf, number, pi, variable, cell, functionCall, prefixed, infixed, size, depth, measure}
+use Rattle.expression.specs.Trees.{Tree, leaf, number, pi, variable, cell, functionCall, prefixed, infixed, size, depth}
 use Rattle.expression.specs.Alike.{identical}
 use Rattle.expression.specs.Limits.{Limited, Proper, largest, deepest}
 use Rattle.expression.proofs.Numbering.{infix-back, prefix-back, function-back}
@@ -28,9 +28,11 @@ use Rattle.store.proofs.Places.{place-within, place-hit, place-old, among-no}
 use Rattle.text.specs.Reading.{is, then, tab, ended, digitOf, nameField, nameFrom, starts}
 use Rattle.text.specs.Writing.{inDecimal, inHex, line}
 use Rattle.text.specs.Lines as Lines
-use Rattle.text.specs.Lines.{goes, lines, atLine, afterLine}
+use Rattle.text.specs.Lines.{goes, lines, afterLine, none}
+use Rattle.text.proofs.Lining.{no-line, next-line}
+use Rattle.listing.proofs.Shortening.{listing-shortens}
 use Rattle.text.proofs.RoundTrip.{decimal-field, hex-field}
-use Rattle.listing.specs.Listings.{Swap, Known, known, none, stored, formed, nodeLine, listingLine, accepted, rooted, last, whole, listing, mostLines}
+use Rattle.listing.specs.Listings.{Swap, Known, known, stored, formed, nodeLine, listingLine, accepted, rooted, last, whole, listing}
 use Rattle.spelling.specs.Names.{functionNames, prefixNames, infixNames, named}
 use Rattle.node_lines.specs.NodeLines.{childField, numberFields, variableFields, cellFields, functionFields, prefixFields, infixFields, fieldsOf, nodeFields}
 use Rattle.writing.specs.Order.{finished, order, leafFields, lineFields, text, textOf}
@@ -199,17 +201,19 @@ propers-snoc ts t ps p k h = go (decLt k (length ts))
     go (yes y) = rw (List·getD-append ts (t ∷ []) (leaf pi) k y) (ps k y)
     go (no n) = let z : k ≡ length ts = omega (arith, length-append ts (t ∷ [])) in rw (z, getD-at ts t [] (leaf pi) (length ts) refl) p
 
-all-read : (substituting : Bool) (room : ℕ) (later done : List Tree) (fuel : ℕ) → Propers done → Follow done later → length later < fuel → length (done ++ later) ≤ 1024 → length (done ++ later) ≤ room
-    → lines (listingLine substituting) fuel (knownOf room done) (text (done ++ later) later) ≡ Lines.read (knownOf room (done ++ later))
-unfolding lines atLine afterLine text
-all-read substituting room [] done zero ps f h few r = absurd (omega arith)
-all-read substituting room [] done (suc fuel) ps f h few r = rw (append-nil done)
-all-read substituting room (t ∷ later) done zero ps f h few r = absurd (omega arith)
-all-read substituting room (t ∷ later) done (suc fuel) ps f h few r =
+all-read : (substituting : Bool) (room : ℕ) (later done : List Tree) → Propers done → Follow done later → length (done ++ later) ≤ 1024 → length (done ++ later) ≤ room
+    → lines (listingLine substituting) (knownOf room done) (text (done ++ later) later) ≡ Lines.read (knownOf room (done ++ later))
+unfolding afterLine text
+all-read substituting room [] done ps f few r = rw (append-nil done) (no-line (listingLine substituting) (listing-shortens substituting) (knownOf room done))
+all-read substituting room (t ∷ later) done ps f few r =
     let l = length-append done (t ∷ later) in
     let a : (done ++ (t ∷ [])) ++ later ≡ done ++ (t ∷ later) = append-assoc done (t ∷ []) later in
-    rw (line-splits done (t ∷ later) ps t (text (done ++ (t ∷ later)) later), takes substituting room done (t ∷ later) t (text (done ++ (t ∷ later)) later) ps (f .0) (omega (arith, l, few)) (omega (arith, l, r)))
-    (rw a at (all-read substituting room later (done ++ (t ∷ [])) fuel (propers-snoc done t ps (f .0 .isProper)) (f .1) (omega arith) (rw a (omega (arith, few))) (rw a (omega (arith, r)))))
+    rw (
+      line-splits done (t ∷ later) ps t (text (done ++ (t ∷ later)) later),
+      next-line (listingLine substituting) (listing-shortens substituting) (knownOf room done) (headOf t) (tailOf (done ++ (t ∷ later)) t (text (done ++ (t ∷ later)) later)),
+      takes substituting room done (t ∷ later) t (text (done ++ (t ∷ later)) later) ps (f .0) (omega (arith, l, few)) (omega (arith, l, r)),
+    )
+    (rw a at (all-read substituting room later (done ++ (t ∷ [])) (propers-snoc done t ps (f .0 .isProper)) (f .1) (rw a (omega (arith, few))) (rw a (omega (arith, r)))))
 
 -- ---- the root is the last line
 
@@ -218,7 +222,7 @@ pub record Ends (t : Tree) : Type 0 where
   pub is-order : order t ≡ before ++ (t ∷ [])
 
 order-ends : (t : Tree) → Proper t → Ends t
-unfolding finished measure among
+unfolding finished size depth among
 order-ends (leaf l) p = record { before = []; is-order = once-new (leaf l) [] refl }
 order-ends (functionCall f t) p = record { before = finished t []; is-order = once-new _ _ (not-yet t (functionCall f t) [] p p (omega arith) refl) }
 order-ends (prefixed o t) p = record { before = finished t []; is-order = once-new _ _ (not-yet t (prefixed o t) [] p p (omega arith) refl) }
@@ -246,7 +250,7 @@ pub reads-back : (t : Tree) → Proper t → Limited t → (substituting : Bool)
 unfolding listing whole
 reads-back t p l substituting room few r =
     let f = laid-follow (finished-laid t [] empty p l .0) in
-    let e = all-read substituting room (order t) [] (suc mostLines) (λ k h. absurd (omega arith)) f (omega (arith, few)) few r in
+    let e = all-read substituting room (order t) [] (λ k h. absurd (omega arith)) f few r in
     let o = order-ends t p in
     ap whole e ∙ ap (λ ts. rooted ts [] (storeOf room (order t))) (o .is-order) ∙ rooted-last (o .before) t (storeOf room (order t))
 

@@ -23,7 +23,8 @@ use Rattle.store.proofs.Stored.{read-node}
 use Rattle.store.proofs.Trees.{within-more, room-each}
 use Rattle.memory.specs.Keys.{upTo}
 use Rattle.memory.proofs.Values.{length-upTo, at-upTo, upTo-snoc}
-use Rattle.text.specs.Writing.{line, Put}
+use Rattle.text.specs.Writing.{line}
+use Rattle.text.specs.Put.{Put}
 use Rattle.text.proofs.Putting.{put-then}
 use Rattle.writing.specs.declared.Written.{Written}
 use Rattle.writing.specs.Order.{order, lineFields, text, textOf, written}

@@ -11,7 +11,7 @@ use lib.Dec.{T, eqb, ltb, ltb→lt, eqb→eq}
 use lib.ListN.{getD, set, length-set}
 use lib.Seq.{getD-set-same, getD-set-other}
 use borrow.Author.Tests.{lt-ltb, le-ltb, eq-eqb, ne-eqb}
-use Rattle.expression.specs.Trees.{Tree, leaf, pi, functionCall, prefixed, infixed, measure}
+use Rattle.expression.specs.Trees.{Tree, leaf, pi, functionCall, prefixed, infixed, size, depth}
 use Rattle.expression.specs.Alike.{identical}
 use Rattle.expression.specs.Limits.{Proper}
 use Rattle.expression.proofs.Likeness.{identical-same, same-identical}
@@ -116,7 +116,7 @@ module _ (m : Memory) (node : ℕ) (small : node < mostRows) where
   module _ (each : (k : ℕ) → Proper (treeAt m k)) where
     still-not : (e : Expression) (done : List Tree) → Within node e → Proper (treeOf m e) → among done (treeOf m e) ≡ false
         → among (visited m (childrenOf e .right) node (visited m (childrenOf e .left) node done)) (treeOf m e) ≡ false
-    unfolding grown operandsOf childrenIn measure
+    unfolding grown operandsOf childrenIn size depth
     still-not (Expression.Number z) done w p e = rw (none-visited done, none-visited done) e
     still-not Expression.PiConstant done w p e = rw (none-visited done, none-visited done) e
     still-not (Expression.Variable v) done w p e = rw (none-visited done, none-visited done) e

@@ -10,6 +10,7 @@ use Rattle.spelling.specs.Names.{functionName, prefixName, infixName}
 use Rattle.expression.specs.Trees.{Tree, Leaf, leaf, number, pi, variable, cell, functionCall, prefixed, infixed}
 use Rattle.expression.specs.Alike.{identical}
 use Rattle.store.specs.Storing.{among, place}
+use Rattle.text.specs.Letters.{bytes}
 use Rattle.text.specs.Writing.{inDecimal, inHex, line}
 use Rattle.writing.specs.declared.Written.{Written}
 use Rattle.listing.specs.Listings.{mostNodes}
@@ -34,16 +35,16 @@ abbrev pub numbered : (lines : List Tree) → Tree → List ℕ
 numbered lines t = inDecimal (place (identical t) lines)
 
 unfoldable pub leafFields : Leaf → List (List ℕ)
-leafFields (number z) = (110 ∷ []) ∷ inHex (bitsOf (z .re)) ∷ inHex (bitsOf (z .im)) ∷ []
-leafFields pi = (112 ∷ []) ∷ []
-leafFields (variable v) = (118 ∷ []) ∷ inDecimal v ∷ []
-leafFields (cell region index) = (109 ∷ []) ∷ inDecimal region ∷ inDecimal index ∷ []
+leafFields (number z) = bytes "n" ∷ inHex (bitsOf (z .re)) ∷ inHex (bitsOf (z .im)) ∷ []
+leafFields pi = bytes "p" ∷ []
+leafFields (variable v) = bytes "v" ∷ inDecimal v ∷ []
+leafFields (cell region index) = bytes "m" ∷ inDecimal region ∷ inDecimal index ∷ []
 
 unfoldable pub lineFields : (lines : List Tree) → Tree → List (List ℕ)
 lineFields lines (leaf l) = leafFields l
-lineFields lines (functionCall f t) = (102 ∷ []) ∷ functionName f ∷ numbered lines t ∷ []
-lineFields lines (prefixed o t) = (117 ∷ []) ∷ prefixName o ∷ numbered lines t ∷ []
-lineFields lines (infixed o l r) = (98 ∷ []) ∷ infixName o ∷ numbered lines l ∷ numbered lines r ∷ []
+lineFields lines (functionCall f t) = bytes "f" ∷ functionName f ∷ numbered lines t ∷ []
+lineFields lines (prefixed o t) = bytes "u" ∷ prefixName o ∷ numbered lines t ∷ []
+lineFields lines (infixed o l r) = bytes "b" ∷ infixName o ∷ numbered lines l ∷ numbered lines r ∷ []
 
 -- ---- the listing
 

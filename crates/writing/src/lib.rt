@@ -5,7 +5,7 @@ ghost use lib.ListN.{length};
 ghost use Rattle.memory.specs.Layout.{tableWords};
 ghost use Rattle.store.specs.Memory.{memory};
 ghost use Rattle.listing.specs.Tables.{moved};
-ghost use Rattle.text.specs.Writing.{Put};
+ghost use Rattle.text.specs.Put.{Put};
 ghost use Rattle.writing.specs.Ordering.{lineAt, linesText, Writes};
 use expression::node::Expression;
 use expression::node::Operands;

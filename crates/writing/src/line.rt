@@ -5,7 +5,7 @@ ghost use Prim.Native.Nat.{_+_, _≤_};
 ghost use lib.ListN.{length};
 ghost use Rattle.expression.specs.declared.node.Expression.{Expression};
 ghost use Rattle.spelling.specs.Names.{functionName};
-ghost use Rattle.text.specs.Writing.{Put};
+ghost use Rattle.text.specs.Put.{Put};
 ghost use Rattle.writing.specs.Ordering.{lineText};
 use complex::Complex;
 use complex::bits::to_bits;

@@ -4,7 +4,7 @@ use native.Mathlib.Omega.{arith}
 use Rattle.expression.specs.Nodes.{grown}
 use Rattle.text.specs.Reading.{then}
 use Rattle.node_lines.specs.NodeLines.{variableFields}
-use Rattle.text.proofs.Fields.{told, told-bad, told-below}
+use Rattle.text.proofs.Fields.{told, told-place, told-bad, told-below}
 use lib.ListN.{drop}
 use borrow.Author.Needs.{needs}
 use Rattle.node_lines.proofs.read_variable.Statement.{statement}
@@ -18,6 +18,6 @@ read-variable-spec =
     (λ c κs. search needs)
     (λ c. search needs)
     (λ c. search needs)
-    (λ c. λ lines. record { seen = λ earlier q. sym (rw (told-bad (c .before .before .before .before .args .s .now) (c .before .before .decimal-field .ensures) (c .enum-told .given .1))); within = tt })
+    (λ c. λ lines. record { seen = λ earlier q. sym (rw (told-bad (c .before .before .before .before .args .s .now) (c .before .before .decimal-field .ensures) (c .enum-told .given .1))); inside = tt; within = tt })
     (λ c. let l = told-below (c .before .before .before .before .before .args .s .now) 10 65536 (drop (c .before .before .before .before .before .args .at) (c .before .before .before .before .before .args .s .now)) (c .before .before .before .decimal-field .ensures) (c .before .x .given .1) in omega (arith, l))
-    (λ c. λ lines. record { seen = λ earlier q. sym (rw (told (c .before .before .before .before .before .args .s .now) (c .before .before .before .decimal-field .ensures) (c .before .x .given .1))); within = tt }))
+    (λ c. λ lines. record { seen = λ earlier q. sym (rw (told (c .before .before .before .before .before .args .s .now) (c .before .before .before .decimal-field .ensures) (c .before .x .given .1))); inside = told-place (c .before .before .before .before .before .args .s .now) (c .before .before .before .decimal-field .ensures) (c .before .x .given .1); within = tt }))

@@ -2,7 +2,7 @@
 use mathlib.Core.Path.{refl}
 use native.Mathlib.Omega.{arith}
 use borrow.Author.Tests.{lt-ltb, le-ltb}
-use Rattle.tasks.specs.Tasks.{oneMore}
+use Rattle.tasks.specs.Deciding.{oneMore}
 use borrow.Author.Needs.{needs}
 use Rattle.tasks.proofs.one_more.Statement.{statement}
 use Rattle.tasks.proofs.one_more.Tie as tie

@@ -2,7 +2,7 @@
 use Prim.Native.Nat.{_-_, _≤_}
 use native.Mathlib.Omega.{arith}
 use Rattle.store.specs.Memory.{memory}
-use Rattle.text.specs.Writing.{Put}
+use Rattle.text.specs.Put.{Put}
 use Rattle.text.proofs.Putting.{put-length}
 use Rattle.writing.specs.Ordering.{linesText}
 use Rattle.writing.proofs.Texts.{no-text, line-fits, next-text, all-written}

@@ -1,7 +1,7 @@
 -- `complex::bits::class_of` meets its contract. Assumes nothing.
 use borrow.Author.Needs.{needs}
 use mathlib.Core.Path.{ap, _∙_}
-use Rattle.complex.specs.Equality.{classOf, classOfBits}
+use Rattle.complex.specs.Classes.{classOf, classOfBits}
 use Rattle.complex.proofs.bits.class_of.Statement.{statement}
 use Rattle.complex.proofs.bits.class_of.Tie as tie
 

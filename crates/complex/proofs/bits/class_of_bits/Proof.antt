@@ -1,6 +1,6 @@
 -- `complex::bits::class_of_bits` meets its contract. Assumes nothing.
 use borrow.Author.Tests.{eq-eqb, ne-eqb}
-use Rattle.complex.specs.Equality.{classOfBits}
+use Rattle.complex.specs.Classes.{classOfBits}
 use Rattle.complex.proofs.bits.class_of_bits.Statement.{statement}
 use Rattle.complex.proofs.bits.class_of_bits.Tie as tie
 

@@ -1,17 +1,17 @@
 -- `ExpressionFunction::from_code` meets its contract: a number that is none of the first four. Assumes nothing.
-use borrow.Author.Needs.{needs}
-use Rattle.expression.specs.Codes.{ofFive}
-use Rattle.expression.proofs.Numbering.{other}
+use mathlib.Core.Path.{refl}
+use borrow.Author.Tests.{ne-eqb}
+use Rattle.expression.specs.Codes.{numbered}
 use Rattle.expression.proofs.ExpressionFunction.from_code.Statement.{statement}
 use Rattle.expression.proofs.ExpressionFunction.from_code.Tie as tie
 
 pub from-code-spec : {M : Type 1} → statement M
-unfolding ofFive
+unfolding numbered
 from-code-spec =
     tie.close
     (tie.spec
-    (λ c. search needs)
-    (λ c. search needs)
-    (λ c. search needs)
-    (λ c. search needs)
-    (λ c. let r = c .match .rest in other _ _ _ _ _ _ (r .0 .0 .0 .1) (r .0 .0 .1) (r .0 .1) (r .1)))
+    (λ c. rw (c .match .keys1))
+    (λ c. rw (c .match .keys2))
+    (λ c. rw (c .match .keys3))
+    (λ c. rw (c .match .keys4))
+    (λ c. let r = c .match .rest in rw (ne-eqb _ 1 (r .0 .0 .0 .1), ne-eqb _ 2 (r .0 .0 .1), ne-eqb _ 3 (r .0 .1), ne-eqb _ 4 (r .1)) refl))

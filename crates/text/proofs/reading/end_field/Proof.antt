@@ -12,8 +12,8 @@ end-field-spec =
     (tie.spec
     (λ c. search needs)
     (λ c. search needs)
-    (λ c. rw (c .enum-told .given .1) (sym (ended-bad _)))
+    (λ c. record { answer = rw (c .enum-told .given .1) (sym (ended-bad _)); inside = tt })
     (λ c κs. search needs)
-    (λ c. rw (c .before .before .before .n .given .1) (sym (ended-other (c .before .before .before .before .before .before .args .s .now) _ _ _ λ q. c .if1 .taken (c .before .byte-at .ensures ∙ q))))
+    (λ c. record { answer = rw (c .before .before .before .n .given .1) (sym (ended-other (c .before .before .before .before .before .before .args .s .now) _ _ _ λ q. c .if1 .taken (c .before .byte-at .ensures ∙ q))); inside = tt })
     (λ c. let l = told-inside (c .before .before .before .before .before .before .args .s .now) (c .before .before .before .n .given .1) (c .before .byte-at .ensures) (omega (arith, c .before .before .before .before .before .before .pre, c .if1 .left)) in omega (arith, l))
-    (λ c. rw (c .before .before .before .n .given .1) (sym (ended-is (c .before .before .before .before .before .before .args .s .now) _ _ _ (c .before .before .before .before .before .before .pre) (sym (c .before .byte-at .ensures) ∙ c .if1 .left)))))
+    (λ c. let l = told-inside (c .before .before .before .before .before .before .args .s .now) (c .before .before .before .n .given .1) (c .before .byte-at .ensures) (omega (arith, c .before .before .before .before .before .before .pre, c .if1 .left)) in record { answer = rw (c .before .before .before .n .given .1) (sym (ended-is (c .before .before .before .before .before .before .args .s .now) _ _ _ (c .before .before .before .before .before .before .pre) (sym (c .before .byte-at .ensures) ∙ c .if1 .left))); inside = omega (arith, l) }))

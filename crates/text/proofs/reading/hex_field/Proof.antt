@@ -1,6 +1,5 @@
 -- `hex_field` meets its contract. Assumes nothing.
-use mathlib.Core.Path.{ap, _∙_}
-use Rattle.text.specs.Reading.{ended}
+use Rattle.text.proofs.Fields.{ends}
 use borrow.Author.Needs.{needs}
 use Rattle.text.proofs.reading.hex_field.Statement.{statement}
 use Rattle.text.proofs.reading.hex_field.Tie as tie
@@ -11,4 +10,4 @@ hex-field-spec =
     (tie.spec
     (λ c κs. search needs)
     (λ c κs. search needs)
-    (λ c. c .end-field .ensures ∙ ap (ended _) (c .before .read-hex .ensures)))
+    (λ c. ends _ (c .end-field .ensures) (c .before .read-hex .ensures)))

@@ -18,9 +18,9 @@ read-hex-spec =
     (tie.spec
     Inv-loop
     μ-loop
-    (λ c. hex-short (c .before .before .args .s .now) (c .before .before .args .at) (omega (arith, c .if1 .taken)))
+    (λ c. record { answer = hex-short (c .before .before .args .s .now) (c .before .before .args .at) (omega (arith, c .if1 .taken)); inside = tt })
     (λ c. omega arith)
-    (λ c. hex-short (c .before .before .before .args .s .now) (c .before .before .before .args .at) (omega (arith, c .if2 .taken, c .before .if1 .left)))
+    (λ c. record { answer = hex-short (c .before .before .before .args .s .now) (c .before .before .before .args .at) (omega (arith, c .if2 .taken, c .before .if1 .left)); inside = tt })
     (λ c. hex-begins _ _)
     (λ c. omega (arith, c .before .before .before .if1 .left, c .before .before .if2 .left))
     (λ c. omega (arith, c .before .before .before .before .if1 .left, c .before .before .before .if2 .left))
@@ -31,6 +31,6 @@ read-hex-spec =
     (λ c. omega arith)
     (λ c. omega arith)
     (λ c. rw (c .greater .ensures) (hex-goes-on (c .before .before .before .before .loop .inv) (c .before .digit .result) (c .before .before .before .loop-test .taken) (omega (arith, c .before .before .before .before .before .before .if1 .left, c .before .before .before .before .before .if2 .left)) (c .before .digit .ensures)))
-    (λ c. c .before .before .loop .inv .spoilt (c .if3 .taken))
+    (λ c. record { answer = c .before .before .loop .inv .spoilt (c .if3 .taken); inside = tt })
     (λ c. omega (arith, c .before .before .before .before .if1 .left, c .before .before .before .if2 .left))
-    (λ c. hex-done (c .before .before .loop .inv) (c .before .loop-test .left) (c .if3 .left)))
+    (λ c. record { answer = hex-done (c .before .before .loop .inv) (c .before .loop-test .left) (c .if3 .left); inside = omega (arith, c .before .before .before .before .if1 .left, c .before .before .before .if2 .left) }))

@@ -15,4 +15,4 @@ digit-byte-spec =
     (λ c. rw (lt-ltb _ _ (c .if1 .taken)))
     (λ c. omega arith)
     (λ c. omega arith)
-    (λ c. rw (le-ltb _ _ (c .if1 .left))))
+    (λ c. rw (le-ltb _ _ (c .if1 .left)) (omega arith)))

@@ -2,7 +2,7 @@
 use Prim.Native.Nat.{_+_, _-_, _≤_}
 use native.Mathlib.Omega.{arith}
 use lib.ListN.{length, take}
-use Rattle.text.specs.Writing.{Put}
+use Rattle.text.specs.Put.{Put}
 use Rattle.text.proofs.Putting.{put-none, put-next, put-all, put-length}
 use Rattle.text.proofs.writing.write_bytes.Statement.{statement}
 use Rattle.text.proofs.writing.write_bytes.Tie as tie

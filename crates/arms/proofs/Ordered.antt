@@ -1,0 +1,68 @@
+-- 01's list has 41 arms, and the first match in it is what the tables of the operators choose. Assumes nothing.
+use mathlib.Core.Path.{_≡_, refl}
+use mathlib.Core.Bool.{Bool, true, false, cond, _||_}
+use lib.ListN.{length}
+use Rattle.complex.specs.Constants.{oneNumber}
+use Rattle.expression.specs.declared.InfixOperator.{InfixOperator}
+use Rattle.expression.specs.Trees.{Tree}
+use Rattle.arms.specs.Looks.{bothHold, eitherHolds, left, right, beginsWith, endsWith}
+use Rattle.arms.specs.Arms.{Plan, the, combined, S, armIf, constant, isInverse, groupedRight, grouped, moved, affineSum, sumPlan, signedDifference, differencePlan, signedProduct, distributed, productPlan, signedQuotient, split, cancelled, quotientPlan, powerPlan, infixPlan}
+use Rattle.arms.specs.Ordered.{firstMatch, otherFactor, arms}
+
+pub forty-one : (op : InfixOperator) (l r : Tree) → length (arms op l r) ≡ 41
+unfolding arms
+forty-one op l r = refl
+
+-- ---- arms that a table tries behind a test for all of them are tried without it
+
+-- 30 or 31, and 32
+regrouped : (a b : Bool) (x y z : Plan) → armIf (eitherHolds a b) (armIf b x y) z ≡ armIf b x (armIf a y z)
+unfolding armIf eitherHolds
+regrouped true true x y z = refl
+regrouped true false x y z = refl
+regrouped false true x y z = refl
+regrouped false false x y z = refl
+
+-- 22, 25, 26
+signed : (a b : Bool) (u x y z : Plan) → armIf (eitherHolds a b) (armIf (bothHold a b) u (armIf b x y)) z ≡ armIf (bothHold a b) u (armIf b x (armIf a y z))
+unfolding armIf eitherHolds bothHold
+signed true true u x y z = refl
+signed true false u x y z = refl
+signed false true u x y z = refl
+signed false false u x y z = refl
+
+-- 22 to 26
+signed-or-cancelled : (a b c d : Bool) (u v w x y z : Plan)
+    → armIf (eitherHolds a b) (armIf (bothHold a b) u (armIf (bothHold b c) v (armIf (bothHold a d) w (armIf b x y)))) z
+    ≡ armIf (bothHold a b) u (armIf (bothHold b c) v (armIf (bothHold a d) w (armIf b x (armIf a y z))))
+unfolding armIf eitherHolds bothHold
+signed-or-cancelled true true c d u v w x y z = refl
+signed-or-cancelled true false c d u v w x y z = refl
+signed-or-cancelled false true c d u v w x y z = refl
+signed-or-cancelled false false c d u v w x y z = refl
+
+-- 35 and 36, an arm of two forms
+two-forms : (f : Tree → Plan) (a b : Bool) (s t : Tree) (z : Plan) → armIf (a || b) (f (cond a s t)) z ≡ armIf a (f s) (armIf b (f t) z)
+unfolding armIf
+two-forms f true b s t z = refl
+two-forms f false b s t z = refl
+
+either-factor : (f : Tree → Plan) (t s : Tree) (z : Plan)
+    → armIf (beginsWith InfixOperator.Star t s || endsWith InfixOperator.Star t s) (f (otherFactor t s)) z
+    ≡ armIf (beginsWith InfixOperator.Star t s) (f (right t)) (armIf (endsWith InfixOperator.Star t s) (f (left t)) z)
+either-factor f t s = two-forms f _ _ _ _
+
+-- S(1/o)
+abbrev inverse : Tree → Plan
+inverse o = S (combined InfixOperator.Slash (constant oneNumber) (the o))
+
+-- ---- the first match
+
+-- "Infix, l and r simplified, first match"; whatever is said for no match, since there is none
+pub first-match : (op : InfixOperator) (l r : Tree) (unmatched : Plan) → firstMatch unmatched (arms op l r) ≡ infixPlan op l r
+unfolding firstMatch arms isInverse groupedRight grouped moved affineSum sumPlan signedDifference differencePlan signedProduct distributed productPlan signedQuotient split cancelled quotientPlan powerPlan infixPlan
+first-match InfixOperator.Plus l r unmatched = rw regrouped (unfold armIf bothHold in refl)
+first-match InfixOperator.Minus l r unmatched = rw regrouped (unfold armIf bothHold in refl)
+first-match InfixOperator.Star l r unmatched = rw (signed, regrouped) (unfold armIf bothHold eitherHolds in refl)
+first-match InfixOperator.Slash l r unmatched = rw (signed-or-cancelled, regrouped, either-factor the l r, either-factor inverse r l) (unfold armIf bothHold in refl)
+first-match InfixOperator.Caret l r unmatched = unfold armIf bothHold in refl
