@@ -2,3 +2,4 @@
 pub mod Looking
 mod Choosing
 pub mod Ordered
+pub mod OneAnswer

@@ -1,4 +1,5 @@
--- Every expression that a listing gives is within 01's limits, and its leaves are such as a text can say. Assumes nothing.
+-- Every expression that a listing gives is within 01's limits, and its leaves are such as a text can say; so are the leaves of what its s lines name.
+-- Assumes nothing.
 use mathlib.Core.Path.{_≡_, refl, sym, subst}
 use mathlib.Core.Bool.{Bool, true, false, cond, _&&_, _||_}
 use mathlib.Core.List.{List, [], _∷_, _++_}
@@ -19,7 +20,7 @@ use Rattle.text.proofs.Only.{decimal-only, ended-only}
 use Rattle.text.specs.Lines as Lines
 use Rattle.text.specs.Lines.{Line, Whole, lines, none, aboveLast}
 use Rattle.listing.specs.Listings as Listings
-use Rattle.listing.specs.Listings.{Listing, Swap, accepted, Known, known, stored, formed, mostNodes, mostSwaps, nodeLine, swapFields, swapped, swapLine, listingLine, last, rooted, whole, listing, aboveVariable}
+use Rattle.listing.specs.Listings.{Listing, Swap, swap, accepted, Known, known, stored, formed, mostNodes, mostSwaps, nodeLine, swapFields, swapped, swapLine, listingLine, last, rooted, whole, listing, aboveVariable}
 use Rattle.spelling.specs.Names.{functionNames, prefixNames, infixNames}
 use Rattle.node_lines.specs.NodeLines.{childField, numberFields, variableFields, cellFields, functionFields, prefixFields, infixFields, fieldsOf, nodeFields}
 use Rattle.calls.proofs.Lining.{InLine, InWhole, to-the-end}
@@ -124,10 +125,39 @@ module _ (earlier : List Tree) (g : AllGood earlier) where
   unfolding nodeFields
   node-good first bs = says-either (eqb first 112) _ _ (pi-ended bs) (after-field (ended tab (is first bs)) _ λ first bs _. fields-good first bs)
 
+-- ---- the fields of an s line
+
+unfoldable pub GoodSwaps : List Swap → Type 0
+GoodSwaps [] = Unit {0}
+GoodSwaps (swap v t ∷ ss) = Proper t × GoodSwaps ss
+
+SwapSays : Read Swap → Type 0
+SwapSays (is (swap v t) rest) = Proper t
+SwapSays bad = Unit {0}
+
+swaps-more : (ss : List Swap) (s : Swap) (rest : List ℕ) → GoodSwaps ss → SwapSays (is s rest) → GoodSwaps (ss ++ (s ∷ []))
+unfolding GoodSwaps SwapSays
+swaps-more [] (swap v t) rest g p = (p, tt)
+swaps-more (swap v′ t′ ∷ ss) s rest g p = (g .0, swaps-more ss s rest (g .1) p)
+
+after-swap-field : {A : Type 0} (r : Read A) (next : A → List ℕ → Read Swap) → ((x : A) (rest : List ℕ) → r ≡ is x rest → SwapSays (next x rest))
+    → SwapSays (then r next)
+unfolding then SwapSays
+after-swap-field (is x rest) next f = f x rest refl
+after-swap-field bad next f = tt
+
+swap-good : (nodes : List Tree) → AllGood nodes → (first : ℕ) (bs : List ℕ) → SwapSays (swapFields nodes first bs)
+unfolding swapFields SwapSays
+swap-good nodes g first bs =
+    after-swap-field (ended tab (is first bs)) _ λ _ bs _.
+    after-swap-field (decimalField tab 65536 bs) _ λ v bs _.
+    after-swap-field (childField lf nodes bs) _ λ t rest e.
+    child-good nodes g lf bs t rest e
+
 -- ---- a line after the lines so far
 
 GoodKnown : Known → Type 0
-GoodKnown k = AllGood (k .nodes) × AllGood (storedIn (k .store))
+GoodKnown k = AllGood (k .nodes) × AllGood (storedIn (k .store)) × GoodSwaps (k .swaps)
 
 line-either : (b : Bool) (x y : Line Known Refusal) → InLine GoodKnown x → InLine GoodKnown y → InLine GoodKnown (cond b x y)
 line-either true x y p q = p
@@ -135,7 +165,7 @@ line-either false x y p q = q
 
 stored-good : (k : Known) (rest : List ℕ) (a : Answer) → GoodKnown k → GoodIn a → InLine GoodKnown (stored k rest a)
 unfolding stored GoodIn InLine GoodKnown
-stored-good k rest (gives t s) g x = (good-more (k .nodes) t (g .0) (x .0), x .1)
+stored-good k rest (gives t s) g x = (good-more (k .nodes) t (g .0) (x .0), x .1, g .2)
 stored-good k rest (Storing.refused why s) g x = tt
 
 formed-good : (k : Known) (r : Read Tree) → GoodKnown k → Says r → InLine GoodKnown (formed k r)
@@ -143,23 +173,23 @@ unfolding formed InLine Says GoodKnown
 formed-good k bad g p = tt
 formed-good k (is t rest) g p = stored-good k rest (intern t (k .store)) g (stores t (k .store) p (g .1))
 
-swapped-good : (substituting : Bool) (k : Known) (r : Read Swap) → GoodKnown k → InLine GoodKnown (swapped substituting k r)
+swapped-good : (substituting : Bool) (k : Known) (r : Read Swap) → GoodKnown k → SwapSays r → InLine GoodKnown (swapped substituting k r)
 unfolding swapped InLine GoodKnown
-swapped-good substituting k bad g = tt
-swapped-good substituting k (is s rest) g = line-either (substituting && aboveLast aboveVariable (k .swaps) s) _ _ g tt
+swapped-good substituting k bad g p = tt
+swapped-good substituting k (is s rest) g p = line-either (substituting && aboveLast aboveVariable (k .swaps) s) _ _ (g .0, g .1, swaps-more (k .swaps) s rest (g .2) p) tt
 
 line-good : (substituting : Bool) (k : Known) (first : ℕ) (bs : List ℕ) → GoodKnown k → InLine GoodKnown (listingLine substituting k first bs)
 unfolding listingLine swapLine nodeLine InLine Says GoodKnown
 line-good substituting k first bs g =
     line-either (eqb first 115) _ _
-    (line-either (ltb (length (k .swaps)) mostSwaps) _ _ (swapped-good substituting k (swapFields (k .nodes) first bs) g) tt)
+    (line-either (ltb (length (k .swaps)) mostSwaps) _ _ (swapped-good substituting k (swapFields (k .nodes) first bs) g (swap-good (k .nodes) (g .0) first bs)) tt)
     (line-either (ltb (length (k .nodes)) mostNodes) _ _
     (formed-good k (cond (none (k .swaps)) (nodeFields (k .nodes) first bs) bad) g (says-either (none (k .swaps)) _ _ (node-good (k .nodes) (g .0) first bs) tt)) tt)
 
 -- ---- a listing
 
 GoodListing : Listing → Type 0
-GoodListing (accepted root swaps store) = Good root
+GoodListing (accepted root swaps store) = Good root × GoodSwaps swaps
 GoodListing (Listings.refused why) = Unit {0}
 
 last-good : (t : Tree) (ts : List Tree) → Good t → AllGood ts → Good (last t ts)
@@ -167,23 +197,28 @@ unfolding AllGood last
 last-good t [] g p = g
 last-good t (u ∷ us) g p = last-good u us (p .0) (p .1)
 
-rooted-good : (ts : List Tree) (swaps : List Swap) (store : State) → AllGood ts → GoodListing (rooted ts swaps store)
+rooted-good : (ts : List Tree) (swaps : List Swap) (store : State) → AllGood ts → GoodSwaps swaps → GoodListing (rooted ts swaps store)
 unfolding rooted GoodListing AllGood
-rooted-good [] swaps store g = tt
-rooted-good (t ∷ ts) swaps store g = last-good t ts (g .0) (g .1)
+rooted-good [] swaps store g p = tt
+rooted-good (t ∷ ts) swaps store g p = (last-good t ts (g .0) (g .1), p)
 
 whole-good : (w : Whole Known Refusal) → InWhole GoodKnown w → GoodListing (whole w)
 unfolding whole InWhole GoodKnown GoodListing
-whole-good (Lines.read k) g = rooted-good (k .nodes) (k .swaps) (k .store) (g .0)
+whole-good (Lines.read k) g = rooted-good (k .nodes) (k .swaps) (k .store) (g .0) (g .2)
 whole-good (Lines.refused why) g = tt
 
 listing-good : (substituting : Bool) (bs : List ℕ) (room : ℕ) → GoodListing (listing substituting bs (fresh room 0))
-unfolding listing GoodKnown AllGood storedIn
+unfolding listing GoodKnown AllGood storedIn GoodSwaps
 listing-good substituting bs room =
     whole-good (lines (listingLine substituting) (known [] [] (fresh room 0)) bs)
-    (to-the-end GoodKnown (listingLine substituting) (line-good substituting) (known [] [] (fresh room 0)) bs (tt, tt))
+    (to-the-end GoodKnown (listingLine substituting) (line-good substituting) (known [] [] (fresh room 0)) bs (tt, tt, tt))
 
 pub accepted-good : (substituting : Bool) (bs : List ℕ) (room : ℕ) {root : Tree} {swaps : List Swap} {store : State}
     → listing substituting bs (fresh room 0) ≡ accepted root swaps store → Good root
 unfolding GoodListing
-accepted-good substituting bs room e = subst GoodListing e (listing-good substituting bs room)
+accepted-good substituting bs room e = subst GoodListing e (listing-good substituting bs room) .0
+
+pub accepted-swaps : (substituting : Bool) (bs : List ℕ) (room : ℕ) {root : Tree} {swaps : List Swap} {store : State}
+    → listing substituting bs (fresh room 0) ≡ accepted root swaps store → GoodSwaps swaps
+unfolding GoodListing
+accepted-swaps substituting bs room e = subst GoodListing e (listing-good substituting bs room) .1

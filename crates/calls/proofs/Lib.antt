@@ -2,8 +2,15 @@
 mod Framing
 mod Taping
 mod Lining
+pub mod Refusing
 pub mod OneAnswer
 pub mod Results
 pub mod Accepted
 pub mod Demand
 pub mod Examples
+pub mod OutRoom
+pub mod Begins
+pub mod Rooms
+pub mod TapeBytes
+pub mod Answering
+pub mod Demands

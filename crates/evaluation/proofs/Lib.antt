@@ -2,3 +2,5 @@
 pub mod Valued
 mod Parts
 mod Examples
+pub mod OneAnswer
+pub mod Known

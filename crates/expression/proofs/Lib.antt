@@ -4,4 +4,5 @@ pub mod Likeness
 pub mod Sizes
 pub mod Carrying
 pub mod Under
+pub mod OneNode
 mod Examples

@@ -1,21 +1,24 @@
--- Two answers that the contract of `read_listing` allows are equal. Assumes nothing.
-use mathlib.Core.Path.{_≡_, sym, ap, _∙_, subst}
+-- Two answers that the contract of `read_listing` allows are equal, and so are two that the contract of `swap_of` allows. Assumes nothing.
+use mathlib.Core.Path.{_≡_, refl, sym, ap, _∙_, subst}
 use mathlib.Core.Bool.{Bool}
 use mathlib.Core.List.{List, []}
-use Prim.Native.Nat.{ℕ}
+use Prim.Native.Nat.{ℕ, _≤_}
+use native.Mathlib.Omega.{arith}
 use lib.ListN.{length}
 use Rattle.expression.specs.declared.refusal.Refusal.{Refusal}
 use Rattle.expression.specs.Trees.{Tree, leaf, pi}
 use Rattle.expression.specs.Alike.{identical}
 use Rattle.store.specs.Storing.{State, state, place}
 use Rattle.store.specs.Desk.{count}
+use Rattle.store.specs.Memory.{treeAt}
 use Rattle.store.specs.Held.{Lent, stateIn}
 use Rattle.store.proofs.Trees.{length-trees}
 use Rattle.store.proofs.Seeking.{own-place}
 use Rattle.listing.specs.declared.Listing.{Listing}
+use Rattle.listing.specs.declared.Swap as Code
 use Rattle.listing.specs.Listings as Spec
 use Rattle.listing.specs.Listings.{Swap, accepted}
-use Rattle.listing.specs.Tables.{Reads}
+use Rattle.listing.specs.Tables.{Lists, Reads, LooksUp}
 use Rattle.memory.proofs.Values.{length-upTo}
 
 root-in : Spec.Listing → Tree
@@ -61,3 +64,21 @@ module _ {substituting : Bool} {text : List ℕ} {l l₁ l₂ : Lent} {table₁ 
   one-count i s j u p q =
       let ts = ap (λ x. trees-in (store-in x (stateIn l₁))) (p .answer ∙ sym (q .answer)) in
       sym (length-trees (l₁ .rows) (count (l₁ .desk))) ∙ ap length ts ∙ length-trees (l₂ .rows) (count (l₂ .desk))
+
+  -- and the same trees are stored
+  pub one-store : (i s j u : ℕ) → Reads substituting text (Listing.Read i s) l l₁ table₁ → Reads substituting text (Listing.Read j u) l l₂ table₂ → stateIn l₁ ≡ stateIn l₂
+  unfolding store-in
+  one-store i s j u p q = ap (λ x. store-in x (stateIn l₁)) (p .answer ∙ sym (q .answer))
+
+-- where the table has the s lines of a listing over a store
+pub one-swap : {l : Lent} {table : List ℕ} {swaps : ℕ} (variable : ℕ) (r r′ : Code.Swap) → swaps ≤ 256 → Lists l table 0 swaps
+    → LooksUp table swaps variable r → LooksUp table swaps variable r′ → r ≡ r′
+one-swap {l} variable (Code.Swap.Node i) (Code.Swap.Node j) few t p q =
+    let a = p l few t in
+    let b = q l few t in
+    let e = a .0 ∙ sym (b .0) in
+    let same : treeAt (l .rows) i ≡ treeAt (l .rows) j = cc in
+    ap Code.Swap.Node (t .sound .holds .apart i j (a .1) (b .1) same)
+one-swap {l} variable (Code.Swap.Node i) Code.Swap.Nothing few t p q = let e = p l few t .0 ∙ sym (q l few t .0) in let z : _≡_ {A = ℕ} 0 1 = cc in absurd (omega arith)
+one-swap {l} variable Code.Swap.Nothing (Code.Swap.Node j) few t p q = let e = p l few t .0 ∙ sym (q l few t .0) in let z : _≡_ {A = ℕ} 0 1 = cc in absurd (omega arith)
+one-swap variable Code.Swap.Nothing Code.Swap.Nothing few t p q = refl

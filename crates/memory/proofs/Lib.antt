@@ -2,4 +2,5 @@
 pub mod Slices
 pub mod Values
 pub mod Ascending
+pub mod OneAnswer
 mod Seeking

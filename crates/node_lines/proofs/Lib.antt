@@ -2,3 +2,4 @@
 pub mod Numbers
 pub mod Shortening
 mod Examples
+pub mod OneAnswer

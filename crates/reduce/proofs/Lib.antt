@@ -2,3 +2,4 @@
 mod Printing
 mod OneAnswer
 mod Examples
+pub mod OutRoom

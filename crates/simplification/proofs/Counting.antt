@@ -105,21 +105,22 @@ carries R σ n f (affine a x b) s =
 Any : Tree → Type 0
 Any t = Unit {0}
 
-any : Closed Any
+any : Closed Any Any
 unfolding Any
 any = record {
-  numeral = λ z. tt;
+  numeral = λ a b. tt;
+  opposite = λ x. tt;
   call = λ f x. tt;
   minus-of = λ x. tt;
   infix-of = λ op x y. tt;
-  under-of = λ t x. tt;
-  left-of = λ t x. tt;
-  right-of = λ t x. tt;
+  call-part = λ x. tt;
+  prefix-part = λ x. tt;
+  infix-parts = λ x. (tt, tt);
 }
 
 -- ---- one call of simplify
 
-four : (R : Rows) (σ : Simplifier) (n : ℕ) → Makes σ n → (p : Plan) → Fine Any p → (s : State) → Below (count s + 4 * n) (carryOut R σ p s)
+four : (R : Rows) (σ : Simplifier) (n : ℕ) → Makes σ n → (p : Plan) → Fine Any Any p → (s : State) → Below (count s + 4 * n) (carryOut R σ p s)
 four R σ n f p x s = more (carryOut R σ p s) (heavy (count s) (weight p) n (x .light)) (carries R σ n f p s)
   where
     rest : (a : ℕ) → a ≤ 4 → a + (4 - a) ≡ 4
@@ -139,14 +140,14 @@ module _ (R : Rows) (b f : Simplifier) (m n : ℕ) (x : Makes b m) (y : Makes f 
   performs (itself t) s = omega arith
   performs (calling g a) s =
       then-below _ _ (b a s) (λ z s. carryOut R f (functionPlan g z) s) (x a s) λ z s′ l.
-      more (carryOut R f (functionPlan g z) s′) (omega (arith, l)) (four R f n y (functionPlan g z) (fine-function Any any g z tt) s′)
+      more (carryOut R f (functionPlan g z) s′) (omega (arith, l)) (four R f n y (functionPlan g z) (fine-function Any Any any g z tt) s′)
   performs (prefixing o a) s =
       then-below _ _ (b a s) (λ z s. carryOut R f (prefixPlan o z) s) (x a s) λ z s′ l.
-      more (carryOut R f (prefixPlan o z) s′) (omega (arith, l)) (four R f n y (prefixPlan o z) (fine-prefix Any any o z tt) s′)
+      more (carryOut R f (prefixPlan o z) s′) (omega (arith, l)) (four R f n y (prefixPlan o z) (fine-prefix Any Any any o z tt) s′)
   performs (infixing o a c) s =
       then-below _ _ (b a s) (λ z s. andThen (b c s) λ w s. carryOut R f (infixPlan o z w) s) (x a s) λ z s′ l.
       then-below _ _ (b c s′) (λ w s. carryOut R f (infixPlan o z w) s) (x c s′) λ w s″ k.
-      more (carryOut R f (infixPlan o z w) s″) (omega (arith, l, k)) (four R f n y (infixPlan o z w) (fine-infix Any any o z w tt tt) s″)
+      more (carryOut R f (infixPlan o z w) s″) (omega (arith, l, k)) (four R f n y (infixPlan o z w) (fine-infix Any Any any o z w tt tt) s″)
 
   resumes : (k : Kept) (limit : ℕ) (t : Tree) (s : State) → Below (count s + (2 * m + 4 * n)) (resume R b f k limit t s)
   unfolding resume Below

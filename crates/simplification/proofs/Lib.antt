@@ -4,7 +4,8 @@ pub mod Operating
 mod Shapes
 pub mod Counting
 pub mod Machine
-pub mod Complete
 pub mod Computing
 mod Examples
 pub mod Pi
+pub mod OneAnswer
+pub mod Inherited

@@ -1,1 +1,2 @@
--- This crate needs no laws of its own; each proof stands with its function.
+-- The proofs of this crate need no laws of their own: each stands with its function. OneAnswer says what the contracts determine.
+pub mod OneAnswer

@@ -14,3 +14,4 @@ mod Growing
 mod Adding
 mod Keeping
 pub mod Stored
+pub mod OneAnswer

@@ -2,5 +2,7 @@
 pub mod Checking
 pub mod Demand
 pub mod Depth
+pub mod Prefixes
 pub mod Emitting
 pub mod Stacks
+pub mod OneAnswer

@@ -8,8 +8,8 @@ use lib.ListN.{length, drop, length-append, length-drop}
 use lib.Seq.{drop-drop}
 use Rattle.text.specs.declared.reading.Number.{Number}
 use Rattle.text.specs.Reading.{Read, is, bad, ended, decimalField, starts, nameFrom}
-use Rattle.text.specs.Seen.{seen, Inside, Reads}
-use Rattle.text.proofs.Only.{never, decimal-only, ended-only, starts-only}
+use Rattle.text.specs.Seen.{seen, Reads}
+use Rattle.text.proofs.Only.{decimal-only, ended-only, starts-only}
 
 -- what was wanted was read, and a place inside the text; or it was not
 pub told : (s : List ℕ) {want : Read ℕ} {n : Number} {v next : ℕ} → Reads want s n → n ≡ Number.Is v next → want ≡ is v (drop next s)
@@ -24,19 +24,6 @@ told-bad s r q = sym (r .answer) ∙ ap (seen s) q
 -- and the end of its field
 pub ends : {s : List ℕ} {want : Read ℕ} {n m : Number} (stop : ℕ) → Reads (ended stop (seen s n)) s m → Reads want s n → Reads (ended stop want) s m
 ends stop e r = record { answer = e .answer ∙ ap (ended stop) (r .answer); inside = e .inside }
-
--- two answers that a reader's contract allows are equal
-same-place : (s : List ℕ) (i j : ℕ) → i ≤ length s → j ≤ length s → drop i s ≡ drop j s → i ≡ j
-same-place s i j p q e = omega (arith, p, q, length-drop i s, length-drop j s, ap length e)
-
-pub one-number : {want : Read ℕ} {s : List ℕ} {n m : Number} → Reads want s n → Reads want s m → n ≡ m
-one-number {want} {s} {n} {m} a b = go n m (a .answer ∙ sym (b .answer)) (a .inside) (b .inside)
-  where
-    go : (n m : Number) → seen s n ≡ seen s m → Inside s n → Inside s m → n ≡ m
-    go (Number.Is v i) (Number.Is w j) e p q = let x : v ≡ w = cc in let y : i ≡ j = same-place s i j p q cc in ap (λ k. Number.Is k i) x ∙ ap (Number.Is w) y
-    go (Number.Is v i) Number.Bad e p q = never (sym e)
-    go Number.Bad (Number.Is w j) e p q = never e
-    go Number.Bad Number.Bad e p q = refl
 
 -- a decimal field is below its limit
 pub told-below : (s : List ℕ) (stop limit : ℕ) (bs : List ℕ) {n : Number} {v next : ℕ} → Reads (decimalField stop limit bs) s n → n ≡ Number.Is v next → v < limit

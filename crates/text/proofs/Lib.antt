@@ -6,3 +6,4 @@ pub mod Only
 pub mod Fields
 pub mod Shortening
 pub mod Lining
+pub mod OneAnswer

@@ -18,7 +18,7 @@ abbrev pub Inside : List ℕ → Number → Type 0
 Inside text (Number.Is v next) = next ≤ length text
 Inside text Number.Bad = Unit {0}
 
--- what a reader ensures: it finds what the definition says, and a place inside the text, so that its answer is determined (proofs/Fields.antt,
+-- what a reader ensures: it finds what the definition says, and a place inside the text, so that its answer is determined (proofs/OneAnswer.antt,
 -- `one-number`)
 pub record Reads (want : Read ℕ) (text : List ℕ) (r : Number) : Type 0 where
   pub answer : seen text r ≡ want

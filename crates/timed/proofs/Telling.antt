@@ -13,36 +13,14 @@ use Rattle.sheet.specs.declared.Counts.{Counts}
 use Rattle.sheet.specs.declared.Sheet.{Sheet}
 use Rattle.calls.specs.declared.Job.{Job}
 use Rattle.calls.specs.declared.Simplified.{Simplified}
+use Rattle.calls.proofs.Refusing.{refusal-some}
 use Rattle.timed.specs.Packed.{refusedOf, nodeOf, callsOf, builtOf, listingOf, sheetOf, jobOf, writtenOf, simplifiedOf}
 
 abbrev told : ℕ → ℕ
 told r = r / 288230376151711744
 
--- five bits are enough
-pub numbered : (why : Refusal) → (1 ≤ numberOf why) × (numberOf why < 32)
-numbered (Refusal.BadList line) = (omega arith, omega arith)
-numbered (Refusal.LongList line) = (omega arith, omega arith)
-numbered (Refusal.BadSheet line) = (omega arith, omega arith)
-numbered (Refusal.LongSheet line) = (omega arith, omega arith)
-numbered Refusal.BadLimit = (omega arith, omega arith)
-numbered Refusal.Big = (omega arith, omega arith)
-numbered Refusal.Deep = (omega arith, omega arith)
-numbered Refusal.Room = (omega arith, omega arith)
-numbered (Refusal.Need operation x y) = (omega arith, omega arith)
-numbered Refusal.Incomplete = (omega arith, omega arith)
-numbered Refusal.NotReal = (omega arith, omega arith)
-numbered Refusal.NotANumber = (omega arith, omega arith)
-numbered Refusal.OutRoom = (omega arith, omega arith)
-numbered Refusal.LongTape = (omega arith, omega arith)
-numbered (Refusal.BadTape step) = (omega arith, omega arith)
-numbered (Refusal.BadNames line) = (omega arith, omega arith)
-numbered (Refusal.UnknownName line) = (omega arith, omega arith)
-numbered Refusal.BadBook = (omega arith, omega arith)
-numbered (Refusal.Many listing) = (omega arith, omega arith)
-numbered Refusal.NoText = (omega arith, omega arith)
-
 pub refusal-told : (why : Refusal) → told (refusedOf why) ≡ numberOf why
-refusal-told why = let (_, small) = numbered why in omega arith
+refusal-told why = let (_, small) = refusal-some why in omega arith
 
 -- ---- an answer of what builds: a node or a refusal
 

@@ -13,6 +13,7 @@ use lib.ListN.{length, getD, length-append, List·getD-append}
 use lib.Seq.{getD-at}
 use Rattle.expression.specs.Trees.{Tree, leaf, pi, functionCall, prefixed, infixed}
 use Rattle.expression.specs.Alike.{identical}
+use Rattle.expression.specs.Limits.{Limited, Proper}
 use Rattle.expression.proofs.Likeness.{identical-sym, identical-trans}
 use Rattle.expression.specs.declared.node.Expression.{Expression}
 use Rattle.expression.specs.Nodes.{grown, Within}
@@ -122,13 +123,15 @@ fits-in source ts laid from = pigeon (length source) (length ts) f below apart
         go (no x) (yes y) = absurd (laid-apart laid j i y p (alike j i q p (sym e)))
         go (no x) (no y) = omega arith
 
+-- so a tree that is among some trees with all below it has at most as many lines
+pub order-among : (source : List Tree) (t : Tree) → AllIn source t → Proper t → Limited t → length (order t) ≤ length source
+order-among source t a p l = fits-in source (order t) (finished-laid t [] empty p l .0) (from-finished source t [] a (λ k h. absurd (omega arith)))
+
 -- ---- the theorem
 
 module _ {m : Memory} {n root : ℕ} (h : Holds m n) (inside : root < n) where
   pub order-room : length (order (treeAt m root)) ≤ n
-  order-room =
-      rw (as-many h) at (fits-in (trees m n) (order (treeAt m root)) (finished-laid (treeAt m root) [] empty (proper h root) (limited h root inside) .0)
-      (from-finished (trees m n) (treeAt m root) [] (all-stored h (suc root) root (omega arith) inside) (λ k l. absurd (omega arith))))
+  order-room = rw (as-many h) at (order-among (trees m n) (treeAt m root) (all-stored h (suc root) root (omega arith) inside) (proper h root) (limited h root inside))
 
   -- what was written from a store, of any node, reads back into rows with as much room
   pub written-reads-back : length (order (treeAt m root)) ≤ 1024 → (substituting : Bool) (room′ : ℕ) → room m ≤ room′

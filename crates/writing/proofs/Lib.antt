@@ -5,5 +5,6 @@ pub mod LineTexts
 pub mod Texts
 pub mod ReadBack
 pub mod Fits
+pub mod Lengths
 mod Examples
 pub mod OneAnswer

@@ -1,0 +1,125 @@
+-- The demands, in their order and words: each is one statement, made of the laws that prove it. What no theorem can say is left out: that the
+-- answers equal the Rust's is compared by running, and where the Rust breaks arithmetic docs/DIFFERENCES.md says so. Assumes nothing.
+use mathlib.Core.Path.{_≡_, refl, sym, ap, subst}
+use mathlib.Core.Bool.{false}
+use mathlib.Core.List.{List, [], _++_}
+use Prim.Native.Nat.{ℕ, _*_, _≤_}
+use lib.Ieee as Ieee
+use lib.Ieee.{Float, binary64}
+use lib.ListN.{length, take, drop, replicate}
+use Rattle.complex.specs.declared.Complex.{Complex}
+use Rattle.complex.specs.Arithmetic.{plus, minus, times, over, negated}
+use Rattle.expression.specs.declared.InfixOperator.{InfixOperator}
+use Rattle.expression.specs.Trees.{Tree, size, depth}
+use Rattle.store.specs.Storing.{State, gives, fresh}
+use Rattle.listing.specs.Listings.{Swap, accepted, listing}
+use Rattle.writing.specs.declared.Written.{Written}
+use Rattle.writing.specs.Order.{written}
+use Rattle.sheet.specs.Rows.{Rows, sheet}
+use Rattle.evaluation.specs.declared.real.Real.{Real}
+use Rattle.evaluation.specs.Reals.{small}
+use Rattle.arms.specs.Arms.{Plan, infixPlan}
+use Rattle.arms.specs.Ordered.{arms, firstMatch}
+use Rattle.arms.proofs.Ordered.{first-match}
+use Rattle.tape.specs.Tapes.{tape, stepsIn}
+use Rattle.tape.specs.Playing.{run}
+use Rattle.tape.proofs.Prefixes.{AtMost}
+use Rattle.calls.specs.declared.Evaluated.{Evaluated}
+use Rattle.calls.specs.declared.Simplified.{Simplified}
+use Rattle.calls.specs.Lent.{Work, capacity, zeroed}
+use Rattle.calls.specs.Calls.{evaluateCall, substituteCall, toRealCall, simplifyCall, compileCall, playCall}
+use Rattle.calls.specs.Promises.{Evaluates, Substitutes, ReadsReal, Simplifies, Compiles, Plays}
+use Rattle.calls.proofs.Demand.{compiles}
+use Rattle.calls.proofs.TapeBytes.{written-plays, written-depth, FromAnywhere, plays, value, from-anywhere}
+use Rattle.calls.proofs.Answering.{EvaluatedSo, RealSo, WrittenSo, SimplifiedSo, evaluate-call-so, real-call-so, substitute-call-so, compile-call-so, simplify-call-so, play-call-so}
+
+-- ---- demand 1: "Every listing, value sheet, tape and limit gets a value or one of the numbered refusals, given exactly when 01 says. A refusal
+-- leaves the output bytes untouched; every return leaves the work memory zero."
+
+-- of each call, for all inputs: the answer is the definition's; it is a value or a numbered refusal, with which the output is as it was; the
+-- work memory is zero
+pub record Demand1 : Type 0 where
+  pub evaluating : (list values : List ℕ) (w w′ : Work) (r : Evaluated) → Evaluates list values w r w′
+      → (r ≡ evaluateCall (capacity w) list values) × EvaluatedSo r × (w′ ≡ zeroed w)
+  pub simplifying : (limit : ℕ) (list values out out′ : List ℕ) (w w′ : Work) (r : Simplified) → Simplifies limit list values out w r out′ w′
+      → ((r, out′) ≡ simplifyCall (capacity w) limit list values out) × SimplifiedSo out out′ r × (w′ ≡ zeroed w)
+  pub substituting : (list out out′ : List ℕ) (w w′ : Work) (r : Written) → Substitutes list out w r out′ w′
+      → ((r, out′) ≡ substituteCall (capacity w) list out) × WrittenSo out out′ r × (w′ ≡ zeroed w)
+  pub reading-real : (list : List ℕ) (w w′ : Work) (r : Real) → ReadsReal list w r w′ → (r ≡ toRealCall (capacity w) list) × RealSo r × (w′ ≡ zeroed w)
+  pub compiling : (list out out′ : List ℕ) (w w′ : Work) (r : Written) → Compiles list out w r out′ w′
+      → ((r, out′) ≡ compileCall (capacity w) list out) × WrittenSo out out′ r × (w′ ≡ zeroed w)
+  pub playing : (tape values table table′ : List ℕ) (r : Evaluated) → Plays tape values table r table′
+      → (r ≡ playCall tape values) × EvaluatedSo r × (table′ ≡ replicate (length table) 0)
+
+pub demand-1 : Demand1
+demand-1 = record {
+  evaluating = λ list values w w′ r p.
+      (ap (λ x. x .0) p, subst EvaluatedSo (sym (ap (λ x. x .0) p)) (evaluate-call-so (capacity w) list values), ap (λ x. x .1) p);
+  simplifying = λ limit list values out out′ w w′ r p.
+      (ap (λ x. x .0) p, subst (λ x. SimplifiedSo out (x .1) (x .0)) (sym (ap (λ x. x .0) p)) (simplify-call-so (capacity w) limit list values out), ap (λ x. x .1) p);
+  substituting = λ list out out′ w w′ r p. (ap (λ x. x .0) p, subst (λ x. WrittenSo out (x .1) (x .0)) (sym (ap (λ x. x .0) p)) (substitute-call-so (capacity w) list out), ap (λ x. x .1) p);
+  reading-real = λ list w w′ r p. (ap (λ x. x .0) p, subst RealSo (sym (ap (λ x. x .0) p)) (real-call-so (capacity w) list), ap (λ x. x .1) p);
+  compiling = λ list out out′ w w′ r p. (ap (λ x. x .0) p, subst (λ x. WrittenSo out (x .1) (x .0)) (sym (ap (λ x. x .0) p)) (compile-call-so (capacity w) list out), ap (λ x. x .1) p);
+  playing = λ tape values table table′ r p. (ap (λ x. x .0) p, subst EvaluatedSo (sym (ap (λ x. x .0) p)) (play-call-so tape values), ap (λ x. x .1) p);
+}
+
+-- ---- demand 2: "Simplifying follows 01's ordered arms, and the answers equal the Rust's over the domain 01 states. Arithmetic is IEEE 754, one rounding
+-- per operation. A listing written out reads back to the same expression, given as much work memory."
+
+-- n of a quotient: c*c + d*d
+abbrev pub norm : Complex → Float
+norm y = Ieee.add binary64 (Ieee.mul binary64 (y .re) (y .re)) (Ieee.mul binary64 (y .im) (y .im))
+
+pub record Demand2 : Type 0 where
+  -- the plan that simplifying makes for an operation is the first match in 01's list
+  pub ordered-arms : (op : InfixOperator) (l r : Tree) (unmatched : Plan) → infixPlan op l r ≡ firstMatch unmatched (arms op l r)
+  -- each part by operations of binary64 that round once
+  pub sums : (x y : Complex) → plus x y ≡ record { re = Ieee.add binary64 (x .re) (y .re); im = Ieee.add binary64 (x .im) (y .im) }
+  pub differences : (x y : Complex) → minus x y ≡ record { re = Ieee.sub binary64 (x .re) (y .re); im = Ieee.sub binary64 (x .im) (y .im) }
+  pub products : (x y : Complex) → times x y
+      ≡ record {
+        re = Ieee.sub binary64 (Ieee.mul binary64 (x .re) (y .re)) (Ieee.mul binary64 (x .im) (y .im));
+        im = Ieee.add binary64 (Ieee.mul binary64 (x .re) (y .im)) (Ieee.mul binary64 (x .im) (y .re));
+      }
+  pub quotients : (x y : Complex) → over x y
+      ≡ record {
+        re = Ieee.div binary64 (Ieee.add binary64 (Ieee.mul binary64 (x .re) (y .re)) (Ieee.mul binary64 (x .im) (y .im))) (norm y);
+        im = Ieee.div binary64 (Ieee.sub binary64 (Ieee.mul binary64 (x .im) (y .re)) (Ieee.mul binary64 (x .re) (y .im))) (norm y);
+      }
+  pub negations : (x : Complex) → negated x ≡ record { re = Ieee.neg (x .re); im = Ieee.neg (x .im) }
+
+pub demand-2 : Demand2
+unfolding plus minus times over negated
+demand-2 = record {
+  ordered-arms = λ op l r unmatched. sym (first-match op l r unmatched);
+  sums = λ x y. refl;
+  differences = λ x y. refl;
+  products = λ x y. refl;
+  quotients = λ x y. refl;
+  negations = λ x. refl;
+}
+
+-- ---- demand 3: "Take any accepted expression of size at most 512 and an output with room for its tape. It compiles, and for every accepted sheet,
+-- playing that tape gives what evaluating the expression gives, bit for bit: the value, INCOMPLETE, or the same missing function value. The stack
+-- never holds more than the expression's depth. A tape from anywhere else is refused before its first step or plays without running out of stack."
+
+pub record Demand3 : Type 0 where
+  pub it-compiles : (room : ℕ) (list out : List ℕ) (root : Tree) (swaps : List Swap) (store : State) → listing false list (fresh room 0) ≡ accepted root swaps store
+      → size root ≤ 512 → 24 * size root ≤ length out → compileCall room list out ≡ (Written.Bytes (24 * size root), tape root ++ drop (24 * size root) out)
+  -- the bytes that compiling wrote, for every sheet, accepted or not, and evaluating in a store of any room that accepts the listing
+  pub plays-the-same : (room : ℕ) (list out : List ℕ) (bytes : ℕ) (out′ : List ℕ) → compileCall room list out ≡ (Written.Bytes bytes, out′)
+      → (room′ : ℕ) (root : Tree) (swaps : List Swap) (store : State) → listing false list (fresh room′ 0) ≡ accepted root swaps store
+      → (values : List ℕ) → playCall (take bytes out′) values ≡ evaluateCall room′ list values
+  -- after each step of them
+  pub no-deeper : (room : ℕ) (list out : List ℕ) (bytes : ℕ) (out′ : List ℕ) → compileCall room list out ≡ (Written.Bytes bytes, out′)
+      → (root : Tree) (swaps : List Swap) (store : State) → listing false list (fresh room 0) ≡ accepted root swaps store
+      → (rows : Rows) (k : ℕ) → AtMost (depth root) (run rows (take k (stepsIn (take bytes out′))) [])
+  pub any-tape : (tape values : List ℕ) → FromAnywhere tape values
+
+pub demand-3 : Demand3
+demand-3 = record {
+  it-compiles = λ room list out root swaps store read small ample. compiles room list out read small ample;
+  plays-the-same = λ room list out bytes out′ wrote room′ root swaps store read values. written-plays room list out wrote room′ read values;
+  no-deeper = λ room list out bytes out′ wrote root swaps store read rows k. written-depth room list out wrote read rows k;
+  any-tape = from-anywhere;
+}

@@ -1,0 +1,34 @@
+-- Two answers that a contract of `tape` allows are equal: of compiling and playing where the rows hold a store and the table a sheet, of the others
+-- always. The check and the bytes of the pick are in Checking. Assumes nothing.
+use mathlib.Core.Path.{_≡_, refl, sym, _∙_}
+use mathlib.Core.List.{List}
+use Prim.Native.Nat.{ℕ, _<_}
+use Rattle.store.specs.Memory.{Memory}
+use Rattle.store.specs.Held.{Holds}
+use Rattle.writing.specs.declared.Written.{Written}
+use Rattle.sheet.specs.declared.Counts.{Counts}
+use Rattle.sheet.specs.Table.{rowsOf, Held}
+use Rattle.evaluation.specs.declared.Evaluation.{Evaluation}
+use Rattle.tape.specs.declared.Picked.{Picked}
+use Rattle.tape.specs.Tapes.{picked}
+use Rattle.tape.specs.Playing.{played}
+use Rattle.tape.specs.Run.{Compiles}
+
+-- answer and output bytes
+pub one-compiled : {m : Memory} {root nodes : ℕ} {r r′ : Written} (out : List ℕ) {out₁ out₂ : List ℕ} → Holds m nodes → root < nodes
+    → Compiles m root nodes r out out₁ → Compiles m root nodes r′ out out₂ → _≡_ {A = Written × List ℕ} (r, out₁) (r′, out₂)
+one-compiled out h l p q = p h l ∙ sym (q h l)
+
+pub one-played : (tape : List ℕ) {table : List ℕ} {rows : Counts} {r r′ : Evaluation} → Held table rows
+    → (Held table rows → r ≡ played (rowsOf table rows) tape) → (Held table rows → r′ ≡ played (rowsOf table rows) tape) → r ≡ r′
+one-played tape t p q = p t ∙ sym (q t)
+
+pub one-which : (a b : List ℕ) {r r′ : Picked} → r ≡ picked a b → r′ ≡ picked a b → r ≡ r′
+one-which a b p q = p ∙ sym q
+
+-- the slice that `pick` hands back, and not its bytes alone, where a tape is sound: the clause `own`
+pub one-slice : {Slice : Type 0} (which : Picked) {a b r r′ : Slice} → (which ≡ Picked.Nothing → ⊥)
+    → (which ≡ Picked.First → r ≡ a) × (which ≡ Picked.Second → r ≡ b) → (which ≡ Picked.First → r′ ≡ a) × (which ≡ Picked.Second → r′ ≡ b) → r ≡ r′
+one-slice Picked.First some p q = p .0 refl ∙ sym (q .0 refl)
+one-slice Picked.Second some p q = p .1 refl ∙ sym (q .1 refl)
+one-slice Picked.Nothing some p q = absurd (some refl)
