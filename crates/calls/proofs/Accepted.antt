@@ -1,224 +1,236 @@
--- Every expression that a listing gives is within 01's limits, and its leaves are such as a text can say; so are the leaves of what its s lines name.
--- Assumes nothing.
-use mathlib.Core.Path.{_≡_, refl, sym, subst}
-use mathlib.Core.Bool.{Bool, true, false, cond, _&&_, _||_}
-use mathlib.Core.List.{List, [], _∷_, _++_}
-use Prim.Native.Nat.{ℕ, zero, suc, _<_}
-use borrow.Author.Tests.{ltb-false}
-use lib.Dec.{T, ltb, eqb}
-use lib.ListN.{length, getD}
+-- Every expression that a listing gives is within 01's limits, its leaves are such as a text can say, and it is stored with all below it; so are the
+-- trees that s lines name. The values of a sheet's t rows are pairs of doubles. Assumes nothing.
+use mathlib.Core.Path.{_≡_, refl, subst}
+use mathlib.Core.Bool.{Bool, true, false, cond, _&&_}
+use mathlib.Core.List.{List, [], _∷_}
+use Prim.Native.Nat.{ℕ, suc, _<_}
+use native.Mathlib.Omega.{arith}
+use lib.Dec.{ltb, eqb}
+use lib.ListN.{length}
+use Rattle.complex.specs.Bits.{Fitting}
 use Rattle.complex.proofs.Pairs.{of-parts-fitting}
 use Rattle.expression.specs.declared.refusal.Refusal.{Refusal}
-use Rattle.expression.specs.Trees.{Tree, leaf, pi, size, depth}
-use Rattle.expression.specs.Alike.{identical}
-use Rattle.expression.specs.Limits.{Limited, Proper, largest, deepest}
-use Rattle.expression.proofs.Likeness.{identical-same}
+use Rattle.expression.specs.Trees.{Tree, leaf, pi}
+use Rattle.expression.specs.Limits.{Proper}
 use Rattle.store.specs.Storing as Storing
-use Rattle.store.specs.Storing.{State, state, Answer, gives, among, intern, fresh}
+use Rattle.store.specs.Storing.{State, Answer, gives, intern, recall, fresh}
 use Rattle.text.specs.Reading.{Read, is, bad, then, tab, lf, ended, decimalField, hexField, nameField}
 use Rattle.text.proofs.Only.{decimal-only, ended-only}
 use Rattle.text.specs.Lines as Lines
 use Rattle.text.specs.Lines.{Line, Whole, lines, none, aboveLast}
+use Rattle.spelling.specs.Names.{functionNames, prefixNames, infixNames, operationNames}
+use Rattle.node_lines.specs.NodeLines.{childField, numberFields, variableFields, cellFields, functionFields, prefixFields, infixFields, fieldsOf, nodeFields}
 use Rattle.listing.specs.Listings as Listings
 use Rattle.listing.specs.Listings.{Listing, Swap, swap, accepted, Known, known, stored, formed, mostNodes, mostSwaps, nodeLine, swapFields, swapped, swapLine, listingLine, last, rooted, whole, listing, aboveVariable}
-use Rattle.spelling.specs.Names.{functionNames, prefixNames, infixNames}
-use Rattle.node_lines.specs.NodeLines.{childField, numberFields, variableFields, cellFields, functionFields, prefixFields, infixFields, fieldsOf, nodeFields}
+use Rattle.sheet.specs.Rows as Rows
+use Rattle.sheet.specs.Rows.{Rows, complexField, secondOperand, rowFields, fieldsAfter, sheetLine, variableLine, cellLine, functionLine, sheet, rows}
+use Rattle.simplification.proofs.Stored.{Given}
+use Rattle.calls.specs.Calls as Calls
+use Rattle.calls.specs.Calls.{Job, ready, afterListing, withSheet, job}
 use Rattle.calls.proofs.Lining.{InLine, InWhole, to-the-end}
+use Rattle.calls.proofs.Stored.{Each, each-more, In, New, Good, storedIn, roomIn, StoredIn, Sane, limited, GivenIn, stores, treeOf, SwapsIn, valueOf, FittingRows}
 
-pub record Good (t : Tree) : Type 0 where
-  pub limited : Limited t
-  pub proper : Proper t
+-- ---- what is read
 
-AllGood : List Tree → Type 0
-AllGood [] = Unit {0}
-AllGood (t ∷ ts) = Good t × AllGood ts
+data Reads {A : Type 0} (P : A → Type 0) : Read A → Type 0 where
+  says : {x : A} {rest : List ℕ} → P x → Reads P (is x rest)
+  no : Reads P bad
 
-good-more : (ts : List Tree) (t : Tree) → AllGood ts → Good t → AllGood (ts ++ (t ∷ []))
-unfolding AllGood
-good-more [] t p g = (g, tt)
-good-more (s ∷ ts) t p g = (p .0, good-more ts t (p .1) g)
+after : {A B : Type 0} {P : A → Type 0} {Q : B → Type 0} {r : Read A} (next : A → List ℕ → Read B) → Reads P r
+    → ((x : A) (rest : List ℕ) → P x → Reads Q (next x rest)) → Reads Q (then r next)
+unfolding then
+after next (says p) f = f _ _ p
+after next no f = no
 
--- ---- storing
+any : {A : Type 0} (r : Read A) → Reads (λ _. Unit {0}) r
+any (is x rest) = says tt
+any bad = no
 
-storedIn : State → List Tree
-storedIn (state room ts kept calls) = ts
+either : {A : Type 0} {P : A → Type 0} (b : Bool) {x y : Read A} → Reads P x → Reads P y → Reads P (cond b x y)
+either true p q = p
+either false p q = q
 
-GoodIn : Answer → Type 0
-GoodIn (gives t s) = Good t × AllGood (storedIn s)
-GoodIn (Storing.refused why s) = Unit {0}
+below : (stop limit : ℕ) (bs : List ℕ) → Reads (λ v. v < limit) (decimalField stop limit bs)
+below stop limit bs = go (decimalField stop limit bs) refl
+  where
+    go : (r : Read ℕ) → decimalField stop limit bs ≡ r → Reads (λ v. v < limit) r
+    go bad e = no
+    go (is v rest) e = says (decimal-only limit v bs (stop ∷ rest) (ended-only stop _ v rest e) .0)
 
-either-way : (b : Bool) (x y : Answer) → (b ≡ true → GoodIn x) → (b ≡ false → GoodIn y) → GoodIn (cond b x y)
-either-way true x y p q = p refl
-either-way false x y p q = q refl
+-- ---- a listing's line: a tree whose operands are stored
 
-or-else : {A : Type 0} (a b : Bool) → a || b ≡ true → (a ≡ true → A) → (b ≡ true → A) → A
-or-else true b e f g = f refl
-or-else false b e f g = g e
+module _ (ts nodes : List Tree) (f : Each (In ts) (leaf pi) nodes) where
+  child-in : (stop : ℕ) (bs : List ℕ) → Reads (In ts) (childField stop nodes bs)
+  unfolding childField
+  child-in stop bs = after _ (below stop (length nodes) bs) λ i rest l. says (f i l)
 
--- a tree that is among good ones is one of them
-among-good : (ts : List Tree) (t : Tree) → AllGood ts → Proper t → among ts t ≡ true → Good t
-unfolding AllGood among
-among-good [] t g p e = absurd (subst T (sym e) tt)
-among-good (s ∷ ts) t g p e =
-    or-else (identical t s) (among ts t) e (λ i. subst Good (sym (identical-same t s p (g .0 .proper) (subst T (sym i) tt))) (g .0)) (λ i. among-good ts t (g .1) p i)
+  fields-new : (first : ℕ) (bs : List ℕ) → Reads (New ts) (fieldsOf nodes first bs)
+  unfolding fieldsOf numberFields variableFields cellFields functionFields prefixFields infixFields New
+  fields-new first bs =
+      either (eqb first 110) (after _ (any (hexField tab bs)) λ re bs _. after _ (any (hexField lf bs)) λ im bs _. says (of-parts-fitting re im))
+      (either (eqb first 118) (after _ (below lf 65536 bs) λ v rest l. says l)
+      (either (eqb first 109) (after _ (below tab 65536 bs) λ region bs l. after _ (below lf 4294967296 bs) λ index rest l′. says (l, l′))
+      (either (eqb first 102) (after _ (any (nameField tab functionNames bs)) λ o bs _. after _ (child-in lf bs) λ t rest i. says i)
+      (either (eqb first 117) (after _ (any (nameField tab prefixNames bs)) λ o bs _. after _ (child-in lf bs) λ t rest i. says i)
+      (either (eqb first 98)
+      (after _ (any (nameField tab infixNames bs)) λ o bs _. after _ (child-in tab bs) λ l bs i. after _ (child-in lf bs) λ r rest j. says (i, j))
+      no)))))
 
-stores : (t : Tree) (s : State) → Proper t → AllGood (storedIn s) → GoodIn (intern t s)
-unfolding intern GoodIn storedIn
-stores t (state room ts kept calls) p g =
-    either-way (among ts t) _ _ (λ e. (among-good ts t g p e, g)) λ _.
-    either-way (ltb largest (size t)) _ _ (λ _. tt) λ small.
-    either-way (ltb deepest (depth t)) _ _ (λ _. tt) λ shallow.
-    let good : Good t = record { limited = record { sized = ltb-false largest (size t) small; shallow = ltb-false deepest (depth t) shallow }; proper = p } in
-    either-way (ltb (length ts) room) _ _ (λ _. (good, good-more ts t g good)) λ _. tt
+  node-new : (first : ℕ) (bs : List ℕ) → Reads (New ts) (nodeFields nodes first bs)
+  unfolding nodeFields ended New
+  node-new first bs = either (eqb first 112) (pi-new bs) (after _ (any (ended tab (is first bs))) λ first bs _. fields-new first bs)
+    where
+      pi-new : (bs : List ℕ) → Reads (New ts) (ended lf (is (leaf pi) bs))
+      pi-new [] = no
+      pi-new (b ∷ bs) = either (eqb b lf) (says tt) no
 
--- ---- the fields of a line
+  swap-in : (first : ℕ) (bs : List ℕ) → Reads (λ w. In ts (treeOf w)) (swapFields nodes first bs)
+  unfolding swapFields treeOf
+  swap-in first bs =
+      after _ (any (ended tab (is first bs))) λ _ bs _. after _ (any (decimalField tab 65536 bs)) λ v bs _. after _ (child-in lf bs) λ t rest i. says i
 
-Says : Read Tree → Type 0
-Says (is t rest) = Proper t
-Says bad = Unit {0}
+line-either : {S : Type 0} (P : S → Type 0) (b : Bool) (x y : Line S Refusal) → InLine P x → InLine P y → InLine P (cond b x y)
+line-either P true x y p q = p
+line-either P false x y p q = q
 
-after-field : {A : Type 0} (r : Read A) (next : A → List ℕ → Read Tree) → ((x : A) (rest : List ℕ) → r ≡ is x rest → Says (next x rest)) → Says (then r next)
-unfolding then Says
-after-field (is x rest) next f = f x rest refl
-after-field bad next f = tt
+-- ---- a listing: its nodes, and what its s lines name, are stored
 
-says-either : (b : Bool) (x y : Read Tree) → Says x → Says y → Says (cond b x y)
-says-either true x y p q = p
-says-either false x y p q = q
+module _ (room : ℕ) where
+  record Sound (k : Known) : Type 0 where
+    pub sane : Sane room (k .store)
+    pub nodes : Each (StoredIn (k .store)) (leaf pi) (k .nodes)
+    pub swaps : SwapsIn (storedIn (k .store)) (k .swaps)
 
-below : (stop limit v : ℕ) (bs rest : List ℕ) → decimalField stop limit bs ≡ is v rest → v < limit
-below stop limit v bs rest e = decimal-only limit v bs (stop ∷ rest) (ended-only stop _ v rest e) .0
+  stored-sound : (k : Known) (rest : List ℕ) (a : Answer) → Sound k → GivenIn room (k .store) a → InLine Sound (stored k rest a)
+  unfolding stored Given InLine
+  stored-sound k rest (Storing.refused why s) g x = tt
+  stored-sound k rest (gives t s) g x = record {
+    sane = x .sane;
+    nodes = each-more (StoredIn s) (leaf pi) (k .nodes) t (λ i l. x .stay _ (g .nodes i l)) (x .is-in);
+    swaps = λ i l. x .stay _ (g .swaps i l);
+  }
 
-one-of : (ts : List Tree) (i : ℕ) → AllGood ts → Proper (getD ts i (leaf pi))
-unfolding AllGood
-one-of [] i g = tt
-one-of (t ∷ ts) zero g = g .0 .proper
-one-of (t ∷ ts) (suc i) g = one-of ts i (g .1)
+  formed-sound : (k : Known) {r : Read Tree} → Sound k → Reads (New (storedIn (k .store))) r → InLine Sound (formed k r)
+  unfolding formed InLine
+  formed-sound k g no = tt
+  formed-sound k g (says {x} {rest} p) = stored-sound k rest (intern x (k .store)) g (stores room x (k .store) (g .sane) p)
 
-module _ (earlier : List Tree) (g : AllGood earlier) where
-  child-good : (stop : ℕ) (bs : List ℕ) (t : Tree) (rest : List ℕ) → childField stop earlier bs ≡ is t rest → Proper t
-  unfolding childField then Says
-  child-good stop bs t rest e = subst Says e (after-field (decimalField stop (length earlier) bs) (λ i bs. is (getD earlier i (leaf pi)) bs) λ i rest _. one-of earlier i g)
+  swapped-sound : (substituting : Bool) (k : Known) {r : Read Swap} → Sound k → Reads (λ w. StoredIn (k .store) (treeOf w)) r
+      → InLine Sound (swapped substituting k r)
+  unfolding swapped InLine
+  swapped-sound substituting k g no = tt
+  swapped-sound substituting k g (says {x} p) =
+      line-either Sound (substituting && aboveLast aboveVariable (k .swaps) x) _ _
+      (record { sane = g .sane; nodes = g .nodes; swaps = each-more (λ w. StoredIn (k .store) (treeOf w)) _ (k .swaps) x (g .swaps) p }) tt
 
-  fields-good : (first : ℕ) (bs : List ℕ) → Says (fieldsOf earlier first bs)
-  unfolding fieldsOf numberFields variableFields cellFields functionFields prefixFields infixFields Says
-  fields-good first bs =
-      says-either (eqb first 110) _ _ (after-field (hexField tab bs) _ λ re bs _. after-field (hexField lf bs) _ λ im bs _. of-parts-fitting re im)
-      (says-either (eqb first 118) _ _ (after-field (decimalField lf 65536 bs) _ λ v rest e. below lf 65536 v bs rest e)
-      (says-either (eqb first 109) _ _
-      (after-field (decimalField tab 65536 bs) _ λ region rest e. after-field (decimalField lf 4294967296 rest) _ λ index rest′ e′. (below tab 65536 region bs rest e, below lf 4294967296 index rest rest′ e′))
-      (says-either (eqb first 102) _ _ (after-field (nameField tab functionNames bs) _ λ f bs _. after-field (childField lf earlier bs) _ λ t rest e. child-good lf bs t rest e)
-      (says-either (eqb first 117) _ _ (after-field (nameField tab prefixNames bs) _ λ o bs _. after-field (childField lf earlier bs) _ λ t rest e. child-good lf bs t rest e)
-      (says-either (eqb first 98) _ _
-      (after-field (nameField tab infixNames bs) _ λ o bs _.
-      after-field (childField tab earlier bs) _ λ l rest e.
-      after-field (childField lf earlier rest) _ λ r rest′ e′.
-      (child-good tab bs l rest e, child-good lf rest r rest′ e′))
-      tt)))))
+  line-sound : (substituting : Bool) (k : Known) (first : ℕ) (bs : List ℕ) → Sound k → InLine Sound (listingLine substituting k first bs)
+  unfolding listingLine swapLine nodeLine InLine
+  line-sound substituting k first bs g =
+      let ts = storedIn (k .store) in
+      line-either Sound (eqb first 115) _ _
+      (line-either Sound (ltb (length (k .swaps)) mostSwaps) _ _ (swapped-sound substituting k g (swap-in ts (k .nodes) (g .nodes) first bs)) tt)
+      (line-either Sound (ltb (length (k .nodes)) mostNodes) _ _ (formed-sound k g (either (none (k .swaps)) (node-new ts (k .nodes) (g .nodes) first bs) no)) tt)
 
-  pi-ended : (bs : List ℕ) → Says (ended lf (is (leaf pi) bs))
-  unfolding ended Says
-  pi-ended [] = tt
-  pi-ended (b ∷ bs) = says-either (eqb b lf) _ _ tt tt
+  unfoldable pub Listed : Listing → Type 0
+  Listed (accepted root swaps store) = Sane room store × StoredIn store root × SwapsIn (storedIn store) swaps
+  Listed (Listings.refused why) = Unit {0}
 
-  node-good : (first : ℕ) (bs : List ℕ) → Says (nodeFields earlier first bs)
-  unfolding nodeFields
-  node-good first bs = says-either (eqb first 112) _ _ (pi-ended bs) (after-field (ended tab (is first bs)) _ λ first bs _. fields-good first bs)
+  last-in : (ts : List Tree) (t : Tree) (us : List Tree) → Each (In ts) (leaf pi) (t ∷ us) → In ts (last t us)
+  unfolding last
+  last-in ts t [] f = f 0 (omega arith)
+  last-in ts t (u ∷ us) f = last-in ts u us λ k l. f (suc k) (omega (arith, l))
 
--- ---- the fields of an s line
+  whole-listed : (w : Whole Known Refusal) → InWhole Sound w → Listed (whole w)
+  unfolding whole InWhole Listed rooted
+  whole-listed (Lines.refused why) g = tt
+  whole-listed (Lines.read k) g = go (k .nodes) (g .nodes)
+    where
+      go : (ts : List Tree) → Each (StoredIn (k .store)) (leaf pi) ts → Listed (rooted ts (k .swaps) (k .store))
+      go [] f = tt
+      go (t ∷ ts) f = (g .sane, last-in (storedIn (k .store)) t ts f, g .swaps)
 
+  pub listing-listed : (substituting : Bool) (bs : List ℕ) → Listed (listing substituting bs (fresh room 0))
+  unfolding listing storedIn roomIn recall
+  listing-listed substituting bs =
+      whole-listed (lines (listingLine substituting) (known [] [] (fresh room 0)) bs)
+      (to-the-end Sound (listingLine substituting) (line-sound substituting) (known [] [] (fresh room 0)) bs (record {
+        sane = record {
+          roomy = refl;
+          few = omega arith;
+          good = λ k l. absurd (omega arith);
+          kept = λ t u e. let z : _≡_ {A = ℕ} 0 1 = cc in absurd (omega arith);
+        };
+        nodes = λ k l. absurd (omega arith);
+        swaps = λ k l. absurd (omega arith);
+      }))
+
+pub accepted-good : (substituting : Bool) (bs : List ℕ) (room : ℕ) {root : Tree} {swaps : List Swap} {store : State}
+    → listing substituting bs (fresh room 0) ≡ accepted root swaps store → Good root
+unfolding Listed
+accepted-good substituting bs room e =
+    let x = subst (Listed room) e (listing-listed room substituting bs) in record { limited = limited (x .0) (x .1); proper = x .1 .proper }
+
+-- the leaves of what s lines name
 unfoldable pub GoodSwaps : List Swap → Type 0
 GoodSwaps [] = Unit {0}
 GoodSwaps (swap v t ∷ ss) = Proper t × GoodSwaps ss
 
-SwapSays : Read Swap → Type 0
-SwapSays (is (swap v t) rest) = Proper t
-SwapSays bad = Unit {0}
-
-swaps-more : (ss : List Swap) (s : Swap) (rest : List ℕ) → GoodSwaps ss → SwapSays (is s rest) → GoodSwaps (ss ++ (s ∷ []))
-unfolding GoodSwaps SwapSays
-swaps-more [] (swap v t) rest g p = (p, tt)
-swaps-more (swap v′ t′ ∷ ss) s rest g p = (g .0, swaps-more ss s rest (g .1) p)
-
-after-swap-field : {A : Type 0} (r : Read A) (next : A → List ℕ → Read Swap) → ((x : A) (rest : List ℕ) → r ≡ is x rest → SwapSays (next x rest))
-    → SwapSays (then r next)
-unfolding then SwapSays
-after-swap-field (is x rest) next f = f x rest refl
-after-swap-field bad next f = tt
-
-swap-good : (nodes : List Tree) → AllGood nodes → (first : ℕ) (bs : List ℕ) → SwapSays (swapFields nodes first bs)
-unfolding swapFields SwapSays
-swap-good nodes g first bs =
-    after-swap-field (ended tab (is first bs)) _ λ _ bs _.
-    after-swap-field (decimalField tab 65536 bs) _ λ v bs _.
-    after-swap-field (childField lf nodes bs) _ λ t rest e.
-    child-good nodes g lf bs t rest e
-
--- ---- a line after the lines so far
-
-GoodKnown : Known → Type 0
-GoodKnown k = AllGood (k .nodes) × AllGood (storedIn (k .store)) × GoodSwaps (k .swaps)
-
-line-either : (b : Bool) (x y : Line Known Refusal) → InLine GoodKnown x → InLine GoodKnown y → InLine GoodKnown (cond b x y)
-line-either true x y p q = p
-line-either false x y p q = q
-
-stored-good : (k : Known) (rest : List ℕ) (a : Answer) → GoodKnown k → GoodIn a → InLine GoodKnown (stored k rest a)
-unfolding stored GoodIn InLine GoodKnown
-stored-good k rest (gives t s) g x = (good-more (k .nodes) t (g .0) (x .0), x .1, g .2)
-stored-good k rest (Storing.refused why s) g x = tt
-
-formed-good : (k : Known) (r : Read Tree) → GoodKnown k → Says r → InLine GoodKnown (formed k r)
-unfolding formed InLine Says GoodKnown
-formed-good k bad g p = tt
-formed-good k (is t rest) g p = stored-good k rest (intern t (k .store)) g (stores t (k .store) p (g .1))
-
-swapped-good : (substituting : Bool) (k : Known) (r : Read Swap) → GoodKnown k → SwapSays r → InLine GoodKnown (swapped substituting k r)
-unfolding swapped InLine GoodKnown
-swapped-good substituting k bad g p = tt
-swapped-good substituting k (is s rest) g p = line-either (substituting && aboveLast aboveVariable (k .swaps) s) _ _ (g .0, g .1, swaps-more (k .swaps) s rest (g .2) p) tt
-
-line-good : (substituting : Bool) (k : Known) (first : ℕ) (bs : List ℕ) → GoodKnown k → InLine GoodKnown (listingLine substituting k first bs)
-unfolding listingLine swapLine nodeLine InLine Says GoodKnown
-line-good substituting k first bs g =
-    line-either (eqb first 115) _ _
-    (line-either (ltb (length (k .swaps)) mostSwaps) _ _ (swapped-good substituting k (swapFields (k .nodes) first bs) g (swap-good (k .nodes) (g .0) first bs)) tt)
-    (line-either (ltb (length (k .nodes)) mostNodes) _ _
-    (formed-good k (cond (none (k .swaps)) (nodeFields (k .nodes) first bs) bad) g (says-either (none (k .swaps)) _ _ (node-good (k .nodes) (g .0) first bs) tt)) tt)
-
--- ---- a listing
-
-GoodListing : Listing → Type 0
-GoodListing (accepted root swaps store) = Good root × GoodSwaps swaps
-GoodListing (Listings.refused why) = Unit {0}
-
-last-good : (t : Tree) (ts : List Tree) → Good t → AllGood ts → Good (last t ts)
-unfolding AllGood last
-last-good t [] g p = g
-last-good t (u ∷ us) g p = last-good u us (p .0) (p .1)
-
-rooted-good : (ts : List Tree) (swaps : List Swap) (store : State) → AllGood ts → GoodSwaps swaps → GoodListing (rooted ts swaps store)
-unfolding rooted GoodListing AllGood
-rooted-good [] swaps store g p = tt
-rooted-good (t ∷ ts) swaps store g p = (last-good t ts (g .0) (g .1), p)
-
-whole-good : (w : Whole Known Refusal) → InWhole GoodKnown w → GoodListing (whole w)
-unfolding whole InWhole GoodKnown GoodListing
-whole-good (Lines.read k) g = rooted-good (k .nodes) (k .swaps) (k .store) (g .0) (g .2)
-whole-good (Lines.refused why) g = tt
-
-listing-good : (substituting : Bool) (bs : List ℕ) (room : ℕ) → GoodListing (listing substituting bs (fresh room 0))
-unfolding listing GoodKnown AllGood storedIn GoodSwaps
-listing-good substituting bs room =
-    whole-good (lines (listingLine substituting) (known [] [] (fresh room 0)) bs)
-    (to-the-end GoodKnown (listingLine substituting) (line-good substituting) (known [] [] (fresh room 0)) bs (tt, tt, tt))
-
-pub accepted-good : (substituting : Bool) (bs : List ℕ) (room : ℕ) {root : Tree} {swaps : List Swap} {store : State}
-    → listing substituting bs (fresh room 0) ≡ accepted root swaps store → Good root
-unfolding GoodListing
-accepted-good substituting bs room e = subst GoodListing e (listing-good substituting bs room) .0
+swaps-good : (ts : List Tree) (ss : List Swap) → SwapsIn ts ss → GoodSwaps ss
+unfolding GoodSwaps treeOf
+swaps-good ts [] f = tt
+swaps-good ts (swap v t ∷ ss) f = (f 0 (omega arith) .proper, swaps-good ts ss λ k l. f (suc k) (omega (arith, l)))
 
 pub accepted-swaps : (substituting : Bool) (bs : List ℕ) (room : ℕ) {root : Tree} {swaps : List Swap} {store : State}
     → listing substituting bs (fresh room 0) ≡ accepted root swaps store → GoodSwaps swaps
-unfolding GoodListing
-accepted-swaps substituting bs room e = subst GoodListing e (listing-good substituting bs room) .1
+unfolding Listed
+accepted-swaps substituting bs room {swaps = swaps} {store = store} e = swaps-good (storedIn store) swaps (subst (Listed room) e (listing-listed room substituting bs) .2)
+
+-- ---- a sheet: its t rows hold pairs of doubles
+
+complex-fits : (stop : ℕ) (bs : List ℕ) → Reads Fitting (complexField stop bs)
+unfolding complexField
+complex-fits stop bs = after _ (any (hexField tab bs)) λ re bs _. after _ (any (hexField stop bs)) λ im bs _. says (of-parts-fitting re im)
+
+row-fits : (bs : List ℕ) → Reads (λ r. Fitting (valueOf r)) (rowFields bs)
+unfolding rowFields valueOf
+row-fits bs =
+    after _ (any (nameField tab operationNames bs)) λ name bs _. after _ (any (complexField tab bs)) λ x bs _. after _ (any (secondOperand name bs)) λ y bs _.
+    after _ (complex-fits lf bs) λ z rest f. says f
+
+FittingSheet : Rows → Type 0
+FittingSheet R = FittingRows (R .functions)
+
+sheet-formed : {A : Type 0} {P : A → Type 0} (R : Rows) (most : ℕ) (before : List A) (inOrder : A → Bool) (with : A → Rows) {r : Read A} → Reads P r
+    → ((x : A) → P x → FittingSheet (with x)) → InLine FittingSheet (Rows.counted R most before (Rows.formed R inOrder with r))
+unfolding Rows.counted Rows.formed InLine
+sheet-formed R most before inOrder with no f = line-either FittingSheet (ltb (length before) most) _ _ tt tt
+sheet-formed R most before inOrder with (says {x} p) f =
+    line-either FittingSheet (ltb (length before) most) _ _ (line-either FittingSheet (inOrder x) _ _ (f x p) tt) tt
+
+sheet-line : (R : Rows) (first : ℕ) (bs : List ℕ) → FittingSheet R → InLine FittingSheet (sheetLine R first bs)
+unfolding sheetLine variableLine cellLine functionLine FittingSheet InLine
+sheet-line R first bs g =
+    line-either FittingSheet (eqb first 118) _ _ (sheet-formed R _ _ _ _ (any (fieldsAfter first bs Rows.variableFields)) λ x _. g)
+    (line-either FittingSheet (eqb first 109) _ _ (sheet-formed R _ _ _ _ (any (fieldsAfter first bs Rows.cellFields)) λ x _. g)
+    (line-either FittingSheet (eqb first 116) _ _
+    (sheet-formed R _ _ _ _ (after _ (any (ended tab (is first bs))) λ _ bs _. row-fits bs) λ x p.
+    each-more (λ r. Fitting (valueOf r)) _ (R .functions) x g p) tt))
+
+sheet-fits : (bs : List ℕ) → InWhole FittingSheet (sheet bs)
+unfolding sheet FittingSheet
+sheet-fits bs = to-the-end FittingSheet sheetLine sheet-line (rows [] [] []) bs λ k l. absurd (omega arith)
+
+-- ---- both
+unfoldable pub Jobbed : (room : ℕ) → Job → Type 0
+Jobbed room (ready root store R) = Sane room store × StoredIn store root × FittingRows (R .functions)
+Jobbed room (Calls.refused why) = Unit {0}
+
+pub job-in : (room : ℕ) (list values : List ℕ) → Jobbed room (job room list values)
+unfolding job afterListing withSheet Listed Jobbed InWhole FittingSheet
+job-in room list values = go (listing false list (fresh room 0)) (listing-listed room false list) (sheet values) (sheet-fits values)
+  where
+    go : (l : Listing) → Listed room l → (w : Whole Rows Refusal) → InWhole FittingSheet w
+        → Jobbed room (afterListing Calls.refused l λ root swaps store. withSheet root store w)
+    go (Listings.refused why) x w y = tt
+    go (accepted root swaps store) x (Lines.refused why) y = tt
+    go (accepted root swaps store) x (Lines.read R) y = (x .0, x .1, y)

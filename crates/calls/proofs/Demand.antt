@@ -22,7 +22,8 @@ use Rattle.tape.proofs.Emitting.{tape-length}
 use Rattle.tape.proofs.Demand.{tape-sound, tape-plays}
 use Rattle.calls.specs.Calls as Calls
 use Rattle.calls.specs.Calls.{afterListing, withSheet, job, evaluated, evaluateJob, evaluateCall, compileCall, playSheet, playChecked, playCall}
-use Rattle.calls.proofs.Accepted.{Good, accepted-good}
+use Rattle.calls.proofs.Stored.{Good}
+use Rattle.calls.proofs.Accepted.{accepted-good}
 
 -- "Take any accepted expression of size at most 512 and an output with room for its tape"
 module _ (room : ℕ) (list out : List ℕ) {root : Tree} {swaps : List Swap} {store : State} (read : listing false list (fresh room 0) ≡ accepted root swaps store)

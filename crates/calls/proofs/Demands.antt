@@ -31,6 +31,7 @@ use Rattle.calls.specs.Calls.{evaluateCall, substituteCall, toRealCall, 
 use Rattle.calls.specs.Promises.{Evaluates, Substitutes, ReadsReal, Simplifies, Compiles, Plays}
 use Rattle.calls.proofs.Demand.{compiles}
 use Rattle.calls.proofs.TapeBytes.{written-plays, written-depth, FromAnywhere, plays, value, from-anywhere}
+use Rattle.calls.proofs.ReadBack.{SimplifiedBack, SubstitutedBack, simplified-reads-back, substituted-reads-back}
 use Rattle.calls.proofs.Answering.{EvaluatedSo, RealSo, WrittenSo, SimplifiedSo, evaluate-call-so, real-call-so, substitute-call-so, compile-call-so, simplify-call-so, play-call-so}
 
 -- ---- demand 1: "Every listing, value sheet, tape and limit gets a value or one of the numbered refusals, given exactly when 01 says. A refusal
@@ -87,6 +88,11 @@ pub record Demand2 : Type 0 where
         im = Ieee.div binary64 (Ieee.sub binary64 (Ieee.mul binary64 (x .im) (y .re)) (Ieee.mul binary64 (x .re) (y .im))) (norm y);
       }
   pub negations : (x : Complex) → negated x ≡ record { re = Ieee.neg (x .re); im = Ieee.neg (x .im) }
+  -- the bytes that a call wrote read back to the tree that it gives, in a store of as much room or more
+  pub simplified-back : (room limit : ℕ) (list values out : List ℕ) (bytes calls : ℕ) (out′ : List ℕ)
+      → simplifyCall room limit list values out ≡ (Simplified.Bytes bytes calls, out′) → SimplifiedBack room limit list values bytes out′
+  pub substituted-back : (room : ℕ) (list out : List ℕ) (bytes : ℕ) (out′ : List ℕ)
+      → substituteCall room list out ≡ (Written.Bytes bytes, out′) → SubstitutedBack room list bytes out′
 
 pub demand-2 : Demand2
 unfolding plus minus times over negated
@@ -97,6 +103,8 @@ demand-2 = record {
   products = λ x y. refl;
   quotients = λ x y. refl;
   negations = λ x. refl;
+  simplified-back = λ room limit list values out bytes calls out′ wrote. simplified-reads-back room limit list values out wrote;
+  substituted-back = λ room list out bytes out′ wrote. substituted-reads-back room list out wrote;
 }
 
 -- ---- demand 3: "Take any accepted expression of size at most 512 and an output with room for its tape. It compiles, and for every accepted sheet,

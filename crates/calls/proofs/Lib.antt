@@ -5,7 +5,9 @@ mod Lining
 pub mod Refusing
 pub mod OneAnswer
 pub mod Results
+mod Stored
 pub mod Accepted
+pub mod ReadBack
 pub mod Demand
 pub mod Examples
 pub mod OutRoom

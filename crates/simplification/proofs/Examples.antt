@@ -23,7 +23,7 @@ at limit t = outcome (computed limit t (fresh 4096 0))
 plus : Tree → Tree
 plus t = prefixed PrefixOperator.Plus t
 
--- "Invariant: never returns PiConstant" does not hold of the Rust, nor here: where the limit ends above an inner -, what is stripped off is pi
+-- "Invariant: Never returns [`Expression::PiConstant`]." does not hold of the Rust, nor here: where the limit ends above an inner -, what is stripped off is pi
 -- itself. At limit 10 that takes an expression of depth 12; up to depth 11 no pi stays (proofs/Pi.antt)
 pi-comes-back : at 1 (minus (minus (leaf pi))) ≡ is (leaf pi) 2
 unfolding at outcome computed plus

@@ -115,7 +115,7 @@ simplifies R (suc (suc k)) t s r c =
     steps Piless piless numeral suc R (simplify R (suc k)) (simplify R k) (suc (suc k)) t s c λ s d.
     performs R (simplify R (suc k)) (simplify R k) (suc k) (simplifies R (suc k)) (λ t s x c. simplifies R k t s (pure x) c) t s r d
 
--- "Invariant: never returns PiConstant", where it holds
+-- "Invariant: Never returns [`Expression::PiConstant`].", where it holds
 pub never-pi : (R : Rows) (limit : ℕ) (t : Tree) (s : State) → depth t ≤ suc limit → Clean s → Good (simplify R limit t s)
 unfolding Simplifies
 never-pi R limit t s l c = simplifies R limit t s (shallow l) c
