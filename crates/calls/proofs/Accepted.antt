@@ -11,7 +11,6 @@ use Rattle.complex.specs.Bits.{Fitting}
 use Rattle.complex.proofs.Pairs.{of-parts-fitting}
 use Rattle.expression.specs.declared.refusal.Refusal.{Refusal}
 use Rattle.expression.specs.Trees.{Tree, leaf, pi}
-use Rattle.expression.specs.Limits.{Proper}
 use Rattle.store.specs.Storing as Storing
 use Rattle.store.specs.Storing.{State, Answer, gives, intern, recall, fresh}
 use Rattle.text.specs.Reading.{Read, is, bad, then, tab, lf, ended, decimalField, hexField, nameField}
@@ -21,7 +20,7 @@ use Rattle.text.specs.Lines.{Line, Whole, lines, none, aboveLast}
 use Rattle.spelling.specs.Names.{functionNames, prefixNames, infixNames, operationNames}
 use Rattle.node_lines.specs.NodeLines.{childField, numberFields, variableFields, cellFields, functionFields, prefixFields, infixFields, fieldsOf, nodeFields}
 use Rattle.listing.specs.Listings as Listings
-use Rattle.listing.specs.Listings.{Listing, Swap, swap, accepted, Known, known, stored, formed, mostNodes, mostSwaps, nodeLine, swapFields, swapped, swapLine, listingLine, last, rooted, whole, listing, aboveVariable}
+use Rattle.listing.specs.Listings.{Listing, Swap, accepted, Known, known, stored, formed, mostNodes, mostSwaps, nodeLine, swapFields, swapped, swapLine, listingLine, last, rooted, whole, listing, aboveVariable}
 use Rattle.sheet.specs.Rows as Rows
 use Rattle.sheet.specs.Rows.{Rows, complexField, secondOperand, rowFields, fieldsAfter, sheetLine, variableLine, cellLine, functionLine, sheet, rows}
 use Rattle.simplification.proofs.Stored.{Given}
@@ -169,21 +168,6 @@ pub accepted-good : (substituting : Bool) (bs : List ℕ) (room : ℕ) {root : T
 unfolding Listed
 accepted-good substituting bs room e =
     let x = subst (Listed room) e (listing-listed room substituting bs) in record { limited = limited (x .0) (x .1); proper = x .1 .proper }
-
--- the leaves of what s lines name
-unfoldable pub GoodSwaps : List Swap → Type 0
-GoodSwaps [] = Unit {0}
-GoodSwaps (swap v t ∷ ss) = Proper t × GoodSwaps ss
-
-swaps-good : (ts : List Tree) (ss : List Swap) → SwapsIn ts ss → GoodSwaps ss
-unfolding GoodSwaps treeOf
-swaps-good ts [] f = tt
-swaps-good ts (swap v t ∷ ss) f = (f 0 (omega arith) .proper, swaps-good ts ss λ k l. f (suc k) (omega (arith, l)))
-
-pub accepted-swaps : (substituting : Bool) (bs : List ℕ) (room : ℕ) {root : Tree} {swaps : List Swap} {store : State}
-    → listing substituting bs (fresh room 0) ≡ accepted root swaps store → GoodSwaps swaps
-unfolding Listed
-accepted-swaps substituting bs room {swaps = swaps} {store = store} e = swaps-good (storedIn store) swaps (subst (Listed room) e (listing-listed room substituting bs) .2)
 
 -- ---- a sheet: its t rows hold pairs of doubles
 

@@ -80,15 +80,15 @@ compiled-so t out =
     if-so out (ltb mostSteps (size t)) _ _ (by-most Refusal.LongTape (omega arith), refl)
     (if-so out (ltb (length out) (length (tape t))) _ _ (by-most Refusal.OutRoom (omega arith), refl) tt)
 
--- an answer of what builds, refused by at most 15
-abbrev AtMost15 : Answer → Type 0
-AtMost15 (gives t s) = Unit {0}
-AtMost15 (Storing.refused why s) = numberOf why ≤ 15
+-- what builds is refused by at most 9
+abbrev pub AtMost9 : Answer → Type 0
+AtMost9 (gives t s) = Unit {0}
+AtMost9 (Storing.refused why s) = numberOf why ≤ 9
 
-answer-so : (out : List ℕ) (a : Answer) → AtMost15 a → So out (writtenAnswer out a)
+answer-so : (out : List ℕ) (a : Answer) → AtMost9 a → So out (writtenAnswer out a)
 unfolding writtenAnswer
 answer-so out (gives t s) h = written-so t out
-answer-so out (Storing.refused why s) h = (by-most why h, refl)
+answer-so out (Storing.refused why s) h = (by-most why (omega (arith, h)), refl)
 
 -- ---- evaluating, reading as a real
 
@@ -130,11 +130,11 @@ real-call-so room list = go (listing false list (fresh room 0)) (listing-up-to f
 
 -- ---- substituting, compiling
 
-if-at-most : (b : Bool) (x y : Answer) → AtMost15 x → AtMost15 y → AtMost15 (cond b x y)
+if-at-most : (b : Bool) (x y : Answer) → AtMost9 x → AtMost9 y → AtMost9 (cond b x y)
 if-at-most true x y p q = p
 if-at-most false x y p q = q
 
-stores : (t : Tree) (s : State) → AtMost15 (intern t s)
+stores : (t : Tree) (s : State) → AtMost9 (intern t s)
 unfolding intern
 stores t (state room stored kept calls) =
     if-at-most (among stored t) _ _ tt
@@ -142,12 +142,12 @@ stores t (state room stored kept calls) =
     (if-at-most (ltb deepest (depth t)) _ _ (omega arith)
     (if-at-most (ltb (length stored) room) _ _ tt (omega arith))))
 
-then-at-most : (a : Answer) (f : Tree → State → Answer) → AtMost15 a → ((t : Tree) (s : State) → AtMost15 (f t s)) → AtMost15 (andThen a f)
+then-at-most : (a : Answer) (f : Tree → State → Answer) → AtMost9 a → ((t : Tree) (s : State) → AtMost9 (f t s)) → AtMost9 (andThen a f)
 unfolding andThen
 then-at-most (gives t s) f h g = g t s
 then-at-most (Storing.refused why s) f h g = h
 
-substitutes : (swaps : List Swap) (t : Tree) (s : State) → AtMost15 (substitute swaps t s)
+pub substitutes : (swaps : List Swap) (t : Tree) (s : State) → AtMost9 (substitute swaps t s)
 unfolding substitute
 substitutes swaps (leaf l) s = tt
 substitutes swaps (functionCall f t) s = then-at-most (substitute swaps t s) _ (substitutes swaps t s) λ t s. stores (functionCall f t) s
@@ -179,9 +179,9 @@ unfolding withCalls
 with-calls-so out out′ calls (Written.Bytes bytes) h = tt
 with-calls-so out out′ calls (Written.Refused why) h = h
 
-six-to-nine-so : (a : Answer) → SixToNine a → AtMost15 a
+pub six-to-nine-so : (a : Answer) → SixToNine a → AtMost9 a
 six-to-nine-so (gives t s) h = tt
-six-to-nine-so (Storing.refused why s) h = omega (arith, h .1)
+six-to-nine-so (Storing.refused why s) h = h .1
 
 simplify-job-so : (limit : ℕ) (out : List ℕ) (j : Job) → JobUpTo 8 j → SimplifiedSo out (simplifyJob limit out j .1) (simplifyJob limit out j .0)
 unfolding simplifyJob JobUpTo

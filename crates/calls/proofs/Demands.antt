@@ -11,16 +11,15 @@ use Rattle.complex.specs.declared.Complex.{Complex}
 use Rattle.complex.specs.Arithmetic.{plus, minus, times, over, negated}
 use Rattle.expression.specs.declared.InfixOperator.{InfixOperator}
 use Rattle.expression.specs.Trees.{Tree, size, depth}
-use Rattle.store.specs.Storing.{State, gives, fresh}
+use Rattle.store.specs.Storing.{State, andThen, fresh}
 use Rattle.listing.specs.Listings.{Swap, accepted, listing}
 use Rattle.writing.specs.declared.Written.{Written}
-use Rattle.writing.specs.Order.{written}
-use Rattle.sheet.specs.Rows.{Rows, sheet}
+use Rattle.sheet.specs.Rows.{Rows}
 use Rattle.evaluation.specs.declared.real.Real.{Real}
-use Rattle.evaluation.specs.Reals.{small}
-use Rattle.arms.specs.Arms.{Plan, infixPlan}
+use Rattle.arms.specs.Arms.{Plan}
 use Rattle.arms.specs.Ordered.{arms, firstMatch}
 use Rattle.arms.proofs.Ordered.{first-match}
+use Rattle.simplification.specs.Simplifying.{Simplifier, carryOut, simplifyInfix}
 use Rattle.tape.specs.Tapes.{tape, stepsIn}
 use Rattle.tape.specs.Playing.{run}
 use Rattle.tape.proofs.Prefixes.{AtMost}
@@ -30,7 +29,7 @@ use Rattle.calls.specs.Lent.{Work, capacity, zeroed}
 use Rattle.calls.specs.Calls.{evaluateCall, substituteCall, toRealCall, simplifyCall, compileCall, playCall}
 use Rattle.calls.specs.Promises.{Evaluates, Substitutes, ReadsReal, Simplifies, Compiles, Plays}
 use Rattle.calls.proofs.Demand.{compiles}
-use Rattle.calls.proofs.TapeBytes.{written-plays, written-depth, FromAnywhere, plays, value, from-anywhere}
+use Rattle.calls.proofs.TapeBytes.{written-plays, written-depth, FromAnywhere, from-anywhere}
 use Rattle.calls.proofs.ReadBack.{SimplifiedBack, SubstitutedBack, simplified-reads-back, substituted-reads-back}
 use Rattle.calls.proofs.Answering.{EvaluatedSo, RealSo, WrittenSo, SimplifiedSo, evaluate-call-so, real-call-so, substitute-call-so, compile-call-so, simplify-call-so, play-call-so}
 
@@ -72,8 +71,9 @@ abbrev pub norm : Complex → Float
 norm y = Ieee.add binary64 (Ieee.mul binary64 (y .re) (y .re)) (Ieee.mul binary64 (y .im) (y .im))
 
 pub record Demand2 : Type 0 where
-  -- the plan that simplifying makes for an operation is the first match in 01's list
-  pub ordered-arms : (op : InfixOperator) (l r : Tree) (unmatched : Plan) → infixPlan op l r ≡ firstMatch unmatched (arms op l r)
+  -- of an operation, whose operands are simplified first, the first match in 01's list of arms is carried out
+  pub ordered-arms : (rows : Rows) (below further : Simplifier) (op : InfixOperator) (l r : Tree) (s : State) (unmatched : Plan)
+      → simplifyInfix rows below further op l r s ≡ andThen (below l s) λ x s. andThen (below r s) λ y s. carryOut rows further (firstMatch unmatched (arms op x y)) s
   -- each part by operations of binary64 that round once
   pub sums : (x y : Complex) → plus x y ≡ record { re = Ieee.add binary64 (x .re) (y .re); im = Ieee.add binary64 (x .im) (y .im) }
   pub differences : (x y : Complex) → minus x y ≡ record { re = Ieee.sub binary64 (x .re) (y .re); im = Ieee.sub binary64 (x .im) (y .im) }
@@ -95,9 +95,10 @@ pub record Demand2 : Type 0 where
       → substituteCall room list out ≡ (Written.Bytes bytes, out′) → SubstitutedBack room list bytes out′
 
 pub demand-2 : Demand2
-unfolding plus minus times over negated
+unfolding simplifyInfix plus minus times over negated
 demand-2 = record {
-  ordered-arms = λ op l r unmatched. sym (first-match op l r unmatched);
+  ordered-arms = λ rows below further op l r s unmatched.
+      λ i. andThen (below l s) λ x s. andThen (below r s) λ y s. carryOut rows further (sym (first-match op x y unmatched) i) s;
   sums = λ x y. refl;
   differences = λ x y. refl;
   products = λ x y. refl;

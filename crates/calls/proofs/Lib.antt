@@ -5,7 +5,7 @@ mod Lining
 pub mod Refusing
 pub mod OneAnswer
 pub mod Results
-mod Stored
+pub mod Stored
 pub mod Accepted
 pub mod ReadBack
 pub mod Demand

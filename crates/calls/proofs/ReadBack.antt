@@ -113,6 +113,12 @@ pub record SimplifiedBack (room limit : ℕ) (list values : List ℕ) (bytes : �
   pub is-job : job room list values ≡ ready root store lookups
   pub result : GivenBack room (simplify lookups limit root store) bytes out′
 
+-- what simplifying a job gives is stored
+pub simplified-stored : (room limit : ℕ) (root : Tree) (store : State) (R : Rows) → Jobbed room (ready root store R) → GivenIn room store (simplify R limit root store)
+unfolding Jobbed
+simplified-stored room limit root store R x =
+    simplified-is-in (Sane room) StoredIn (λ s. New (storedIn s)) Fitting (lasting room) R (fitting-numbers R (x .2)) suc limit root store (x .0) (x .1)
+
 uncounted : (n : ℕ) (w : Written) {bytes calls : ℕ} → withCalls n w ≡ Simplified.Bytes bytes calls → w ≡ Written.Bytes bytes
 unfolding withCalls
 uncounted n (Written.Bytes b) e = cc
@@ -136,8 +142,5 @@ simplified-reads-back room limit list values out {bytes} {calls} {out′} e = go
           store = store;
           lookups = R;
           is-job = q;
-          result =
-              given-back room store a out
-              (simplified-is-in (Sane room) StoredIn (λ s. New (storedIn s)) Fitting (lasting room) R (fitting-numbers R (x .2)) suc limit root store (x .0) (x .1))
-              (λ i. (w i, ap (λ w. w .1) e i));
+          result = given-back room store a out (simplified-stored room limit root store R x) (λ i. (w i, ap (λ w. w .1) e i));
         }
