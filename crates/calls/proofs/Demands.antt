@@ -1,5 +1,7 @@
 -- The demands, in their order and words: each is one statement, made of the laws that prove it. What no theorem can say is left out: that the
--- answers equal the Rust's is compared by running, and where the Rust breaks arithmetic docs/DIFFERENCES.md says so. Assumes nothing.
+-- answers equal the Rust's is compared by running, and where the Rust breaks arithmetic or the Quil specification docs/DIFFERENCES.md says so. That
+-- the programs give what is said here of the definitions is in the contracts of the calls; that an operation rounds once is lib.Ieee's; the rules
+-- for function, prefix, cache and limit are in simplification/specs; the stack is that of `run`, after each step up to the first lack. Assumes nothing.
 use mathlib.Core.Path.{_≡_, refl, sym, ap, subst}
 use mathlib.Core.Bool.{false}
 use mathlib.Core.List.{List, [], _++_}
@@ -108,9 +110,10 @@ demand-2 = record {
   substituted-back = λ room list out bytes out′ wrote. substituted-reads-back room list out wrote;
 }
 
--- ---- demand 3: "Take any accepted expression of size at most 512 and an output with room for its tape. It compiles, and for every accepted sheet,
--- playing that tape gives what evaluating the expression gives, bit for bit: the value, INCOMPLETE, or the same missing function value. The stack
--- never holds more than the expression's depth. A tape from anywhere else is refused before its first step or plays without running out of stack."
+-- ---- demand 3: "The tape, which the port adds, plays what was written. Take any accepted expression of size at most 512 and an output with room
+-- for its tape. It compiles, and for every accepted sheet, playing that tape gives what evaluating the expression gives, bit for bit: the value,
+-- INCOMPLETE, or the same missing function value. The stack never holds more than the expression's depth. A tape from anywhere else is refused
+-- before its first step or plays without running out of stack."
 
 pub record Demand3 : Type 0 where
   pub it-compiles : (room : ℕ) (list out : List ℕ) (root : Tree) (swaps : List Swap) (store : State) → listing false list (fresh room 0) ≡ accepted root swaps store
