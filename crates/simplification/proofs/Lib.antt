@@ -1,11 +1,11 @@
 -- The laws that the proofs of this crate, and where `pub` of its callers, cite.
 mod Carrying
 pub mod Operating
+pub mod Ordered
 pub mod Shapes
 pub mod Counting
 pub mod Machine
 pub mod Computing
-mod Examples
 pub mod Pi
 pub mod Stored
 pub mod OneAnswer

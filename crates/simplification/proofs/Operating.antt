@@ -47,11 +47,13 @@ once k = omega arith
 twice : (k : ℕ) → k ≡ suc (suc k) - 1 - 1
 twice k = omega arith
 
-pub unrolled : (R : Rows) (k : ℕ) (t : Tree) (s : State) → simplifyBy oneMore R k t s ≡ step oneMore R (simplifyBy oneMore R (k - 1)) (simplifyBy oneMore R (k - 1 - 1)) k t s
-unfolding simplifyBy step
-unrolled R zero t s = at-zero R gives gives (simplifyBy oneMore R 0) (simplifyBy oneMore R 0) (recall t s) t (counted oneMore s)
-unrolled R (suc zero) t s = refl
-unrolled R (suc (suc k)) t s = λ i. step oneMore R (simplifyBy oneMore R (once k i)) (simplifyBy oneMore R (twice k i)) (suc (suc k)) t s
+-- however a call is counted
+module _ (more : ℕ → ℕ) (R : Rows) where
+  pub unrolled : (k : ℕ) (t : Tree) (s : State) → simplifyBy more R k t s ≡ step more R (simplifyBy more R (k - 1)) (simplifyBy more R (k - 1 - 1)) k t s
+  unfolding simplifyBy step
+  unrolled zero t s = at-zero R gives gives (simplifyBy more R 0) (simplifyBy more R 0) (recall t s) t (counted more s)
+  unrolled (suc zero) t s = refl
+  unrolled (suc (suc k)) t s = λ i. step more R (simplifyBy more R (once k i)) (simplifyBy more R (twice k i)) (suc (suc k)) t s
 
 -- ---- an arm, and a task
 
@@ -114,7 +116,7 @@ module _ (R : Rows) (k : ℕ) {kept : ℕ} {m : Memory} {desk desk′ : List ℕ
   unfolding resume
   was-kept x =
       on-desk m (count-same desk q)
-      (named (sym (unrolled R k (treeAt m node) (stateIn (of m desk)) ∙ started (result (treeAt m (kept - 1))) (linked-above m kept x)))
+      (named (sym (unrolled oneMore R k (treeAt m node) (stateIn (of m desk)) ∙ started (result (treeAt m (kept - 1))) (linked-above m kept x)))
       (stays (sound-counted desk q m h) (let z = c (count desk) (callsOn desk) (h .holds) o .0 in omega (arith, z, x, count-same desk q)) refl))
 
   pub was-done : {e : Expression} {r : ℕ} {m₁ m₂ : Memory} {desk₁ : List ℕ} → kept ≡ 0 → Sits m (count desk′) node e
@@ -125,7 +127,7 @@ module _ (R : Rows) (k : ℕ) {kept : ℕ} {m : Memory} {desk desk′ : List ℕ
       on-desk m (count-same desk q)
       (named
       (ap (λ t. keeping (treeAt m node) (perform R (simplifyBy oneMore R (k - 1)) (simplifyBy oneMore R (k - 1 - 1)) (taskAt k t) (stateIn (of m desk′)))) (sym (z .at .tree))
-      ∙ sym (unrolled R k (treeAt m node) (stateIn (of m desk)) ∙ started nothing (ap (linked m) x)))
+      ∙ sym (unrolled oneMore R k (treeAt m node) (stateIn (of m desk)) ∙ started nothing (ap (linked m) x)))
       (kept-on r (still desk q o) b w))
 
 -- ---- the second operand, which was simplified in a store that had grown
