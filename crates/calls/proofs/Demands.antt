@@ -5,23 +5,23 @@
 use mathlib.Core.Path.{_≡_, refl, sym, ap, subst}
 use mathlib.Core.Bool.{false}
 use mathlib.Core.List.{List, [], _++_}
-use Prim.Native.Nat.{ℕ, _*_, _≤_}
+use Prim.Native.Nat.{ℕ, suc, _-_, _*_, _≤_}
 use lib.Ieee as Ieee
 use lib.Ieee.{Float, binary64}
 use lib.ListN.{length, take, drop, replicate}
 use Rattle.complex.specs.declared.Complex.{Complex}
 use Rattle.complex.specs.Arithmetic.{plus, minus, times, over, negated}
 use Rattle.expression.specs.declared.InfixOperator.{InfixOperator}
-use Rattle.expression.specs.Trees.{Tree, size, depth}
-use Rattle.store.specs.Storing.{State, andThen, fresh}
+use Rattle.expression.specs.Trees.{Tree, infixed, size, depth}
+use Rattle.store.specs.Storing.{nothing, State, andThen, recall, fresh}
 use Rattle.listing.specs.Listings.{Swap, accepted, listing}
 use Rattle.writing.specs.declared.Written.{Written}
 use Rattle.sheet.specs.Rows.{Rows}
 use Rattle.evaluation.specs.declared.real.Real.{Real}
 use Rattle.arms.specs.Arms.{Plan}
 use Rattle.arms.specs.Ordered.{arms, firstMatch}
-use Rattle.arms.proofs.Ordered.{first-match}
-use Rattle.simplification.specs.Simplifying.{Simplifier, carryOut, simplifyInfix}
+use Rattle.simplification.specs.Simplifying.{counted, keeping, carryOut, simplify}
+use Rattle.simplification.proofs.Ordered.{ordered}
 use Rattle.tape.specs.Tapes.{tape, stepsIn}
 use Rattle.tape.specs.Playing.{run}
 use Rattle.tape.proofs.Prefixes.{AtMost}
@@ -73,10 +73,13 @@ abbrev pub norm : Complex → Float
 norm y = Ieee.add binary64 (Ieee.mul binary64 (y .re) (y .re)) (Ieee.mul binary64 (y .im) (y .im))
 
 pub record Demand2 : Type 0 where
-  -- of an operation, whose operands are simplified first, the first match in 01's list of arms is carried out
-  pub ordered-arms : (rows : Rows) (below further : Simplifier) (op : InfixOperator) (l r : Tree) (s : State) (unmatched : Plan)
-      → simplifyInfix rows below further op l r s ≡ andThen (below l s) λ x s. andThen (below r s) λ y s. carryOut rows further (firstMatch unmatched (arms op x y)) s
-  -- each part by operations of binary64 that round once
+  -- Of an infix operation for which nothing is kept, at a limit above 0: the call is counted, the operands are simplified at 1 less, left before
+  -- right; the first match in 01's list of arms is carried out, whose S is simplifying at 1 less again; and the result is kept
+  pub ordered-arms : (rows : Rows) (k : ℕ) (op : InfixOperator) (l r : Tree) (s : State) (unmatched : Plan) → recall (infixed op l r) s ≡ nothing
+      → simplify rows (suc k) (infixed op l r) s
+      ≡ keeping (infixed op l r) (andThen (simplify rows k l (counted suc s)) λ x s. andThen (simplify rows k r s) λ y s.
+        carryOut rows (simplify rows (k - 1)) (firstMatch unmatched (arms op x y)) s)
+  -- each part by operations of binary64, each of which rounds once; a negation changes signs and rounds nothing
   pub sums : (x y : Complex) → plus x y ≡ record { re = Ieee.add binary64 (x .re) (y .re); im = Ieee.add binary64 (x .im) (y .im) }
   pub differences : (x y : Complex) → minus x y ≡ record { re = Ieee.sub binary64 (x .re) (y .re); im = Ieee.sub binary64 (x .im) (y .im) }
   pub products : (x y : Complex) → times x y
@@ -97,10 +100,9 @@ pub record Demand2 : Type 0 where
       → substituteCall room list out ≡ (Written.Bytes bytes, out′) → SubstitutedBack room list bytes out′
 
 pub demand-2 : Demand2
-unfolding simplifyInfix plus minus times over negated
+unfolding plus minus times over negated
 demand-2 = record {
-  ordered-arms = λ rows below further op l r s unmatched.
-      λ i. andThen (below l s) λ x s. andThen (below r s) λ y s. carryOut rows further (sym (first-match op x y unmatched) i) s;
+  ordered-arms = ordered;
   sums = λ x y. refl;
   differences = λ x y. refl;
   products = λ x y. refl;

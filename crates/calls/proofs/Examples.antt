@@ -1,5 +1,5 @@
 -- 01's "Proved examples" on the public call: a table of listings and of what is written for them, and one statement over it, by computing the
--- definitions. Assumes nothing.
+-- definitions; and three more examples on bytes, of pi and of a substituted -0. Assumes nothing.
 use mathlib.Core.Path.{_≡_, refl, ap, _∙_}
 use mathlib.Core.Bool.{false, cond}
 use mathlib.Core.List.{List, [], _∷_, _++_, map}
@@ -15,18 +15,19 @@ use Rattle.expression.specs.Codes.{numbered}
 use Rattle.store.specs.Storing.{place}
 use Rattle.text.specs.Reading.{then, ended, digitOf, run, value, spelt, decimal, hexFrom, hex, starts, nameFrom}
 use Rattle.text.specs.Letters.{bytes}
-use Rattle.text.specs.Lines.{afterLine, atLine, linesBy, lines, none}
+use Rattle.text.specs.Lines.{afterLine, atLine, linesBy, lines, none, aboveLast}
 use Rattle.text.specs.Digits.{digits, digitsBy}
 use Rattle.text.specs.Writing.{byteOf, inDecimal, lastHex, inHex, line}
 use Rattle.node_lines.specs.NodeLines.{childField, numberFields, variableFields, prefixFields, infixFields, fieldsOf, nodeFields}
-use Rattle.listing.specs.Listings.{stored, formed, nodeLine, listingLine, last, rooted, whole, listing}
+use Rattle.listing.specs.Listings.{stored, formed, nodeLine, swapFields, swapped, swapLine, listingLine, last, rooted, whole, listing, swapFor}
 use Rattle.sheet.specs.Rows.{sheet}
+use Rattle.substitution.specs.Substituting.{putIn, putInLeaf, substitute}
 use Rattle.tasks.specs.Tasks.{isAllowed}
 use Rattle.simplification.proofs.Computing.{computed}
 use Rattle.writing.specs.declared.Written.{Written}
 use Rattle.writing.specs.Order.{once, finished, leafFields, lineFields, text, written}
 use Rattle.calls.specs.declared.Simplified.{Simplified}
-use Rattle.calls.specs.Calls.{afterListing, withSheet, job, writtenAnswer, withCalls, callsIn, simplifyJob, simplifyCall}
+use Rattle.calls.specs.Calls.{afterListing, withSheet, job, writtenAnswer, withCalls, callsIn, substituteCall, simplifyJob, simplifyCall}
 
 -- ---- the table
 
@@ -81,6 +82,16 @@ table =
     "n\t4000000000000000\t0000000000000000\nv\t2\nb\t*\t0\t1\nv\t0\nv\t1\nb\t+\t3\t4\nb\t+\t2\t5\n" 32 ∷
     []
 
+-- "Invariant: Never returns [`Expression::PiConstant`].", a comment of the Rust, does not hold of 01's rules: where the limit ends above an inner -, what
+-- is stripped off is pi itself. At limit 10 that takes an expression of depth 12; up to depth 11 no pi stays (simplification/proofs/Pi.antt)
+abbrev pub pi-table : List Example
+pi-table =
+    example "p\nu\t-\t0\nu\t-\t1\n" 1
+    "p\n" 2 ∷
+    example "p\nu\t-\t0\nu\t-\t1\nu\t+\t2\nu\t+\t3\nu\t+\t4\nu\t+\t5\nu\t+\t6\nu\t+\t7\nu\t+\t8\nu\t+\t9\nu\t+\t10\n" 10
+    "p\n" 11 ∷
+    []
+
 -- 1e-11 is the double nearest 1 / 10 ^ 11 (T: complex/proofs/Examples.antt, `t-nearest`)
 small-nearest : round binary64 false 1 (10 ^ 11) ≡ doubleOf 0x3DA5_FD7F_E179_6495
 unfolding round ofBits
@@ -130,3 +141,28 @@ each (e ∷ es) p = (λ out room. ap (λ answers. getD answers 0 (asked e) out) 
 
 pub proved-examples : Each Shown table
 proved-examples = each table computes
+
+pi-computes : map asked pi-table ≡ map wanted pi-table
+unfolding asked wanted writing simplifyCall isAllowed job afterListing withSheet sheet simplifyJob callsIn writtenAnswer listing whole rooted last listingLine nodeLine formed stored none lines linesBy atLine afterLine nodeFields fieldsOf prefixFields childField then ended decimal spelt run value digitOf starts nameFrom numbered computed written text line lineFields leafFields finished once
+pi-computes = refl
+
+pub pi-comes-back : Each Shown pi-table
+pi-comes-back = each pi-table pi-computes
+
+-- ---- "Sharing nodes whose zeros differ in sign: a substituted -0 would lose its sign"
+
+-- 0+a with -0 for a, in a listing that has both zeros
+abbrev pub zeros : List ℕ
+zeros = bytes "n\t0000000000000000\t0000000000000000\nn\t8000000000000000\t0000000000000000\nv\t0\nb\t+\t0\t2\ns\t0\t1\n"
+
+abbrev pub zeros-kept : List ℕ
+zeros-kept = bytes "n\t0000000000000000\t0000000000000000\nn\t8000000000000000\t0000000000000000\nb\t+\t0\t1\n"
+
+zeros-compute : _≡_ {A = List ℕ → Written × List ℕ} (λ out. substituteCall 4096 zeros out) (λ out. writing zeros-kept out)
+unfolding writing substituteCall afterListing writtenAnswer listing whole rooted last listingLine nodeLine swapLine swapFields swapped aboveLast formed stored none lines linesBy atLine afterLine nodeFields fieldsOf numberFields variableFields infixFields childField then ended decimal spelt run value digitOf hex hexFrom starts nameFrom numbered computed substitute putInLeaf putIn swapFor written text line lineFields leafFields finished once place inDecimal digits digitsBy byteOf inHex lastHex
+zeros-compute = refl
+
+pub minus-zero-stays : (out : List ℕ) → length zeros-kept ≤ length out
+    → substituteCall 4096 zeros out ≡ (Written.Bytes (length zeros-kept), zeros-kept ++ drop (length zeros-kept) out)
+unfolding writing
+minus-zero-stays out room = ap (λ answer. answer out) zeros-compute ∙ (rw (le-ltb (length out) (length zeros-kept) room) refl)

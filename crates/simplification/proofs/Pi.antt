@@ -1,5 +1,5 @@
 -- When no pi is left: simplifying an expression whose depth is at most one above the limit gives one without pi, in any place. (Deeper ones can
--- keep a pi, and can become pi: proofs/Examples.antt, `pi-comes-back`.) Assumes nothing.
+-- keep a pi, and can become pi: calls/proofs/Examples.antt, `pi-comes-back`.) Assumes nothing.
 use mathlib.Core.Path.{_≡_}
 use Prim.Native.Nat.{ℕ, zero, suc, _≤_}
 use native.Mathlib.Omega.{arith}
