@@ -164,7 +164,8 @@ uint64_t findavoreb_compile(
     uint64_t *answer); /* FINDAVOREB_ANSWER_WORDS words */
 
 /* The tape played under the sheet, which may be empty. A tape that was compiled gives what findavoreb_evaluate gives for its listing:
- * the same six words. The tape is checked before the sheet is read. No store is needed. */
+ * the same six words, unless evaluating is lent fewer rows than the listing needs and answers FINDAVOREB_ROOM. The tape is checked before
+ * the sheet is read. No store is needed. */
 uint64_t findavoreb_play(
     const uint8_t *tape, size_t tape_length,
     const uint8_t *sheet, size_t sheet_length,

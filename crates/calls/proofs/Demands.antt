@@ -78,7 +78,7 @@ pub record Demand2 : Type 0 where
   pub ordered-arms : (rows : Rows) (k : ℕ) (op : InfixOperator) (l r : Tree) (s : State) (unmatched : Plan) → recall (infixed op l r) s ≡ nothing
       → simplify rows (suc k) (infixed op l r) s
       ≡ keeping (infixed op l r) (andThen (simplify rows k l (counted suc s)) λ x s. andThen (simplify rows k r s) λ y s.
-        carryOut rows (simplify rows (k - 1)) (firstMatch unmatched (arms op x y)) s)
+      carryOut rows (simplify rows (k - 1)) (firstMatch unmatched (arms op x y)) s)
   -- each part by operations of binary64, each of which rounds once; a negation changes signs and rounds nothing
   pub sums : (x y : Complex) → plus x y ≡ record { re = Ieee.add binary64 (x .re) (y .re); im = Ieee.add binary64 (x .im) (y .im) }
   pub differences : (x y : Complex) → minus x y ≡ record { re = Ieee.sub binary64 (x .re) (y .re); im = Ieee.sub binary64 (x .im) (y .im) }

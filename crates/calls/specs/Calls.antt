@@ -92,7 +92,8 @@ unfoldable pub simplifyJob : (limit : ℕ) (out : List ℕ) → Job → Simplifi
 simplifyJob limit out (ready root store rows) = simplifiedAnswer out (simplify rows limit root store)
 simplifyJob limit out (refused why) = (Simplified.Refused why, out)
 
--- "Order: limit; listing line by line; sheet line by line; the operation in its running order; 2 for a result; 13"
+-- "Order: limit; listing line by line [...]; sheet line by line [...]; the operation in its running order; 2 for a result; 14; 13": simplifying has
+-- no tape, and no 14
 unfoldable pub simplifyCall : (room limit : ℕ) (list values out : List ℕ) → Simplified × List ℕ
 simplifyCall room limit list values out = cond (isAllowed limit) (simplifyJob limit out (job room list values)) (Simplified.Refused Refusal.BadLimit, out)
 

@@ -1,6 +1,6 @@
 // The public calls: bytes in, an answer out, the output slice for a result that is written, and work memory that the
 // caller lends. They ask nothing of the caller: whatever the bytes and the memory hold, the answer, the output and the
-// memory at return are what the definitions of specs/Calls say.
+// memory at return are what specs/Promises says.
 ghost use mathlib.Core.Path.{_≡_};
 ghost use Prim.Native.Nat.{_≤_};
 ghost use lib.ListN.{length};

@@ -8,11 +8,11 @@ use Rattle.expression.specs.declared.refusal.Refusal.{Refusal}
 use Rattle.expression.specs.Trees.{Tree, number, pi, variable, cell, leaf, functionCall, prefixed, infixed}
 use Rattle.evaluation.specs.declared.real.Real.{Real}
 
--- the double nearest 1e-16
+-- the double nearest 1e-16, which is a little less than that
 abbrev pub tiny : Float
 tiny = doubleOf 0x3C9C_D2B2_97D8_89BC
 
--- "below 1e-16 in magnitude"; a NaN is not
+-- "below 1e-16 in magnitude", as the Rust compares, with that double, which is not below itself; a NaN is not either
 abbrev pub small : Float → Bool
 small x = lt (neg tiny) x && lt x tiny
 

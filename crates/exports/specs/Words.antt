@@ -1,4 +1,4 @@
--- The calls for other languages: each answer as six words, and each call's promise. Definitions only.
+-- The calls for other languages: each answer as six words, a pick as two, and each call's promise. Definitions only.
 use mathlib.Core.Path.{_≡_}
 use Prim.Native.Nat.{ℕ}
 use mathlib.Core.List.{List, [], _∷_}

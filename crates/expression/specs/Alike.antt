@@ -6,7 +6,7 @@ use Rattle.complex.specs.Equality as Numbers
 use Rattle.expression.specs.Codes.{infixCode, prefixCode, functionCode}
 use Rattle.expression.specs.Trees.{Leaf, number, pi, variable, cell, Tree, leaf, functionCall, prefixed, infixed}
 
--- "by kind, operator, children and numbers", where `same` compares numbers
+-- by kind, operator, children and numbers, where `same` compares numbers
 module _ (same : Complex → Complex → Bool) where
   unfoldable pub alikeLeaves : Leaf → Leaf → Bool
   alikeLeaves (number x) (number y) = same x y

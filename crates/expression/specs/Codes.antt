@@ -1,4 +1,5 @@
--- The small numbers of operators and functions: those that 01 gives them on the tape. Definitions only.
+-- The small numbers of operators and functions: those that 01 gives them on the tape; and those of the operations of t rows, which are the port's
+-- own, in 01's order. Definitions only.
 use Prim.Native.Nat.{ℕ}
 use mathlib.Core.List.{List, [], _∷_}
 use mathlib.Core.Bool.{cond}

@@ -1,4 +1,4 @@
--- Which trees are stored: those within 01's limits, whose leaves are such as a text can say. Definitions only.
+-- 01's limits of size and depth, and of the numbers that a leaf has: which trees are within them, and which leaves a text can say. Definitions only.
 use Prim.Native.Nat.{ℕ, _≤_, _<_}
 use Rattle.complex.specs.Bits.{Fitting}
 use Rattle.expression.specs.Trees.{Tree, Leaf, number, pi, variable, cell, leaf, functionCall, prefixed, infixed, size, depth}
@@ -14,12 +14,19 @@ pub record Limited (t : Tree) : Type 0 where
   pub sized : size t ≤ largest
   pub shallow : depth t ≤ deepest
 
--- a pair of doubles; "Variable and region are 0 to 65535, index 0 to 4294967295"
+-- "Variable and region are 0 to 65535, index 0 to 4294967295": how many there are of each
+abbrev pub numbers : ℕ
+numbers = 65536
+
+abbrev pub indices : ℕ
+indices = 4294967296
+
+-- a pair of doubles, and numbers that a text can say
 abbrev pub ProperLeaf : Leaf → Type 0
 ProperLeaf (number z) = Fitting z
 ProperLeaf pi = Unit {0}
-ProperLeaf (variable v) = v < 65536
-ProperLeaf (cell region index) = (region < 65536) × (index < 4294967296)
+ProperLeaf (variable v) = v < numbers
+ProperLeaf (cell region index) = (region < numbers) × (index < indices)
 
 abbrev pub Proper : Tree → Type 0
 Proper (leaf l) = ProperLeaf l

@@ -7,6 +7,7 @@ use lib.ListN.{length}
 use lib.Dec.{ltb, eqb}
 use Rattle.expression.specs.declared.refusal.Refusal.{Refusal}
 use Rattle.expression.specs.Trees.{Tree}
+use Rattle.expression.specs.Limits.{numbers}
 use Rattle.store.specs.Storing as Storing
 use Rattle.store.specs.Storing.{State, Answer, intern}
 use Rattle.text.specs.Letters.{letter}
@@ -39,11 +40,12 @@ unfoldable pub stored : Known → List ℕ → Answer → Line Known Refusal
 stored k rest (Storing.gives t store) = goes (known (k .nodes ++ (t ∷ [])) (k .swaps) store) rest
 stored k rest (Storing.refused why s) = stops why
 
--- 1 before that
+-- 1 before that, with its "line from 0"
 unfoldable pub formed : Known → Read Tree → Line Known Refusal
 formed k bad = stops (Refusal.BadList (lineNumber k))
 formed k (is t rest) = stored k rest (intern t (k .store))
 
+-- "1025th node line or 257th s line"
 abbrev pub mostNodes : ℕ
 mostNodes = 1024
 
@@ -60,7 +62,7 @@ nodeLine k first bs =
 unfoldable pub swapFields : (nodes : List Tree) → (first : ℕ) → List ℕ → Read Swap
 swapFields nodes first bs =
     then (ended tab (is first bs)) λ _ bs.
-    then (decimalField tab 65536 bs) λ v bs.
+    then (decimalField tab numbers bs) λ v bs.
     then (childField lf nodes bs) λ t bs.
     is (swap v t) bs
 

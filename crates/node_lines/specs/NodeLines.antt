@@ -8,6 +8,7 @@ use Rattle.complex.specs.Constants.{ofParts}
 use Rattle.expression.specs.Codes.{infixOf, prefixOf, functionOf}
 use Rattle.spelling.specs.Names.{functionNames, prefixNames, infixNames}
 use Rattle.expression.specs.Trees.{Tree, leaf, number, pi, variable, cell, functionCall, prefixed, infixed}
+use Rattle.expression.specs.Limits.{numbers, indices}
 use Rattle.text.specs.Letters.{letter}
 use Rattle.text.specs.Reading.{Read, is, bad, then, tab, lf, ended, decimalField, hexField, nameField}
 
@@ -21,14 +22,14 @@ childField stop earlier bs = then (decimalField stop (length earlier) bs) λ i b
 unfoldable pub numberFields : List ℕ → Read Tree
 numberFields bs = then (hexField tab bs) λ re bs. then (hexField lf bs) λ im bs. is (leaf (number (ofParts re im))) bs
 
--- `v·number`, `m·region·index`
+-- `v·number`, `m·region·index`: "Variable and region are 0 to 65535, index 0 to 4294967295"
 unfoldable pub variableFields : List ℕ → Read Tree
-variableFields bs = then (decimalField lf 65536 bs) λ v bs. is (leaf (variable v)) bs
+variableFields bs = then (decimalField lf numbers bs) λ v bs. is (leaf (variable v)) bs
 
 unfoldable pub cellFields : List ℕ → Read Tree
 cellFields bs =
-    then (decimalField tab 65536 bs) λ region bs.
-    then (decimalField lf 4294967296 bs) λ index bs.
+    then (decimalField tab numbers bs) λ region bs.
+    then (decimalField lf indices bs) λ index bs.
     is (leaf (cell region index)) bs
 
 -- `f·name·child`, `u·op·child`, `b·op·left·right`

@@ -1,2 +1,2 @@
--- The definitions that the contracts of `rack` cite.
+-- The definitions that the contracts of `rack` cite. To believe: Words.
 pub mod Words

@@ -17,7 +17,7 @@ pub fn run(
 ) {
     let n = listing_length(text);
     let sheet = sheet_of(&text[n..]);
-    // As much as 1024 lines of the longest form take.
+    // More than 1024 lines of the longest form take.
     let mut out = io::large_buffer();
     let answer = calls::simplify(&text[..n], sheet, limit, store, desk, table, &mut out);
     match answer {

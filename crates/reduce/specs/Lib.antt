@@ -1,2 +1,2 @@
--- The definitions that the contracts of `reduce` cite.
+-- The definitions that the contracts of `reduce` cite. To believe: Reducing.
 pub mod Reducing

@@ -25,7 +25,7 @@ unfoldable pub reduction : (room : ℕ) (text out : List ℕ) (n : ℕ) → List
 reduction room text out n =
     cond (ltb 65536 (length text)) (refusedLine 0 0) (printed (simplifiedText room text out n .0) (simplifiedText room text out n .1))
 
--- ---- the promises
+-- ---- the promises; that every text parts somewhere is a law (console/proofs/Parts.antt)
 
 pub record SimplifiesText (text : List ℕ) (w : Work) (out : List ℕ) (r : Simplified) (out′ : List ℕ) : Type 0 where
   pub answer : (n : ℕ) → Parted text n → _≡_ {A = Simplified × List ℕ} (r, out′) (simplifiedText (capacity w) text out n)

@@ -11,7 +11,7 @@ mod reduction;
 const ROOM: usize = 65_537;
 
 fn run(text: &[u8]) {
-    // As much as 1024 lines of the longest form take.
+    // More than 1024 lines of the longest form take.
     let mut out = io::large_buffer();
     let n = reduce(text, &mut out);
     io::write_all(STDOUT_FILENO, &out[..n]);

@@ -12,6 +12,7 @@ use Rattle.complex.specs.Constants.{ofParts}
 use Rattle.expression.specs.declared.refusal.Operation.{Operation}
 use Rattle.expression.specs.declared.refusal.Refusal.{Refusal}
 use Rattle.expression.specs.Codes.{operationCode, operationOf}
+use Rattle.expression.specs.Limits.{numbers, indices}
 use Rattle.spelling.specs.Names.{operationNames}
 use Rattle.text.specs.Letters.{letter}
 use Rattle.text.specs.Reading.{Read, is, bad, then, tab, lf, ended, decimalField, hexField, nameField}
@@ -42,12 +43,12 @@ unfoldable pub complexField : (stop : ℕ) → List ℕ → Read Complex
 complexField stop bs = then (hexField tab bs) λ re bs. then (hexField stop bs) λ im bs. is (ofParts re im) bs
 
 unfoldable pub variableFields : List ℕ → Read Variable
-variableFields bs = then (decimalField tab 65536 bs) λ number bs. then (complexField lf bs) λ value bs. is (variable number value) bs
+variableFields bs = then (decimalField tab numbers bs) λ number bs. then (complexField lf bs) λ value bs. is (variable number value) bs
 
 unfoldable pub cellFields : List ℕ → Read Cell
 cellFields bs =
-    then (decimalField tab 65536 bs) λ region bs.
-    then (decimalField tab 4294967296 bs) λ index bs.
+    then (decimalField tab numbers bs) λ region bs.
+    then (decimalField tab indices bs) λ index bs.
     then (hexField lf bs) λ real bs.
     is (cell region index (doubleOf real)) bs
 

@@ -21,11 +21,11 @@ one-less k = omega arith
 pub ordered : (rows : Rows) (k : ℕ) (op : InfixOperator) (l r : Tree) (s : State) (unmatched : Plan) → recall (infixed op l r) s ≡ nothing
     → simplify rows (suc k) (infixed op l r) s
     ≡ keeping (infixed op l r) (andThen (simplify rows k l (counted suc s)) λ x s. andThen (simplify rows k r s) λ y s.
-      carryOut rows (simplify rows (k - 1)) (firstMatch unmatched (arms op x y)) s)
+    carryOut rows (simplify rows (k - 1)) (firstMatch unmatched (arms op x y)) s)
 unfolding step resume perform taskAt simplifyInfix
 ordered rows k op l r s unmatched new =
     unrolled suc rows (suc k) (infixed op l r) s
     ∙ (λ i. step suc rows (simplify rows (one-less k i)) (simplify rows (one-less k i - 1)) (suc k) (infixed op l r) s)
     ∙ (λ i. resume rows (simplify rows k) (simplify rows (k - 1)) (new i) (suc k) (infixed op l r) (counted suc s))
     ∙ (λ i. keeping (infixed op l r) (andThen (simplify rows k l (counted suc s)) λ x s. andThen (simplify rows k r s) λ y s.
-      carryOut rows (simplify rows (k - 1)) (sym (first-match op x y unmatched) i) s))
+    carryOut rows (simplify rows (k - 1)) (sym (first-match op x y unmatched) i) s))

@@ -27,7 +27,7 @@ columns tag first second link = record { tag = tag; first = first; second = seco
 unfoldable pub column : ℕ → List (List ℕ) → List ℕ
 column k rows = map (λ row. getD row k 0) rows
 
--- the lent rows as nodes: a row has its link first. It stays shut: the laws of proofs/Rows alone open it
+-- the lent rows as nodes: a row has its link first. It stays shut: only the laws of proofs/Rows open it, and one of proofs/OneAnswer
 unfoldable pub memory : (rows : List (List ℕ)) → Memory
 memory rows = columns (column 1 rows) (column 2 rows) (column 3 rows) (column 0 rows)
 

@@ -19,10 +19,10 @@ then bad next = bad
 
 -- "Lines end in LF, fields are parted by one tab"
 abbrev pub tab : ℕ
-tab = 9
+tab = letter "\t"
 
 abbrev pub lf : ℕ
-lf = 10
+lf = letter "\n"
 
 -- the byte that ends a field, after what stood in it
 unfoldable pub ended : {A : Type 0} → (stop : ℕ) → Read A → Read A
