@@ -1,5 +1,5 @@
 -- Arms as plans: which plan each shape is, and a row of tests from the first on. Assumes nothing.
-use mathlib.Core.Path.{_≡_, refl, ap, _∙_}
+use mathlib.Core.Path.{_≡_, refl, sym, ap, _∙_}
 use mathlib.Core.Bool.{Bool, true, false}
 use Prim.Native.Nat.{ℕ, _≤_, _<_}
 use borrow.Author.Tests.{lt-ltb, le-ltb}
@@ -17,7 +17,10 @@ use Rattle.store.proofs.Stored.{read-size}
 use Rattle.arms.specs.declared.Arm.{Arm}
 use Rattle.arms.specs.declared.Outer.{Outer}
 use Rattle.arms.specs.Arms.{Plan, armIf, the, new, folded, called, negation, combined, S, lesser, affine, constant, minus, sum, smaller}
+use Rattle.arms.specs.Ordered.{infixPlan}
+use Rattle.arms.specs.Tables.{tablePlan}
 use Rattle.arms.specs.Choosing.{At, Chosen}
+use Rattle.arms.proofs.Ordered.{by-tables}
 
 -- a new node is this tree
 pub record Makes (m : Memory) (n : ℕ) (e : Expression) (t : Tree) : Type 0 where
@@ -37,6 +40,10 @@ module _ {m : Memory} {n : ℕ} where
 
   pub planned : {arm : Arm} {p q : Plan} → p ≡ q → Chosen m n arm p → Chosen m n arm q
   planned e c = record { inside = c .inside; wants = c .wants ∙ e }
+
+  -- what a table of the code chooses is the first match of 01's list
+  pub tabled : (op : InfixOperator) (l r : Tree) {arm : Arm} {p : Plan} → p ≡ tablePlan op l r → Chosen m n arm p → Chosen m n arm (infixPlan op l r)
+  tabled op l r e c = planned (e ∙ sym (by-tables op l r)) c
 
   -- ---- new nodes
 

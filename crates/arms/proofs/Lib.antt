@@ -1,4 +1,4 @@
--- The laws that the proofs of this crate, and where `pub` of its callers, cite. Ordered is cited by none: it says that the tables choose as 01's list does.
+-- The laws that the proofs of this crate, and where `pub` of its callers, cite. Ordered says that the code's tables choose as 01's list does.
 pub mod Looking
 mod Choosing
 pub mod Ordered

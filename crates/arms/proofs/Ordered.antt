@@ -1,13 +1,15 @@
--- 01's list has 41 arms, and the first match in it is what the tables of the operators choose. Assumes nothing.
-use mathlib.Core.Path.{_≡_, refl}
+-- 01's list has 41 arms, and the first match in it, which is the plan of an operation, is what the code's tables of the operators choose. Assumes
+-- nothing.
+use mathlib.Core.Path.{_≡_, refl, sym, _∙_}
 use mathlib.Core.Bool.{Bool, true, false, cond, _||_}
 use lib.ListN.{length}
 use Rattle.complex.specs.Constants.{oneNumber}
 use Rattle.expression.specs.declared.InfixOperator.{InfixOperator}
-use Rattle.expression.specs.Trees.{Tree}
+use Rattle.expression.specs.Trees.{Tree, infixed}
 use Rattle.arms.specs.Looks.{bothHold, eitherHolds, left, right, beginsWith, endsWith}
-use Rattle.arms.specs.Arms.{Plan, the, combined, S, armIf, constant, isInverse, groupedRight, grouped, moved, affineSum, sumPlan, signedDifference, differencePlan, signedProduct, distributed, productPlan, signedQuotient, split, cancelled, quotientPlan, powerPlan, infixPlan}
-use Rattle.arms.specs.Ordered.{firstMatch, otherFactor, arms}
+use Rattle.arms.specs.Arms.{Plan, the, new, combined, S, armIf, constant}
+use Rattle.arms.specs.Tables.{isInverse, groupedRight, grouped, moved, affineSum, sumPlan, signedDifference, differencePlan, signedProduct, distributed, productPlan, signedQuotient, split, cancelled, quotientPlan, powerPlan, tablePlan}
+use Rattle.arms.specs.Ordered.{firstMatch, otherFactor, arms, infixPlan}
 
 pub forty-one : (op : InfixOperator) (l r : Tree) → length (arms op l r) ≡ 41
 unfolding arms
@@ -58,11 +60,20 @@ inverse o = S (combined InfixOperator.Slash (constant oneNumber) (the o))
 
 -- ---- the first match
 
--- "Infix, l and r simplified, first match"; whatever is said for no match, since there is none
-pub first-match : (op : InfixOperator) (l r : Tree) (unmatched : Plan) → firstMatch unmatched (arms op l r) ≡ infixPlan op l r
-unfolding firstMatch arms isInverse groupedRight grouped moved affineSum sumPlan signedDifference differencePlan signedProduct distributed productPlan signedQuotient split cancelled quotientPlan powerPlan infixPlan
+-- whatever is said for no match, since there is none
+pub first-match : (op : InfixOperator) (l r : Tree) (unmatched : Plan) → firstMatch unmatched (arms op l r) ≡ tablePlan op l r
+unfolding firstMatch arms isInverse groupedRight grouped moved affineSum sumPlan signedDifference differencePlan signedProduct distributed productPlan signedQuotient split cancelled quotientPlan powerPlan tablePlan
 first-match InfixOperator.Plus l r unmatched = rw regrouped (unfold armIf bothHold in refl)
 first-match InfixOperator.Minus l r unmatched = rw regrouped (unfold armIf bothHold in refl)
 first-match InfixOperator.Star l r unmatched = rw (signed, regrouped) (unfold armIf bothHold eitherHolds in refl)
 first-match InfixOperator.Slash l r unmatched = rw (signed-or-cancelled, regrouped, either-factor the l r, either-factor inverse r l) (unfold armIf bothHold in refl)
 first-match InfixOperator.Caret l r unmatched = unfold armIf bothHold in refl
+
+-- what the code follows is 01's first match
+pub by-tables : (op : InfixOperator) (l r : Tree) → infixPlan op l r ≡ tablePlan op l r
+unfolding infixPlan
+by-tables op l r = first-match op l r (new (infixed op l r))
+
+-- the plan for no match is never taken
+pub any-unmatched : (op : InfixOperator) (l r : Tree) (unmatched : Plan) → infixPlan op l r ≡ firstMatch unmatched (arms op l r)
+any-unmatched op l r unmatched = by-tables op l r ∙ sym (first-match op l r unmatched)

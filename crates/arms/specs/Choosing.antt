@@ -13,7 +13,8 @@ use Rattle.store.specs.Held.{Holds}
 use Rattle.arms.specs.declared.Arm.{Arm}
 use Rattle.arms.specs.declared.Outer.{Outer}
 use Rattle.arms.specs.Looks.{isInfix, left, right}
-use Rattle.arms.specs.Arms.{Plan, the, new, folded, called, negation, combined, S, lesser, affine, constant, sum, affineTest}
+use Rattle.arms.specs.Arms.{Plan, the, new, folded, called, negation, combined, S, lesser, affine, constant, sum}
+use Rattle.arms.specs.Tables.{affineTest}
 
 -- node k, one of n, has the tree t
 pub record At (m : Memory) (n k : ℕ) (t : Tree) : Type 0 where

@@ -1,5 +1,5 @@
--- 01's 41 arms as one list, in 01's order, each under 01's own words: when it matches, and which plan is made then. Operands are simplified; trees
--- alone are looked at. Definitions only.
+-- 01's 41 arms as one list, in 01's order, each under 01's own words: when it matches, and which plan is made then; and the plan of an operation, its
+-- first match. Operands are simplified; trees alone are looked at. Definitions only.
 use mathlib.Core.Bool.{Bool, true, cond, _&&_, _||_}
 use mathlib.Core.List.{List, [], _∷_}
 use lib.Dec.{eqb}
@@ -48,7 +48,7 @@ otherFactor t s = cond (beginsWith * t s) (right t) (left t)
 
 -- ---- the arms
 
--- "Infix, l and r simplified, first match"
+-- 1 to 41, of l op r
 unfoldable pub arms : InfixOperator → (l r : Tree) → List Row
 arms op l r =
     -- 1. 0+r: r
@@ -136,3 +136,7 @@ arms op l r =
     -- 41. Rebuild
     ∷ (true ⇒ new (infixed op l r))
     ∷ []
+
+-- "Infix, l and r simplified, first match". The last arm always matches, so the plan for no match is never taken
+unfoldable pub infixPlan : InfixOperator → Tree → Tree → Plan
+infixPlan op l r = firstMatch (new (infixed op l r)) (arms op l r)

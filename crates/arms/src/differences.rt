@@ -1,6 +1,6 @@
 // The arms of -: 3 to 5, 17, 20, 21, 31, 32 and 41.
 ghost use Rattle.store.specs.Memory.{memory};
-ghost use Rattle.arms.specs.Arms.{signedDifference, differencePlan};
+ghost use Rattle.arms.specs.Tables.{signedDifference, differencePlan};
 ghost use Rattle.arms.specs.Choosing.{ChoosesWhere, Chooses, always};
 use super::Arm;
 use super::Outer;

@@ -2,7 +2,8 @@
 // and `choose_prefix` look at the nodes and answer a shape with its operands; nothing is built or simplified here.
 ghost use mathlib.Core.Path.{_≡_};
 ghost use Rattle.store.specs.Memory.{memory};
-ghost use Rattle.arms.specs.Arms.{smaller as smallerTree, infixPlan, functionPlan, prefixPlan};
+ghost use Rattle.arms.specs.Arms.{smaller as smallerTree, functionPlan, prefixPlan};
+ghost use Rattle.arms.specs.Ordered.{infixPlan};
 ghost use Rattle.arms.specs.Choosing.{appliedTo, ChoosesAt, ChoosesOne, Selects};
 use complex::Complex;
 use complex::neg;

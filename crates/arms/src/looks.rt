@@ -3,7 +3,7 @@ ghost use mathlib.Core.Path.{_≡_};
 ghost use Prim.Native.Nat.{ℕ};
 ghost use Rattle.store.specs.Memory.{Memory, memory, treeOf};
 ghost use Rattle.arms.specs.Looks.{bothHold, eitherHolds, isNumber, isZeroNumber, isOneNumber, numberIn, isNegation, under, isInfix, left as leftOf, right as rightOf, bothInfix, eitherInfix, beginsWith, endsWith};
-ghost use Rattle.arms.specs.Arms.{bothNumbers};
+ghost use Rattle.arms.specs.Tables.{bothNumbers};
 ghost use Rattle.arms.specs.Choosing.{Tells, TellsBoth, Parts, LikensTo};
 use complex::Complex;
 use complex::constants::zero;

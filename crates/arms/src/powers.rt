@@ -1,5 +1,5 @@
 // The arms of ^: 13 to 17 and 41.
-ghost use Rattle.arms.specs.Arms.{powerPlan};
+ghost use Rattle.arms.specs.Tables.{powerPlan};
 ghost use Rattle.arms.specs.Choosing.{ChoosesWhere, always};
 use super::Arm;
 use super::looks::are_numbers;

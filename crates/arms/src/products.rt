@@ -1,6 +1,6 @@
 // The arms of *: 6 to 8, 17, 22, 25, 26, 30, 32 to 34 and 39 to 41.
 ghost use Rattle.store.specs.Memory.{memory};
-ghost use Rattle.arms.specs.Arms.{eitherNegation, signedProduct, distributed, productPlan};
+ghost use Rattle.arms.specs.Tables.{eitherNegation, signedProduct, distributed, productPlan};
 ghost use Rattle.arms.specs.Choosing.{ChoosesWhere, Chooses};
 use super::Arm;
 use super::groups::choose_grouped;

@@ -1,6 +1,6 @@
 // The arms of /: 9 to 12, 17, 22 to 26, 31, 32, 35 to 38 and 41.
 ghost use Rattle.store.specs.Memory.{memory};
-ghost use Rattle.arms.specs.Arms.{eitherNegation, cancelsNegation, signedQuotient, split, cancelled, quotientPlan};
+ghost use Rattle.arms.specs.Tables.{eitherNegation, cancelsNegation, signedQuotient, split, cancelled, quotientPlan};
 ghost use Rattle.arms.specs.Choosing.{LikensTo, Chooses, ChoosesWhereHeld, ChoosesWhere, always};
 use super::Arm;
 use super::Outer;

@@ -10,10 +10,11 @@ use Rattle.store.specs.Storing.{State, Answer, andThen, among, intern, recall, 
 use Rattle.sheet.specs.Rows.{rows}
 use Rattle.tasks.specs.Tasks.{leafTask, taskAt}
 use Rattle.arms.specs.Looks.{bothHold, eitherHolds, isNumberOf, numberIn, isNegation, under, isInfix, left, right}
-use Rattle.arms.specs.Arms.{armIf, smaller, uninverted, isInverse, groupedRight, grouped, moved, sharing, affineSum, sumPlan, signedDifference, differencePlan, signedProduct, distributed, productPlan, signedQuotient, split, cancelled, quotientPlan, powerPlan, infixPlan, minusPlan, prefixPlan}
+use Rattle.arms.specs.Arms.{armIf, smaller, uninverted, sharing, minusPlan, prefixPlan}
+use Rattle.arms.specs.Ordered.{firstMatch, arms, infixPlan}
 use Rattle.simplification.specs.Simplifying.{counted, foldedTo, again, keeping, carryOut, simplifyPrefix, simplifyInfix, perform, resume, step, simplifyBy, simplify}
 
 -- Simplifying under an empty sheet. A proof that unfolds this unfolds all that simplifying is defined by, so that the list stands here alone.
 unfoldable pub computed : (limit : ℕ) → Tree → State → Answer
-unfolding simplifyBy step resume recall keep keeping perform taskAt leafTask counted foldedTo intern among andThen again carryOut simplifyInfix simplifyPrefix infixPlan prefixPlan minusPlan sumPlan affineSum sharing differencePlan signedDifference productPlan signedProduct distributed quotientPlan signedQuotient cancelled split powerPlan grouped groupedRight moved isInverse uninverted smaller armIf bothHold eitherHolds isNumberOf numberIn isNegation under isInfix left right isZero isOne squaresBelow magnitude alike alikeLeaves Numbers.identical Numbers.equal Numbers.identicalDoubles Numbers.equalDoubles size depth eq isNan lt neg toBits ofBits round add mul sub div
+unfolding simplifyBy step resume recall keep keeping perform taskAt leafTask counted foldedTo intern among andThen again carryOut simplifyInfix simplifyPrefix infixPlan firstMatch arms prefixPlan minusPlan sharing uninverted smaller armIf bothHold eitherHolds isNumberOf numberIn isNegation under isInfix left right isZero isOne squaresBelow magnitude alike alikeLeaves Numbers.identical Numbers.equal Numbers.identicalDoubles Numbers.equalDoubles size depth eq isNan lt neg toBits ofBits round add mul sub div
 computed = simplify (rows [] [] [])

@@ -13,7 +13,8 @@ use Rattle.sheet.specs.Rows.{Rows}
 use Rattle.evaluation.specs.declared.Evaluation.{Evaluation}
 use Rattle.evaluation.specs.Evaluating.{calculateFunction, calculateInfix}
 use Rattle.tasks.specs.Tasks.{Task, number-of-pi, itself, calling, prefixing, infixing, taskAt}
-use Rattle.arms.specs.Arms.{Plan, smaller, infixPlan, functionPlan, prefixPlan, the, new, folded, called, negation, combined, S, lesser, affine, minus, sum, product}
+use Rattle.arms.specs.Arms.{Plan, smaller, functionPlan, prefixPlan, the, new, folded, called, negation, combined, S, lesser, affine, minus, sum, product}
+use Rattle.arms.specs.Ordered.{infixPlan}
 use Rattle.simplification.specs.Bounds.{mostCalls}
 use Rattle.simplification.specs.Simplifying.{Simplifier, counted, foldedTo, again, keeping, carryOut, simplifyFunctionCall, simplifyPrefix, simplifyInfix, perform, resume, step, simplifyBy, simplify}
 use Rattle.simplification.proofs.Shapes.{weight, Closed, Fine, fine-infix, fine-function, fine-prefix}

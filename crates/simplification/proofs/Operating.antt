@@ -22,7 +22,8 @@ use Rattle.tasks.specs.Tasks.{leafTask, taskAt}
 use Rattle.tasks.specs.Deciding.{oneMore}
 use Rattle.tasks.specs.Deciding.{taskOf, TaskIn, Decides}
 use Rattle.arms.specs.declared.Arm.{Arm}
-use Rattle.arms.specs.Arms.{Plan, infixPlan}
+use Rattle.arms.specs.Arms.{Plan}
+use Rattle.arms.specs.Ordered.{infixPlan}
 use Rattle.arms.specs.Choosing.{Sits, Chosen, ArmIn, planOf}
 use Rattle.simplification.specs.Simplifying.{Simplifier, counted, foldedTo, keeping, carryOut, perform, resume, step, simplifyBy}
 use Rattle.simplification.specs.Run.{KeepsAnswer}

@@ -1,5 +1,5 @@
 -- Simplifying an infix operation follows 01's list of arms: what the definition gives where nothing is kept. Assumes nothing.
-use mathlib.Core.Path.{_≡_, sym, _∙_}
+use mathlib.Core.Path.{_≡_, _∙_}
 use Prim.Native.Nat.{ℕ, zero, suc, _-_}
 use native.Mathlib.Omega.{arith}
 use Rattle.expression.specs.declared.InfixOperator.{InfixOperator}
@@ -9,7 +9,7 @@ use Rattle.sheet.specs.Rows.{Rows}
 use Rattle.tasks.specs.Tasks.{taskAt}
 use Rattle.arms.specs.Arms.{Plan}
 use Rattle.arms.specs.Ordered.{arms, firstMatch}
-use Rattle.arms.proofs.Ordered.{first-match}
+use Rattle.arms.proofs.Ordered.{any-unmatched}
 use Rattle.simplification.specs.Simplifying.{counted, keeping, carryOut, simplifyInfix, perform, resume, step, simplify}
 use Rattle.simplification.proofs.Operating.{unrolled}
 
@@ -28,4 +28,4 @@ ordered rows k op l r s unmatched new =
     ∙ (λ i. step suc rows (simplify rows (one-less k i)) (simplify rows (one-less k i - 1)) (suc k) (infixed op l r) s)
     ∙ (λ i. resume rows (simplify rows k) (simplify rows (k - 1)) (new i) (suc k) (infixed op l r) (counted suc s))
     ∙ (λ i. keeping (infixed op l r) (andThen (simplify rows k l (counted suc s)) λ x s. andThen (simplify rows k r s) λ y s.
-    carryOut rows (simplify rows (k - 1)) (sym (first-match op x y unmatched) i) s))
+    carryOut rows (simplify rows (k - 1)) (any-unmatched op x y unmatched i) s))

@@ -13,7 +13,8 @@ use Rattle.expression.proofs.Sizes.{depth-positive}
 use Rattle.store.specs.Storing.{State, Answer, gives, andThen}
 use Rattle.sheet.specs.Rows.{Rows}
 use Rattle.tasks.specs.Tasks.{leafTask, taskAt}
-use Rattle.arms.specs.Arms.{infixPlan, functionPlan, prefixPlan}
+use Rattle.arms.specs.Arms.{functionPlan, prefixPlan}
+use Rattle.arms.specs.Ordered.{infixPlan}
 use Rattle.simplification.specs.Simplifying.{Simplifier, carryOut, simplifyFunctionCall, simplifyPrefix, simplifyInfix, perform, simplifyBy, simplify}
 use Rattle.simplification.proofs.Shapes.{Closed, fine-infix, fine-function, fine-prefix}
 use Rattle.simplification.proofs.Inherited.{KeptAll, Gives, then-gives, stores, carries, steps, Leaves, leaves-closed, simplify-leaves}

@@ -1,6 +1,6 @@
 -- What every arm's plan has: at most four S calls, and no trees but those that the operands are made of. Assumes nothing.
 use Prim.Native.Nat.{ℕ, _+_, _≤_}
-use mathlib.Core.Path.{_≡_, refl}
+use mathlib.Core.Path.{_≡_, refl, sym, subst}
 use mathlib.Core.Bool.{Bool, true, false}
 use native.Mathlib.Omega.{arith}
 use Rattle.complex.specs.declared.Complex.{Complex}
@@ -11,8 +11,11 @@ use Rattle.expression.specs.declared.PrefixOperator.{PrefixOperator}
 use Rattle.expression.specs.declared.ExpressionFunction.{ExpressionFunction}
 use Rattle.expression.specs.Trees.{Tree, number, pi, variable, cell, leaf, functionCall, prefixed, infixed}
 use Rattle.arms.specs.Looks.{isNumberOf, isNumber, numberIn, under, left, right}
-use Rattle.arms.specs.Arms.{Plan, armIf, uninverted, groupedRight, grouped, moved, sharing, affineSum, sumPlan, signedDifference, differencePlan, signedProduct, distributed, productPlan, signedQuotient, split, cancelled, quotientPlan, powerPlan, infixPlan, functionPlan, minusPlan, prefixPlan, the, new, folded, called, negation, combined, S, lesser, affine, minus}
+use Rattle.arms.specs.Arms.{Plan, armIf, uninverted, sharing, functionPlan, minusPlan, prefixPlan, the, new, folded, called, negation, combined, S, lesser, affine, minus}
+use Rattle.arms.specs.Ordered.{infixPlan}
+use Rattle.arms.specs.Tables.{groupedRight, grouped, moved, affineSum, sumPlan, signedDifference, differencePlan, signedProduct, distributed, productPlan, signedQuotient, split, cancelled, quotientPlan, powerPlan, tablePlan}
 use Rattle.arms.proofs.Looking.{never}
+use Rattle.arms.proofs.Ordered.{by-tables}
 
 -- how many S calls a plan has
 unfoldable pub weight : Plan → ℕ
@@ -157,13 +160,16 @@ module _ (P Q : Tree → Type 0) (c : Closed P Q) where
   unfolding powerPlan weight Over
   fine-power l r x y = fine-if _ _ _ (record { light = omega arith; over = c .numeral _ _ }) (fine-if _ _ _ (record { light = omega arith; over = c .numeral _ _ }) (fine-if _ _ _ (record { light = omega arith; over = c .numeral _ _ }) (fine-if _ _ _ (record { light = omega arith; over = x }) (fine-if _ _ _ (record { light = omega arith; over = tt }) (record { light = omega arith; over = c .infix-of InfixOperator.Caret (x) (y) })))))
 
+  fine-table : (op : InfixOperator) (l r : Tree) → P l → P r → Fine P Q (tablePlan op l r)
+  unfolding tablePlan
+  fine-table InfixOperator.Plus l r x y = fine-sum l r x y
+  fine-table InfixOperator.Minus l r x y = fine-difference l r x y
+  fine-table InfixOperator.Star l r x y = fine-product l r x y
+  fine-table InfixOperator.Slash l r x y = fine-quotient l r x y
+  fine-table InfixOperator.Caret l r x y = fine-power l r x y
+
   pub fine-infix : (op : InfixOperator) (l r : Tree) → P l → P r → Fine P Q (infixPlan op l r)
-  unfolding infixPlan
-  fine-infix InfixOperator.Plus l r x y = fine-sum l r x y
-  fine-infix InfixOperator.Minus l r x y = fine-difference l r x y
-  fine-infix InfixOperator.Star l r x y = fine-product l r x y
-  fine-infix InfixOperator.Slash l r x y = fine-quotient l r x y
-  fine-infix InfixOperator.Caret l r x y = fine-power l r x y
+  fine-infix op l r x y = subst (Fine P Q) (sym (by-tables op l r)) (fine-table op l r x y)
 
   pub fine-function : (f : ExpressionFunction) (t : Tree) → P t → Fine P Q (functionPlan f t)
   unfolding functionPlan weight Over

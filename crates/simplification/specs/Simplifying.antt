@@ -11,7 +11,8 @@ use Rattle.sheet.specs.Rows.{Rows}
 use Rattle.evaluation.specs.declared.Evaluation.{Evaluation}
 use Rattle.evaluation.specs.Evaluating.{calculateFunction, calculateInfix}
 use Rattle.tasks.specs.Tasks.{Task, number-of-pi, itself, calling, prefixing, infixing, taskAt}
-use Rattle.arms.specs.Arms.{Plan, the, new, folded, called, negation, combined, S, lesser, affine, smaller, minus, sum, product, infixPlan, functionPlan, prefixPlan}
+use Rattle.arms.specs.Arms.{Plan, the, new, folded, called, negation, combined, S, lesser, affine, smaller, minus, sum, product, functionPlan, prefixPlan}
+use Rattle.arms.specs.Ordered.{infixPlan}
 
 abbrev pub Simplifier : Type 0
 Simplifier = Tree → State → Answer

@@ -1,6 +1,6 @@
 -- `choose_difference` meets its contract. Assumes nothing.
 use mathlib.Core.Path.{refl}
-use Rattle.arms.specs.Arms.{differencePlan}
+use Rattle.arms.specs.Tables.{differencePlan}
 use Rattle.arms.proofs.Looking.{so, compared}
 use Rattle.arms.proofs.Choosing.{hit, past, minus-of, numeral, use-it, build, fold, again}
 use borrow.Author.Needs.{needs}

@@ -1,5 +1,5 @@
 -- `choose_signed_difference` meets its contract. Assumes nothing.
-use Rattle.arms.specs.Arms.{signedDifference}
+use Rattle.arms.specs.Tables.{signedDifference}
 use Rattle.arms.proofs.Looking.{so}
 use Rattle.arms.proofs.Choosing.{hit, past, infix-of, build, again, smaller-negated}
 use borrow.Author.Needs.{needs}

@@ -1,5 +1,5 @@
 -- `choose_grouped` meets its contract. Assumes nothing.
-use Rattle.arms.specs.Arms.{grouped}
+use Rattle.arms.specs.Tables.{grouped}
 use Rattle.arms.proofs.Looking.{so, other-of-either}
 use Rattle.arms.proofs.Choosing.{hit, past, infix-of, smaller-after}
 use borrow.Author.Needs.{needs}

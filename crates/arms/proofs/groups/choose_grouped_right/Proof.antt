@@ -1,5 +1,5 @@
 -- `choose_grouped_right` meets its contract. Assumes nothing.
-use Rattle.arms.specs.Arms.{groupedRight}
+use Rattle.arms.specs.Tables.{groupedRight}
 use Rattle.arms.proofs.Looking.{so}
 use Rattle.arms.proofs.Choosing.{hit, past, infix-by, infix-of, smaller-before}
 use borrow.Author.Needs.{needs}

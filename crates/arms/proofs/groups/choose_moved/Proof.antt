@@ -1,6 +1,6 @@
 -- `choose_moved` meets its contract. Assumes nothing.
 use mathlib.Core.Path.{refl}
-use Rattle.arms.specs.Arms.{moved}
+use Rattle.arms.specs.Tables.{moved}
 use Rattle.arms.proofs.Looking.{so, other-of-either}
 use Rattle.arms.proofs.Choosing.{hit, past, infix-of, minus-of, smaller-before, smaller-after}
 use borrow.Author.Needs.{needs}

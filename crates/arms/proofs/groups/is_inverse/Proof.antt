@@ -1,6 +1,6 @@
 -- `is_inverse` meets its contract. Assumes nothing.
 use mathlib.Core.Path.{refl}
-use Rattle.arms.specs.Arms.{isInverse}
+use Rattle.arms.specs.Tables.{isInverse}
 use borrow.Author.Needs.{needs}
 use Rattle.arms.proofs.groups.is_inverse.Statement.{statement}
 use Rattle.arms.proofs.groups.is_inverse.Tie as tie

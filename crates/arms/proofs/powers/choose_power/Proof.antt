@@ -1,5 +1,5 @@
 -- `choose_power` meets its contract. Assumes nothing.
-use Rattle.arms.specs.Arms.{powerPlan}
+use Rattle.arms.specs.Tables.{powerPlan}
 use Rattle.arms.proofs.Looking.{so}
 use Rattle.arms.proofs.Choosing.{hit, past, infix-of, numeral, use-it, build, fold}
 use borrow.Author.Needs.{needs}

@@ -1,5 +1,5 @@
 -- `choose_distributed` meets its contract. Assumes nothing.
-use Rattle.arms.specs.Arms.{distributed}
+use Rattle.arms.specs.Tables.{distributed}
 use Rattle.arms.proofs.Looking.{so, first-of-both}
 use Rattle.arms.proofs.Choosing.{hit, past, infix-of, use-it, build, distribute}
 use borrow.Author.Needs.{needs}

@@ -1,5 +1,5 @@
 -- `choose_product` meets its contract. Assumes nothing.
-use Rattle.arms.specs.Arms.{productPlan}
+use Rattle.arms.specs.Tables.{productPlan}
 use Rattle.arms.proofs.Looking.{so, either-of}
 use Rattle.arms.proofs.Choosing.{hit, past, numeral, use-it, build, fold}
 use borrow.Author.Needs.{needs}

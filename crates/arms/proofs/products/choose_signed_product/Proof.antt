@@ -1,5 +1,5 @@
 -- `choose_signed_product` meets its contract. Assumes nothing.
-use Rattle.arms.specs.Arms.{signedProduct}
+use Rattle.arms.specs.Tables.{signedProduct}
 use Rattle.arms.proofs.Looking.{so, both-of, first-told, second-told}
 use Rattle.arms.proofs.Choosing.{hit, past, infix-of, again}
 use borrow.Author.Needs.{needs}

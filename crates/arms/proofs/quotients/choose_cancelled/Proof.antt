@@ -1,6 +1,6 @@
 -- `choose_cancelled` meets its contract. Assumes nothing.
 use mathlib.Core.Path.{refl}
-use Rattle.arms.specs.Arms.{cancelled}
+use Rattle.arms.specs.Tables.{cancelled}
 use Rattle.arms.proofs.Looking.{so, first-of-both}
 use Rattle.arms.proofs.Choosing.{hit, past, use-it, inverse}
 use borrow.Author.Needs.{needs}

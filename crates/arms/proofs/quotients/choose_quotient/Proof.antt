@@ -1,5 +1,5 @@
 -- `choose_quotient` meets its contract. Assumes nothing.
-use Rattle.arms.specs.Arms.{quotientPlan}
+use Rattle.arms.specs.Tables.{quotientPlan}
 use Rattle.arms.proofs.Looking.{so, compared, either-of}
 use Rattle.arms.proofs.Choosing.{hit, past, numeral, use-it, build, fold}
 use borrow.Author.Needs.{needs}

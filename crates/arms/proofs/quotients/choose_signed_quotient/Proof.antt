@@ -1,5 +1,5 @@
 -- `choose_signed_quotient` meets its contract. Assumes nothing.
-use Rattle.arms.specs.Arms.{signedQuotient}
+use Rattle.arms.specs.Tables.{signedQuotient}
 use Rattle.arms.proofs.Looking.{so, both-of, first-told, second-told}
 use Rattle.arms.proofs.Choosing.{hit, past, infix-of, numeral, build, again}
 use borrow.Author.Needs.{needs}

@@ -1,6 +1,6 @@
 -- `choose_split` meets its contract. Assumes nothing.
 use mathlib.Core.Path.{refl}
-use Rattle.arms.specs.Arms.{split}
+use Rattle.arms.specs.Tables.{split}
 use Rattle.arms.proofs.Looking.{so}
 use Rattle.arms.proofs.Choosing.{hit, past, infix-of, build, smaller-before, smaller-after}
 use borrow.Author.Needs.{needs}

@@ -1,5 +1,5 @@
 -- `choose_affine` meets its contract. Assumes nothing.
-use Rattle.arms.specs.Arms.{affineSum}
+use Rattle.arms.specs.Tables.{affineSum}
 use Rattle.arms.proofs.Looking.{so, first-of-both, second-of-both}
 use Rattle.arms.proofs.Choosing.{hit, past, infix-of, build, regroup, double}
 use borrow.Author.Needs.{needs}

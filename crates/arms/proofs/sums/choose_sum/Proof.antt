@@ -1,5 +1,5 @@
 -- `choose_sum` meets its contract. Assumes nothing.
-use Rattle.arms.specs.Arms.{sumPlan}
+use Rattle.arms.specs.Tables.{sumPlan}
 use Rattle.arms.proofs.Looking.{so}
 use Rattle.arms.proofs.Choosing.{hit, past, infix-of, use-it, fold, again}
 use borrow.Author.Needs.{needs}
