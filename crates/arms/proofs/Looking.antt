@@ -7,13 +7,14 @@ use lib.Dec.{T}
 use Rattle.complex.specs.declared.Complex.{Complex}
 use Rattle.expression.specs.Trees.{Tree, number, pi, variable, cell, leaf, functionCall, prefixed, infixed}
 use Rattle.expression.specs.Alike.{equal}
+use Rattle.expression.specs.declared.InfixOperator.{InfixOperator}
 use Rattle.expression.specs.declared.node.Expression.{Expression}
-use Rattle.expression.specs.Nodes.{Within}
+use Rattle.expression.specs.Nodes.{grown, Within}
 use Rattle.store.specs.Memory.{Memory, expressionAt, treeAt, treeOf}
 use Rattle.store.specs.Held.{Holds, Compares}
 use Rattle.store.proofs.Stored.{read-node}
-use Rattle.arms.specs.Looks.{bothHold, eitherHolds, isNumberOf, isNumber, numberIn}
-use Rattle.arms.specs.Choosing.{At, Sits}
+use Rattle.arms.specs.Looks.{bothHold, eitherHolds, isNumberOf, isNumber, numberIn, isNegation, under, isInfix, left, right}
+use Rattle.arms.specs.Choosing.{At, operandIn, leftIn, rightIn, Parts, Sits}
 
 pub never : {A : Type 0} → false ≡ true → A
 never e = absurd (subst T (sym e) tt)
@@ -126,6 +127,38 @@ module _ {m : Memory} {n : ℕ} where
 
   pub sits : Holds m n → {k : ℕ} {e : Expression} → k < n → e ≡ expressionAt m k → Sits m n k e
   sits h l p = record { at = record { inside = l; tree = sym (tree-of h l p) }; within = within-of h l p }
+
+-- ---- operands, where the node has passed a test
+
+pub operand-parts : (e : Expression) {r : ℕ} → r ≡ operandIn e → Parts isNegation under e r
+unfolding operandIn isNegation under grown
+operand-parts (Expression.Number z) p = λ m n w e. never e
+operand-parts Expression.PiConstant p = λ m n w e. never e
+operand-parts (Expression.Variable v) p = λ m n w e. never e
+operand-parts (Expression.Address region index) p = λ m n w e. never e
+operand-parts (Expression.FunctionCall f a) p = λ m n w e. never e
+operand-parts (Expression.Prefix o a) p = rw p λ m n w e. record { inside = w; tree = refl }
+operand-parts (Expression.Infix o a b) p = λ m n w e. never e
+
+pub left-parts : (e : Expression) {r : ℕ} → r ≡ leftIn e → (op : InfixOperator) → Parts (isInfix op) left e r
+unfolding leftIn isInfix left grown
+left-parts (Expression.Number z) p = λ op m n w e. never e
+left-parts Expression.PiConstant p = λ op m n w e. never e
+left-parts (Expression.Variable v) p = λ op m n w e. never e
+left-parts (Expression.Address region index) p = λ op m n w e. never e
+left-parts (Expression.FunctionCall f a) p = λ op m n w e. never e
+left-parts (Expression.Prefix o a) p = λ op m n w e. never e
+left-parts (Expression.Infix o a b) p = rw p λ op m n w e. record { inside = w .0; tree = refl }
+
+pub right-parts : (e : Expression) {r : ℕ} → r ≡ rightIn e → (op : InfixOperator) → Parts (isInfix op) right e r
+unfolding rightIn isInfix right grown
+right-parts (Expression.Number z) p = λ op m n w e. never e
+right-parts Expression.PiConstant p = λ op m n w e. never e
+right-parts (Expression.Variable v) p = λ op m n w e. never e
+right-parts (Expression.Address region index) p = λ op m n w e. never e
+right-parts (Expression.FunctionCall f a) p = λ op m n w e. never e
+right-parts (Expression.Prefix o a) p = λ op m n w e. never e
+right-parts (Expression.Infix o a b) p = rw p λ op m n w e. record { inside = w .1; tree = refl }
 
 -- two nodes that were compared
 pub compared : {m : Memory} {n a b : ℕ} {r : Bool} {t u : Tree} → Compares m a b r → Holds m n → At m n a t → At m n b u → r ≡ equal t u

@@ -1,6 +1,6 @@
 -- Two answers that a contract of `arms` allows are equal: an arm is determined by its plan, since a store has each tree once. Assumes nothing.
 use mathlib.Core.Path.{_≡_, refl, sym, ap, _∙_}
-use mathlib.Core.Bool.{Bool, true, cond}
+use mathlib.Core.Bool.{Bool, cond}
 use mathlib.Core.List.{List, [], _∷_, _++_}
 use Prim.Native.Nat.{ℕ, _+_, _*_, _<_}
 use lib.Dec.{eqb}
@@ -17,7 +17,7 @@ use Rattle.arms.specs.declared.Arm.{Arm}
 use Rattle.arms.specs.declared.Outer.{Outer}
 use Rattle.arms.specs.Looks.{left, right}
 use Rattle.arms.specs.Arms.{Plan, the, new, folded, called, negation, combined, S, lesser, affine}
-use Rattle.arms.specs.Choosing.{At, planOf, ArmIn, Chosen, Tells, TellsBoth, Parts, LikensTo, ChoosesAt, ChoosesOne, Selects}
+use Rattle.arms.specs.Choosing.{At, planOf, ArmIn, Chosen, Tells, TellsBoth, LikensTo, ChoosesAt, ChoosesOne, Selects}
 
 -- ---- the arm of a plan
 
@@ -134,11 +134,10 @@ module _ {m : Memory} {n : ℕ} (h : Holds m n) where
       → LikensTo test m e k r → LikensTo test m e k r′ → r ≡ r′
   one-likened test e k t w a p q = p n t h w a ∙ sym (q n t h w a)
 
-  -- ---- an operand, where the node passes the test: `operand_in`, `left_in`, `right_in`
+-- ---- an operand, which the node alone determines: `operand_in`, `left_in`, `right_in`
 
-  pub one-part : (test : Tree → Bool) (part : Tree → Tree) (e : Expression) {r r′ : ℕ} → Within n e → test (treeOf m e) ≡ true
-      → Parts test part e r → Parts test part e r′ → r ≡ r′
-  one-part test part e w y p q = one-at (p m n w y) (q m n w y)
+pub one-part : (part : Expression → ℕ) (e : Expression) {r r′ : ℕ} → r ≡ part e → r′ ≡ part e → r ≡ r′
+one-part part e p q = p ∙ sym q
 
 -- ---- what is said in every memory needs no store: `is_number`, `number_in` and the other looks at a node alone, of one node or of two
 

@@ -77,6 +77,36 @@ pub record Chosen (m : Memory) (n : ℕ) (r : Arm) (plan : Plan) : Type 0 where
   pub inside : ArmIn n r
   pub wants : planOf m r ≡ plan
 
+-- ---- operands of a node
+
+-- e of -e, b and c of b op c, as nodes; 0 of any other node
+unfoldable pub operandIn : Expression → ℕ
+operandIn (Expression.Number z) = 0
+operandIn Expression.PiConstant = 0
+operandIn (Expression.Variable v) = 0
+operandIn (Expression.Address region index) = 0
+operandIn (Expression.FunctionCall f a) = 0
+operandIn (Expression.Prefix o a) = a
+operandIn (Expression.Infix o a b) = 0
+
+unfoldable pub leftIn : Expression → ℕ
+leftIn (Expression.Number z) = 0
+leftIn Expression.PiConstant = 0
+leftIn (Expression.Variable v) = 0
+leftIn (Expression.Address region index) = 0
+leftIn (Expression.FunctionCall f a) = 0
+leftIn (Expression.Prefix o a) = 0
+leftIn (Expression.Infix o a b) = a
+
+unfoldable pub rightIn : Expression → ℕ
+rightIn (Expression.Number z) = 0
+rightIn Expression.PiConstant = 0
+rightIn (Expression.Variable v) = 0
+rightIn (Expression.Address region index) = 0
+rightIn (Expression.FunctionCall f a) = 0
+rightIn (Expression.Prefix o a) = 0
+rightIn (Expression.Infix o a b) = b
+
 -- ---- what the functions ensure
 
 -- a test of a node's tree, which needs no store
@@ -86,7 +116,7 @@ Tells test e r = (m : Memory) → r ≡ test (treeOf m e)
 abbrev pub TellsBoth : (Tree → Tree → Bool) → (a b : Expression) → Bool → Type 0
 TellsBoth test a b r = (m : Memory) → r ≡ test (treeOf m a) (treeOf m b)
 
--- where the test holds, the operand has this tree
+-- where the test holds, the operand has this tree: so of the operands above (proofs/Looking.antt, `operand-parts`, `left-parts`, `right-parts`)
 abbrev pub Parts : (Tree → Bool) → (Tree → Tree) → Expression → ℕ → Type 0
 Parts test part e r = (m : Memory) (n : ℕ) → Within n e → test (treeOf m e) ≡ true → At m n r (part (treeOf m e))
 

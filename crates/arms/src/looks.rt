@@ -2,9 +2,9 @@
 ghost use mathlib.Core.Path.{_≡_};
 ghost use Prim.Native.Nat.{ℕ};
 ghost use Rattle.store.specs.Memory.{Memory, memory, treeOf};
-ghost use Rattle.arms.specs.Looks.{bothHold, eitherHolds, isNumber, isZeroNumber, isOneNumber, numberIn, isNegation, under, isInfix, left as leftOf, right as rightOf, bothInfix, eitherInfix, beginsWith, endsWith};
+ghost use Rattle.arms.specs.Looks.{bothHold, eitherHolds, isNumber, isZeroNumber, isOneNumber, numberIn, isNegation, isInfix, bothInfix, eitherInfix, beginsWith, endsWith};
 ghost use Rattle.arms.specs.Tables.{bothNumbers};
-ghost use Rattle.arms.specs.Choosing.{Tells, TellsBoth, Parts, LikensTo};
+ghost use Rattle.arms.specs.Choosing.{operandIn, leftIn, rightIn, Tells, TellsBoth, LikensTo};
 use complex::Complex;
 use complex::constants::zero;
 use complex::zero::is_one;
@@ -100,7 +100,7 @@ pub fn is_negation(e: Expression) -> bool
 
 // e of -e
 pub fn operand_in(e: Expression) -> usize
-    ensures { λ r. ⌜ Parts isNegation under e r ⌝ }
+    ensures { λ r. ⌜ r ≡ operandIn e ⌝ }
 {
     match e {
         Expression::Prefix(_, child) => child,
@@ -130,7 +130,7 @@ pub fn is_infix(e: Expression, operator: InfixOperator) -> bool
 
 // b of b op c
 pub fn left_in(e: Expression) -> usize
-    ensures { λ r. ⌜ ((operator : InfixOperator) → Parts (isInfix operator) leftOf e r) ⌝ }
+    ensures { λ r. ⌜ r ≡ leftIn e ⌝ }
 {
     match e {
         Expression::Infix(_, left, _) => left,
@@ -145,7 +145,7 @@ pub fn left_in(e: Expression) -> usize
 
 // c of b op c
 pub fn right_in(e: Expression) -> usize
-    ensures { λ r. ⌜ ((operator : InfixOperator) → Parts (isInfix operator) rightOf e r) ⌝ }
+    ensures { λ r. ⌜ r ≡ rightIn e ⌝ }
 {
     match e {
         Expression::Infix(_, _, right) => right,

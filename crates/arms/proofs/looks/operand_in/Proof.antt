@@ -1,14 +1,12 @@
 -- `operand_in` meets its contract. Assumes nothing.
 use mathlib.Core.Path.{refl}
-use Rattle.expression.specs.Nodes.{grown}
-use Rattle.arms.specs.Looks.{isNegation, under}
-use Rattle.arms.proofs.Looking.{never}
+use Rattle.arms.specs.Choosing.{operandIn}
 use borrow.Author.Needs.{needs}
 use Rattle.arms.proofs.looks.operand_in.Statement.{statement}
 use Rattle.arms.proofs.looks.operand_in.Tie as tie
 
 pub operand-in-spec : {M : Type 1} → statement M
-unfolding isNegation under grown
+unfolding operandIn
 operand-in-spec =
     tie.close
     (tie.spec
@@ -19,10 +17,10 @@ operand-in-spec =
     (λ c. search needs)
     (λ c. search needs)
     (λ c. search needs)
-    (λ c. rw (c .before .e .given .1) λ m n w e. record { inside = w; tree = refl })
-    (λ c. rw (c .enum-told .given .1) λ m n w e. never e)
-    (λ c. rw (c .enum-told2 .given .1) λ m n w e. never e)
-    (λ c. rw (c .enum-told3 .given .1) λ m n w e. never e)
-    (λ c. rw (c .enum-told4 .given .1) λ m n w e. never e)
-    (λ c. rw (c .enum-told5 .given .1) λ m n w e. never e)
-    (λ c. rw (c .enum-told6 .given .1) λ m n w e. never e))
+    (λ c. rw (c .before .e .given .1) refl)
+    (λ c. rw (c .enum-told .given .1) refl)
+    (λ c. rw (c .enum-told2 .given .1) refl)
+    (λ c. rw (c .enum-told3 .given .1) refl)
+    (λ c. rw (c .enum-told4 .given .1) refl)
+    (λ c. rw (c .enum-told5 .given .1) refl)
+    (λ c. rw (c .enum-told6 .given .1) refl))

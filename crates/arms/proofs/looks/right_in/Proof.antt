@@ -1,14 +1,12 @@
 -- `right_in` meets its contract. Assumes nothing.
 use mathlib.Core.Path.{refl}
-use Rattle.expression.specs.Nodes.{grown}
-use Rattle.arms.specs.Looks.{isInfix, right}
-use Rattle.arms.proofs.Looking.{never}
+use Rattle.arms.specs.Choosing.{rightIn}
 use borrow.Author.Needs.{needs}
 use Rattle.arms.proofs.looks.right_in.Statement.{statement}
 use Rattle.arms.proofs.looks.right_in.Tie as tie
 
 pub right-in-spec : {M : Type 1} → statement M
-unfolding isInfix right grown
+unfolding rightIn
 right-in-spec =
     tie.close
     (tie.spec
@@ -19,10 +17,10 @@ right-in-spec =
     (λ c. search needs)
     (λ c. search needs)
     (λ c. search needs)
-    (λ c. rw (c .before .e .given .1) λ o m n w e. record { inside = w .1; tree = refl })
-    (λ c. rw (c .enum-told .given .1) λ o m n w e. never e)
-    (λ c. rw (c .enum-told2 .given .1) λ o m n w e. never e)
-    (λ c. rw (c .enum-told3 .given .1) λ o m n w e. never e)
-    (λ c. rw (c .enum-told4 .given .1) λ o m n w e. never e)
-    (λ c. rw (c .enum-told5 .given .1) λ o m n w e. never e)
-    (λ c. rw (c .enum-told6 .given .1) λ o m n w e. never e))
+    (λ c. rw (c .before .e .given .1) refl)
+    (λ c. rw (c .enum-told .given .1) refl)
+    (λ c. rw (c .enum-told2 .given .1) refl)
+    (λ c. rw (c .enum-told3 .given .1) refl)
+    (λ c. rw (c .enum-told4 .given .1) refl)
+    (λ c. rw (c .enum-told5 .given .1) refl)
+    (λ c. rw (c .enum-told6 .given .1) refl))

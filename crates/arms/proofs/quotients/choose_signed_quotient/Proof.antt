@@ -1,6 +1,6 @@
 -- `choose_signed_quotient` meets its contract. Assumes nothing.
 use Rattle.arms.specs.Tables.{signedQuotient}
-use Rattle.arms.proofs.Looking.{so, both-of, first-told, second-told}
+use Rattle.arms.proofs.Looking.{so, both-of, first-told, second-told, operand-parts}
 use Rattle.arms.proofs.Choosing.{hit, past, infix-of, numeral, build, again}
 use borrow.Author.Needs.{needs}
 use Rattle.arms.proofs.quotients.choose_signed_quotient.Statement.{statement}
@@ -16,7 +16,7 @@ choose-signed-quotient-spec =
     (λ c κs. search needs)
     (λ c κs. search needs)
     (λ c κs. search needs)
-    (λ c. λ n h x y g. hit _ (so (both-of (c .before .before .before .both-hold .ensures) (c .before .before .before .before .before .is-negation .ensures _) (c .before .before .before .before .is-negation2 .ensures _)) (c .before .before .if1 .taken)) (again (infix-of (c .before .operand-in .ensures _ n (x .within) (first-told _ (c .before .before .before .both-hold .ensures) (c .before .before .before .before .before .is-negation .ensures _) (c .before .before .if1 .taken))) (c .operand-in2 .ensures _ n (y .within) (second-told _ (c .before .before .before .both-hold .ensures) (c .before .before .before .before .is-negation2 .ensures _) (c .before .before .if1 .taken))))))
+    (λ c. λ n h x y g. hit _ (so (both-of (c .before .before .before .both-hold .ensures) (c .before .before .before .before .before .is-negation .ensures _) (c .before .before .before .before .is-negation2 .ensures _)) (c .before .before .if1 .taken)) (again (infix-of (operand-parts _ (c .before .operand-in .ensures) _ n (x .within) (first-told _ (c .before .before .before .both-hold .ensures) (c .before .before .before .before .before .is-negation .ensures _) (c .before .before .if1 .taken))) (operand-parts _ (c .operand-in2 .ensures) _ n (y .within) (second-told _ (c .before .before .before .both-hold .ensures) (c .before .before .before .before .is-negation2 .ensures _) (c .before .before .if1 .taken))))))
     (λ c κs. search needs)
     (λ c κs. search needs)
     (λ c. λ n h x y g. past _ (so (both-of (c .before .before .before .before .both-hold .ensures) (c .before .before .before .before .before .before .is-negation .ensures _) (c .before .before .before .before .before .is-negation2 .ensures _)) (c .before .before .before .if1 .left)) (hit _ (so (c .before .before .negates .ensures n _ h (y .within) (x .at)) (c .before .if2 .taken)) (build (numeral (c .minus-one .ensures)))))
