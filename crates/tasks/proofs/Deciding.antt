@@ -1,20 +1,51 @@
--- Each return of `task_at` is the task of the definition. Assumes nothing.
+-- Each return of `task_at` is the task of its node, and that task is the definition's. Assumes nothing.
 use mathlib.Core.Path.{_≡_, refl, ap, _∙_}
 use mathlib.Core.List.{[], _∷_}
 use Prim.Native.Nat.{ℕ, zero, suc}
+use native.Mathlib.Omega.{arith}
 use types.Run.{OneOf, miss}
 use denote.Enum.Declared.{tagOf}
-use Rattle.complex.specs.declared.Complex.{Complex}
 use Rattle.expression.specs.declared.InfixOperator.{InfixOperator}
 use Rattle.expression.specs.declared.PrefixOperator.{PrefixOperator}
 use Rattle.expression.specs.declared.ExpressionFunction.{ExpressionFunction}
-use Rattle.expression.specs.Trees.{Tree, Leaf, number, pi, variable, cell, leaf, functionCall, prefixed, infixed}
+use Rattle.expression.specs.Trees.{Leaf, number, pi, variable, cell, leaf}
 use Rattle.expression.specs.declared.node.Expression.{Expression}
 use Rattle.expression.proofs.node.Expression.{the-type}
 use Rattle.expression.specs.Nodes.{grown}
 use Rattle.tasks.specs.declared.Task.{Task}
-use Rattle.tasks.specs.Tasks.{itself, calling, prefixing, infixing, leafTask, taskAt}
-use Rattle.tasks.specs.Deciding.{Decides}
+use Rattle.tasks.specs.Tasks.{itself, leafTask, taskAt}
+use Rattle.tasks.specs.Deciding.{nodeTask, Decides}
+
+-- ---- the task of a node
+
+-- an operation, above limit 0
+pub call-task : (limit node : ℕ) (f : ExpressionFunction) (a : ℕ) → (limit ≡ 0 → ⊥) → Task.FunctionCall f a ≡ nodeTask limit node (Expression.FunctionCall f a)
+unfolding nodeTask
+call-task zero node f a z = absurd (z refl)
+call-task (suc k) node f a z = refl
+
+pub prefix-task : (limit node : ℕ) (o : PrefixOperator) (a : ℕ) → (limit ≡ 0 → ⊥) → Task.Prefix o a ≡ nodeTask limit node (Expression.Prefix o a)
+unfolding nodeTask
+prefix-task zero node o a z = absurd (z refl)
+prefix-task (suc k) node o a z = refl
+
+pub infix-task : (limit node : ℕ) (o : InfixOperator) (a b : ℕ) → (limit ≡ 0 → ⊥) → Task.Infix o a b ≡ nodeTask limit node (Expression.Infix o a b)
+unfolding nodeTask
+infix-task zero node o a b z = absurd (z refl)
+infix-task (suc k) node o a b z = refl
+
+-- all but pi, at limit 0
+pub spent-task : {limit : ℕ} (node : ℕ) (e : Expression) → OneOf (0 ∷ 1 ∷ 2 ∷ 3 ∷ 5 ∷ 6 ∷ []) (tagOf the-type e) → limit ≡ 0 → Task.Itself node ≡ nodeTask limit node e
+unfolding nodeTask
+spent-task node (Expression.Number z) k q = refl
+spent-task node Expression.PiConstant k q = absurd (miss (0 ∷ 1 ∷ 2 ∷ 3 ∷ 5 ∷ 6 ∷ []) 4 tt k)
+spent-task node (Expression.Variable v) k q = refl
+spent-task node (Expression.Address region index) k q = refl
+spent-task node (Expression.FunctionCall f a) k q = rw q refl
+spent-task node (Expression.Prefix o a) k q = rw q refl
+spent-task node (Expression.Infix o a b) k q = rw q refl
+
+-- ---- that it is the definition's
 
 -- a leaf, at any limit
 leaf-task : (limit : ℕ) (l : Leaf) → leafTask l ≡ taskAt limit (leaf l)
@@ -22,61 +53,18 @@ unfolding taskAt
 leaf-task zero l = refl
 leaf-task (suc k) l = refl
 
--- an operation, above limit 0
-call-task : (limit : ℕ) (f : ExpressionFunction) (t : Tree) → (limit ≡ 0 → ⊥) → calling f t ≡ taskAt limit (functionCall f t)
-unfolding taskAt
-call-task zero f t z = absurd (z refl)
-call-task (suc k) f t z = refl
+decides : (limit node : ℕ) (e : Expression) → Decides limit node e (nodeTask limit node e)
+unfolding nodeTask grown leafTask taskAt
+decides limit node (Expression.Number z) = record { wants = λ tree x. ap itself x ∙ leaf-task limit (number z); inside = λ n l w. l; rests = λ z. tt }
+decides limit node Expression.PiConstant = record { wants = λ tree x. leaf-task limit pi; inside = λ n l w. tt; rests = λ z. tt }
+decides limit node (Expression.Variable v) = record { wants = λ tree x. ap itself x ∙ leaf-task limit (variable v); inside = λ n l w. l; rests = λ z. tt }
+decides limit node (Expression.Address region index) = record { wants = λ tree x. ap itself x ∙ leaf-task limit (cell region index); inside = λ n l w. l; rests = λ z. tt }
+decides zero node (Expression.FunctionCall f a) = record { wants = λ tree x. ap itself x; inside = λ n l w. l; rests = λ z. tt }
+decides zero node (Expression.Prefix o a) = record { wants = λ tree x. ap itself x; inside = λ n l w. l; rests = λ z. tt }
+decides zero node (Expression.Infix o a b) = record { wants = λ tree x. ap itself x; inside = λ n l w. l; rests = λ z. tt }
+decides (suc k) node (Expression.FunctionCall f a) = record { wants = λ tree x. refl; inside = λ n l w. w; rests = λ z. absurd (omega (arith, z)) }
+decides (suc k) node (Expression.Prefix o a) = record { wants = λ tree x. refl; inside = λ n l w. w; rests = λ z. absurd (omega (arith, z)) }
+decides (suc k) node (Expression.Infix o a b) = record { wants = λ tree x. refl; inside = λ n l w. w; rests = λ z. absurd (omega (arith, z)) }
 
-prefix-task : (limit : ℕ) (o : PrefixOperator) (t : Tree) → (limit ≡ 0 → ⊥) → prefixing o t ≡ taskAt limit (prefixed o t)
-unfolding taskAt
-prefix-task zero o t z = absurd (z refl)
-prefix-task (suc k) o t z = refl
-
-infix-task : (limit : ℕ) (o : InfixOperator) (t u : Tree) → (limit ≡ 0 → ⊥) → infixing o t u ≡ taskAt limit (infixed o t u)
-unfolding taskAt
-infix-task zero o t u z = absurd (z refl)
-infix-task (suc k) o t u z = refl
-
--- all but pi, at limit 0
-spent-task : (tree : ℕ → Tree) (e : Expression) → OneOf (0 ∷ 1 ∷ 2 ∷ 3 ∷ 5 ∷ 6 ∷ []) (tagOf the-type e) → itself (grown tree e) ≡ taskAt 0 (grown tree e)
-unfolding grown taskAt leafTask
-spent-task tree (Expression.Number z) k = refl
-spent-task tree Expression.PiConstant k = absurd (miss (0 ∷ 1 ∷ 2 ∷ 3 ∷ 5 ∷ 6 ∷ []) 4 tt k)
-spent-task tree (Expression.Variable v) k = refl
-spent-task tree (Expression.Address region index) k = refl
-spent-task tree (Expression.FunctionCall f a) k = refl
-spent-task tree (Expression.Prefix o a) k = refl
-spent-task tree (Expression.Infix o a b) k = refl
-
-module _ (limit node : ℕ) {e : Expression} where
-  pub decides-pi : e ≡ Expression.PiConstant → Decides limit node e Task.NumberOfPi
-  unfolding grown leafTask
-  decides-pi q = rw q (record { wants = λ tree x. leaf-task limit pi; inside = λ n l w. tt; rests = λ z. tt })
-
-  pub decides-number : {z : Complex} → e ≡ Expression.Number z → Decides limit node e (Task.Itself node)
-  unfolding grown leafTask
-  decides-number {z} q = rw q (record { wants = λ tree x. ap itself x ∙ leaf-task limit (number z); inside = λ n l w. l; rests = λ z. tt })
-
-  pub decides-variable : {v : ℕ} → e ≡ Expression.Variable v → Decides limit node e (Task.Itself node)
-  unfolding grown leafTask
-  decides-variable {v} q = rw q (record { wants = λ tree x. ap itself x ∙ leaf-task limit (variable v); inside = λ n l w. l; rests = λ z. tt })
-
-  pub decides-cell : {region index : ℕ} → e ≡ Expression.Address region index → Decides limit node e (Task.Itself node)
-  unfolding grown leafTask
-  decides-cell {region} {index} q = rw q (record { wants = λ tree x. ap itself x ∙ leaf-task limit (cell region index); inside = λ n l w. l; rests = λ z. tt })
-
-  pub decides-call : {f : ExpressionFunction} {a : ℕ} → e ≡ Expression.FunctionCall f a → (limit ≡ 0 → ⊥) → Decides limit node e (Task.FunctionCall f a)
-  unfolding grown
-  decides-call {f} {a} q p = rw q (record { wants = λ tree x. call-task limit f (tree a) p; inside = λ n l w. w; rests = λ z. absurd (p z) })
-
-  pub decides-prefix : {o : PrefixOperator} {a : ℕ} → e ≡ Expression.Prefix o a → (limit ≡ 0 → ⊥) → Decides limit node e (Task.Prefix o a)
-  unfolding grown
-  decides-prefix {o} {a} q p = rw q (record { wants = λ tree x. prefix-task limit o (tree a) p; inside = λ n l w. w; rests = λ z. absurd (p z) })
-
-  pub decides-infix : {o : InfixOperator} {a b : ℕ} → e ≡ Expression.Infix o a b → (limit ≡ 0 → ⊥) → Decides limit node e (Task.Infix o a b)
-  unfolding grown
-  decides-infix {o} {a} {b} q p = rw q (record { wants = λ tree x. infix-task limit o (tree a) (tree b) p; inside = λ n l w. w; rests = λ z. absurd (p z) })
-
-pub decides-spent : {limit : ℕ} (node : ℕ) (e : Expression) → OneOf (0 ∷ 1 ∷ 2 ∷ 3 ∷ 5 ∷ 6 ∷ []) (tagOf the-type e) → limit ≡ 0 → Decides limit node e (Task.Itself node)
-decides-spent node e k z = rw z (record { wants = λ tree x. ap itself x ∙ spent-task tree e k; inside = λ n l w. l; rests = λ z. tt })
+pub decided : (limit node : ℕ) (e : Expression) {task : Task} → task ≡ nodeTask limit node e → Decides limit node e task
+decided limit node e p = rw p (decides limit node e)

@@ -1,5 +1,5 @@
--- How a machine's word counts, and what `task_at` ensures: a task on nodes is a task on trees. Only connecting.
-use Prim.Native.Nat.{ℕ, suc, _<_}
+-- How a machine's word counts, which task `task_at` answers for a node, and how a task on nodes is one on trees. Only connecting.
+use Prim.Native.Nat.{ℕ, zero, suc, _<_}
 use mathlib.Core.Path.{_≡_}
 use mathlib.Core.Bool.{cond}
 use lib.Dec.{ltb}
@@ -39,8 +39,21 @@ Rests (Task.FunctionCall f a) = ⊥
 Rests (Task.Infix o a b) = ⊥
 Rests (Task.Prefix o a) = ⊥
 
--- the task of `node`, which is e. Read as trees it is the definition's; its nodes are among the first n if `node` and the operands are; and at
--- limit 0 it is no operation, whatever the rows hold: by that the cycle ends
+-- the task of `node`, which is e
+unfoldable pub nodeTask : (limit node : ℕ) → Expression → Task
+nodeTask limit node (Expression.Number z) = Task.Itself node
+nodeTask limit node Expression.PiConstant = Task.NumberOfPi
+nodeTask limit node (Expression.Variable v) = Task.Itself node
+nodeTask limit node (Expression.Address region index) = Task.Itself node
+nodeTask zero node (Expression.FunctionCall f a) = Task.Itself node
+nodeTask zero node (Expression.Prefix o a) = Task.Itself node
+nodeTask zero node (Expression.Infix o a b) = Task.Itself node
+nodeTask (suc k) node (Expression.FunctionCall f a) = Task.FunctionCall f a
+nodeTask (suc k) node (Expression.Prefix o a) = Task.Prefix o a
+nodeTask (suc k) node (Expression.Infix o a b) = Task.Infix o a b
+
+-- What a caller has from it (proofs/Deciding.antt, `decided`). Read as trees it is the definition's task; its nodes are among the first n if `node` and
+-- the operands are; and at limit 0 it is no operation, whatever the rows hold: by that the cycle ends
 pub record Decides (limit node : ℕ) (e : Expression) (task : Task) : Type 0 where
   pub wants : (tree : ℕ → Tree) → tree node ≡ grown tree e → taskOf tree task ≡ taskAt limit (grown tree e)
   pub inside : (n : ℕ) → node < n → Within n e → TaskIn n task

@@ -2,8 +2,7 @@
 // node and the limit alone. Nothing is built or simplified here.
 ghost use mathlib.Core.Path.{_≡_};
 ghost use Rattle.store.specs.Desk.{callsOn, withCalls};
-ghost use Rattle.tasks.specs.Deciding.{oneMore};
-ghost use Rattle.tasks.specs.Deciding.{Decides};
+ghost use Rattle.tasks.specs.Deciding.{oneMore, nodeTask};
 use expression::ExpressionFunction;
 use expression::InfixOperator;
 use expression::PrefixOperator;
@@ -48,7 +47,7 @@ pub fn count_call(desk: &mut [u64; DESK_WORDS])
 
 // "pi gives its number, even at limit 0; limit 0 gives the node; leaves give themselves. Otherwise the operation runs."
 pub fn task_at(limit: Limit, node: usize, e: Expression) -> Task
-    ensures { λ task. ⌜ Decides (limit .0) node e task ⌝ }
+    ensures { λ task. ⌜ task ≡ nodeTask (limit .0) node e ⌝ }
 {
     let itself = Task::Itself(node);
     if let Expression::PiConstant = e {

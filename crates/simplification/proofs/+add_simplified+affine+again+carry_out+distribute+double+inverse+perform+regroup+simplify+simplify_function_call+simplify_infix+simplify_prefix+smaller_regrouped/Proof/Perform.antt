@@ -7,6 +7,7 @@ use borrow.Author.Needs.{needs}
 use Prim.Native.Nat.{ℕ}
 use Rattle.expression.specs.Nodes.{grown}
 use Rattle.simplification.specs.Simplifying.{perform}
+use Rattle.tasks.proofs.Deciding.{decided}
 use Rattle.tasks.proofs.task_at.Reads as task-at-reads
 use Rattle.tasks.proofs.limit.Limit.lowered.Reads as lowered-reads
 use Rattle.complex.proofs.constants.pi.Reads as pi-reads
@@ -43,51 +44,51 @@ enum-known-task-2 : (t : ℕ) → lts.Need-enum-known-task-2 (claims t) (perform
 enum-known-task-2 t c = search needs
 
 simplify-function-call-requires : (t : ℕ) → lts.Need-simplify-function-call-requires (claims t) (perform-at t) perform.Post
-simplify-function-call-requires t c κs = (falls-to (c .before .before .before .before .before .before .before .before .args .limit .0) _ 6 (c .before .before .before .before .before .before .before .before .pre .0) (λ z. rw (c .before .before .before .task2 .given .1) at (c .before .before .before .before .before .before .task-at .ensures .rests z)) (c .before .before .before .before .before .lowered .ensures) (lit< tt), tt)
+simplify-function-call-requires t c κs = (falls-to (c .before .before .before .before .before .before .before .before .args .limit .0) _ 6 (c .before .before .before .before .before .before .before .before .pre .0) (λ z. rw (c .before .before .before .task2 .given .1) at (decided _ _ _ (c .before .before .before .before .before .before .task-at .ensures) .rests z)) (c .before .before .before .before .before .lowered .ensures) (lit< tt), tt)
 
 enum-known-task-3 : (t : ℕ) → lts.Need-enum-known-task-3 (claims t) (perform-at t) perform.Post
 enum-known-task-3 t c = search needs
 
 simplify-infix-requires : (t : ℕ) → lts.Need-simplify-infix-requires (claims t) (perform-at t) perform.Post
-simplify-infix-requires t c κs = (falls-to (c .before .before .before .before .before .before .before .before .args .limit .0) _ 6 (c .before .before .before .before .before .before .before .before .pre .0) (λ z. rw (c .before .before .before .task3 .given .1) at (c .before .before .before .before .before .before .task-at .ensures .rests z)) (c .before .before .before .before .before .lowered .ensures) (lit< tt), tt)
+simplify-infix-requires t c κs = (falls-to (c .before .before .before .before .before .before .before .before .args .limit .0) _ 6 (c .before .before .before .before .before .before .before .before .pre .0) (λ z. rw (c .before .before .before .task3 .given .1) at (decided _ _ _ (c .before .before .before .before .before .before .task-at .ensures) .rests z)) (c .before .before .before .before .before .lowered .ensures) (lit< tt), tt)
 
 enum-known-task-4 : (t : ℕ) → lts.Need-enum-known-task-4 (claims t) (perform-at t) perform.Post
 enum-known-task-4 t c = search needs
 
 simplify-prefix-requires : (t : ℕ) → lts.Need-simplify-prefix-requires (claims t) (perform-at t) perform.Post
-simplify-prefix-requires t c κs = (falls-to (c .before .before .before .before .before .before .before .before .args .limit .0) _ 6 (c .before .before .before .before .before .before .before .before .pre .0) (λ z. rw (c .before .before .before .task4 .given .1) at (c .before .before .before .before .before .before .task-at .ensures .rests z)) (c .before .before .before .before .before .lowered .ensures) (lit< tt), tt)
+simplify-prefix-requires t c κs = (falls-to (c .before .before .before .before .before .before .before .before .args .limit .0) _ 6 (c .before .before .before .before .before .before .before .before .pre .0) (λ z. rw (c .before .before .before .task4 .given .1) at (decided _ _ _ (c .before .before .before .before .before .before .task-at .ensures) .rests z)) (c .before .before .before .before .before .lowered .ensures) (lit< tt), tt)
 
 same-length : (t : ℕ) → lts.Need-same-length (claims t) (perform-at t) perform.Post
 same-length t c = search needs
 
 returns : (t : ℕ) → lts.Need-returns (claims t) (perform-at t) perform.Post
 unfolding perform grown
-returns t c = λ held h x. performed _ _ _ _ (rw (c .before .before .before .before .before .enum-told .given .1) at (c .before .before .before .before .before .before .before .before .task-at .ensures)) x λ w. rw (c .before .before .pi .ensures) at (c .before .add .ensures h tt)
+returns t c = λ held h x. performed _ _ _ _ (rw (c .before .before .before .before .before .enum-told .given .1) at (decided _ _ _ (c .before .before .before .before .before .before .before .before .task-at .ensures))) x λ w. rw (c .before .before .pi .ensures) at (c .before .add .ensures h tt)
 
 returns-2 : (t : ℕ) → lts.Need-returns-2 (claims t) (perform-at t) perform.Post
 unfolding perform
-returns-2 t c = λ held h x. performed _ _ _ _ (rw (c .before .task .given .1) at (c .before .before .before .before .task-at .ensures)) x λ w. stays h w refl
+returns-2 t c = λ held h x. performed _ _ _ _ (rw (c .before .task .given .1) at (decided _ _ _ (c .before .before .before .before .task-at .ensures))) x λ w. stays h w refl
 
 same-length-2 : (t : ℕ) → lts.Need-same-length-2 (claims t) (perform-at t) perform.Post
 same-length-2 t c = search needs
 
 returns-3 : (t : ℕ) → lts.Need-returns-3 (claims t) (perform-at t) perform.Post
 unfolding perform
-returns-3 t c = λ held h x. performed _ _ _ _ (rw (c .before .before .before .before .before .task2 .given .1) at (c .before .before .before .before .before .before .before .before .task-at .ensures)) x λ w. rw (c .before .before .before .before .before .before .before .lowered .ensures) at (c .before .simplify-function-call .ensures held h w)
+returns-3 t c = λ held h x. performed _ _ _ _ (rw (c .before .before .before .before .before .task2 .given .1) at (decided _ _ _ (c .before .before .before .before .before .before .before .before .task-at .ensures))) x λ w. rw (c .before .before .before .before .before .before .before .lowered .ensures) at (c .before .simplify-function-call .ensures held h w)
 
 same-length-3 : (t : ℕ) → lts.Need-same-length-3 (claims t) (perform-at t) perform.Post
 same-length-3 t c = search needs
 
 returns-4 : (t : ℕ) → lts.Need-returns-4 (claims t) (perform-at t) perform.Post
 unfolding perform
-returns-4 t c = λ held h x. performed _ _ _ _ (rw (c .before .before .before .before .before .task3 .given .1) at (c .before .before .before .before .before .before .before .before .task-at .ensures)) x λ w. rw (c .before .before .before .before .before .before .before .lowered .ensures) at (c .before .simplify-infix .ensures held h w)
+returns-4 t c = λ held h x. performed _ _ _ _ (rw (c .before .before .before .before .before .task3 .given .1) at (decided _ _ _ (c .before .before .before .before .before .before .before .before .task-at .ensures))) x λ w. rw (c .before .before .before .before .before .before .before .lowered .ensures) at (c .before .simplify-infix .ensures held h w)
 
 same-length-4 : (t : ℕ) → lts.Need-same-length-4 (claims t) (perform-at t) perform.Post
 same-length-4 t c = search needs
 
 returns-5 : (t : ℕ) → lts.Need-returns-5 (claims t) (perform-at t) perform.Post
 unfolding perform
-returns-5 t c = λ held h x. performed _ _ _ _ (rw (c .before .before .before .before .before .task4 .given .1) at (c .before .before .before .before .before .before .before .before .task-at .ensures)) x λ w. rw (c .before .before .before .before .before .before .before .lowered .ensures) at (c .before .simplify-prefix .ensures held h w)
+returns-5 t c = λ held h x. performed _ _ _ _ (rw (c .before .before .before .before .before .task4 .given .1) at (decided _ _ _ (c .before .before .before .before .before .before .before .before .task-at .ensures))) x λ w. rw (c .before .before .before .before .before .before .before .lowered .ensures) at (c .before .simplify-prefix .ensures held h w)
 
 pub part : {M : Type 1} (t : ℕ) → lts.Closed (claims t) (perform-at t) perform.Post M
 part t =
