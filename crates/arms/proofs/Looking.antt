@@ -13,7 +13,8 @@ use Rattle.expression.specs.Nodes.{grown, Within}
 use Rattle.store.specs.Memory.{Memory, expressionAt, treeAt, treeOf}
 use Rattle.store.specs.Held.{Holds, Compares}
 use Rattle.store.proofs.Stored.{read-node}
-use Rattle.arms.specs.Looks.{bothHold, eitherHolds, isNumberOf, isNumber, numberIn, isNegation, under, isInfix, left, right}
+use Rattle.arms.specs.Looks.{isNumberOf, isNumber, numberIn, isNegation, under, isInfix, left, right}
+use Rattle.arms.specs.Tables.{bothHold, eitherHolds}
 use Rattle.arms.specs.Choosing.{At, operandIn, leftIn, rightIn, Parts, Sits}
 
 pub never : {A : Type 0} → false ≡ true → A

@@ -1,14 +1,15 @@
 -- 01's list has 41 arms, and the first match in it, which is the plan of an operation, is what the code's tables of the operators choose. Assumes
 -- nothing.
 use mathlib.Core.Path.{_≡_, refl, sym, _∙_}
-use mathlib.Core.Bool.{Bool, true, false, cond, _||_}
+use mathlib.Core.Bool.{Bool, true, false, cond, _&&_, _||_}
 use lib.ListN.{length}
 use Rattle.complex.specs.Constants.{oneNumber}
 use Rattle.expression.specs.declared.InfixOperator.{InfixOperator}
 use Rattle.expression.specs.Trees.{Tree, infixed}
-use Rattle.arms.specs.Looks.{bothHold, eitherHolds, left, right, beginsWith, endsWith}
+use Rattle.expression.specs.Alike.{equal}
+use Rattle.arms.specs.Looks.{isInfix, left, right}
 use Rattle.arms.specs.Arms.{Plan, the, new, combined, S, armIf, constant}
-use Rattle.arms.specs.Tables.{isInverse, groupedRight, grouped, moved, affineSum, sumPlan, signedDifference, differencePlan, signedProduct, distributed, productPlan, signedQuotient, split, cancelled, quotientPlan, powerPlan, tablePlan}
+use Rattle.arms.specs.Tables.{bothHold, eitherHolds, beginsWith, endsWith, isInverse, groupedRight, grouped, moved, affineSum, sumPlan, signedDifference, differencePlan, signedProduct, distributed, productPlan, signedQuotient, split, cancelled, quotientPlan, powerPlan, tablePlan}
 use Rattle.arms.specs.Ordered.{firstMatch, otherFactor, arms, infixPlan}
 
 pub forty-one : (op : InfixOperator) (l r : Tree) → length (arms op l r) ≡ 41
@@ -44,15 +45,17 @@ signed-or-cancelled false true c d u v w x y z = refl
 signed-or-cancelled false false c d u v w x y z = refl
 
 -- 35 and 36, an arm of two forms
-two-forms : (f : Tree → Plan) (a b : Bool) (s t : Tree) (z : Plan) → armIf (a || b) (f (cond a s t)) z ≡ armIf a (f s) (armIf b (f t) z)
-unfolding armIf
-two-forms f true b s t z = refl
-two-forms f false b s t z = refl
+two-forms : (f : Tree → Plan) (a b c : Bool) (s t : Tree) (z : Plan)
+    → armIf (bothHold a b) (f s) (armIf (bothHold a c) (f t) z) ≡ armIf (a && (b || c)) (f (cond b s t)) z
+unfolding armIf bothHold
+two-forms f true true c s t z = refl
+two-forms f true false c s t z = refl
+two-forms f false b c s t z = refl
 
 either-factor : (f : Tree → Plan) (t s : Tree) (z : Plan)
-    → armIf (beginsWith InfixOperator.Star t s || endsWith InfixOperator.Star t s) (f (otherFactor t s)) z
-    ≡ armIf (beginsWith InfixOperator.Star t s) (f (right t)) (armIf (endsWith InfixOperator.Star t s) (f (left t)) z)
-either-factor f t s = two-forms f _ _ _ _
+    → armIf (beginsWith InfixOperator.Star t s) (f (right t)) (armIf (endsWith InfixOperator.Star t s) (f (left t)) z)
+    ≡ armIf (isInfix InfixOperator.Star t && (equal (left t) s || equal (right t) s)) (f (otherFactor t s)) z
+either-factor f t s = two-forms f _ _ _ _ _
 
 -- S(1/o)
 abbrev inverse : Tree → Plan
@@ -63,7 +66,7 @@ inverse o = S (combined InfixOperator.Slash (constant oneNumber) (the o))
 -- whatever is said for no match, since there is none
 pub first-match : (op : InfixOperator) (l r : Tree) (unmatched : Plan) → firstMatch unmatched (arms op l r) ≡ tablePlan op l r
 unfolding firstMatch arms isInverse groupedRight grouped moved affineSum sumPlan signedDifference differencePlan signedProduct distributed productPlan signedQuotient split cancelled quotientPlan powerPlan tablePlan
-first-match InfixOperator.Plus l r unmatched = rw regrouped (unfold armIf bothHold in refl)
+first-match InfixOperator.Plus l r unmatched = rw regrouped (unfold armIf bothHold eitherHolds in refl)
 first-match InfixOperator.Minus l r unmatched = rw regrouped (unfold armIf bothHold in refl)
 first-match InfixOperator.Star l r unmatched = rw (signed, regrouped) (unfold armIf bothHold eitherHolds in refl)
 first-match InfixOperator.Slash l r unmatched = rw (signed-or-cancelled, regrouped, either-factor the l r, either-factor inverse r l) (unfold armIf bothHold in refl)

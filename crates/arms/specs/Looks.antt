@@ -8,17 +8,6 @@ use Rattle.expression.specs.declared.InfixOperator.{InfixOperator}
 use Rattle.expression.specs.declared.PrefixOperator.{PrefixOperator}
 use Rattle.expression.specs.Codes.{infixCode}
 use Rattle.expression.specs.Trees.{Tree, number, pi, variable, cell, leaf, functionCall, prefixed, infixed}
-use Rattle.expression.specs.Alike.{equal}
-
--- both tests hold
-unfoldable pub bothHold : Bool → Bool → Bool
-bothHold true b = b
-bothHold false b = false
-
--- at least one of the tests does
-unfoldable pub eitherHolds : Bool → Bool → Bool
-eitherHolds true b = true
-eitherHolds false b = b
 
 -- a number that passes a test
 unfoldable pub isNumberOf : (Complex → Bool) → Tree → Bool
@@ -84,23 +73,3 @@ right (leaf l) = leaf l
 right (functionCall f t) = t
 right (prefixed o t) = t
 right (infixed o l r) = r
-
--- both are b op c, each with its own b and c
-abbrev pub bothInfix : InfixOperator → Tree → Tree → Bool
-bothInfix op l r = bothHold (isInfix op l) (isInfix op r)
-
-abbrev pub eitherInfix : InfixOperator → Tree → Tree → Bool
-eitherInfix op l r = eitherHolds (isInfix op l) (isInfix op r)
-
--- t is k op c, or b op k, for a tree equal to k
-abbrev pub beginsWith : InfixOperator → (t k : Tree) → Bool
-beginsWith op t k = bothHold (isInfix op t) (equal (left t) k)
-
-abbrev pub endsWith : InfixOperator → (t k : Tree) → Bool
-endsWith op t k = bothHold (isInfix op t) (equal (right t) k)
-
--- `mul_matches`: both are products, and they share a factor
-abbrev pub mulMatches : Tree → Tree → Bool
-mulMatches l r =
-    bothHold (bothInfix InfixOperator.Star l r)
-    (eitherHolds (equal (left l) (left r)) (eitherHolds (equal (left l) (right r)) (eitherHolds (equal (right l) (left r)) (equal (right l) (right r)))))

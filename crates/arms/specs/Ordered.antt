@@ -8,7 +8,7 @@ use Rattle.expression.specs.declared.InfixOperator.{InfixOperator}
 use Rattle.expression.specs.Codes.{infixCode}
 use Rattle.expression.specs.Trees.{Tree, infixed}
 use Rattle.expression.specs.Alike.{equal}
-use Rattle.arms.specs.Looks.{isNumber, isZeroNumber, isOneNumber, isNegation, under, isInfix, left, right, bothInfix, beginsWith, endsWith, mulMatches}
+use Rattle.arms.specs.Looks.{isNumber, isZeroNumber, isOneNumber, isNegation, under, isInfix, left, right}
 use Rattle.arms.specs.Arms.{Plan, the, new, negation, combined, S, lesser, armIf, constant, minus, sum, difference, product, quotient, folding, uninverted, shared}
 
 infix 20 _⇒_
@@ -44,7 +44,13 @@ op is o = eqb (infixCode op) (infixCode o)
 
 -- o of s*o or o*s, tried in this order, for a tree equal to s
 abbrev pub otherFactor : (t s : Tree) → Tree
-otherFactor t s = cond (beginsWith * t s) (right t) (left t)
+otherFactor t s = cond (equal (left t) s) (right t) (left t)
+
+-- both are products, and they share a factor
+abbrev pub sharesFactor : (t u : Tree) → Bool
+sharesFactor t u =
+    isInfix * t && isInfix * u
+    && (equal (left t) (left u) || (equal (left t) (right u) || (equal (right t) (left u) || equal (right t) (right u))))
 
 -- ---- the arms
 
@@ -105,11 +111,11 @@ arms op l r =
     ∷ ((op is * || op is /) && isNegation l ⇒ lesser (new (product l r)) (S (combined op (the (under l)) (S (new (minus r))))))
     -- 27. (p*q+b)+(p'*q'+b') with a shared factor, tried as p=p', p=q', q=p', q=q': with other factors a, a' and shared x (taken as p, p, q, q' in
     -- the four cases), S(S(S(a+a')*x)+S(b+b')), sums first
-    ∷ (op is + && bothInfix + l r && mulMatches (left l) (left r) ⇒ shared l r)
+    ∷ (op is + && isInfix + l && isInfix + r && sharesFactor (left l) (left r) ⇒ shared l r)
     -- 28. a*x+b*x: S(S(a+b)*x)
-    ∷ (op is + && bothInfix * l r && equal (right l) (right r) ⇒ S (combined * (S (new (sum (left l) (left r)))) (the (right l))))
+    ∷ (op is + && isInfix * l && isInfix * r && equal (right l) (right r) ⇒ S (combined * (S (new (sum (left l) (left r)))) (the (right l))))
     -- 29. (x+a)+(x+b): S(S(2*x)+S(a+b))
-    ∷ (op is + && bothInfix + l r && equal (left l) (left r) ⇒ S (combined + (S (combined * (constant twoNumber) (the (left l)))) (S (new (sum (right l) (right r))))))
+    ∷ (op is + && isInfix + l && isInfix + r && equal (left l) (left r) ⇒ S (combined + (S (combined * (constant twoNumber) (the (left l)))) (S (new (sum (right l) (right r))))))
     -- 30. l op (b op c), + or *: min(l op r, S(S(l op b) op c))
     ∷ ((op is + || op is *) && isInfix op r ⇒ lesser (new (infixed op l r)) (S (combined op (S (new (infixed op l (left r)))) (the (right r)))))
     -- 31. The same, - or /: min(l op r, S(S(l inv c) op b)), inv + for -, * for /
@@ -122,17 +128,17 @@ arms op l r =
     -- 34. (a+b)*r likewise
     ∷ (op is * && isInfix + l ⇒ lesser (new (product l r)) (S (combined + (S (new (product (left l) r))) (S (new (product (right l) r))))))
     -- 35. (s*o)/s, (o*s)/s: o
-    ∷ (op is / && (beginsWith * l r || endsWith * l r) ⇒ the (otherFactor l r))
+    ∷ (op is / && isInfix * l && (equal (left l) r || equal (right l) r) ⇒ the (otherFactor l r))
     -- 36. l/(l*o), l/(o*l): S(1/o)
-    ∷ (op is / && (beginsWith * r l || endsWith * r l) ⇒ S (combined / (constant oneNumber) (the (otherFactor r l))))
+    ∷ (op is / && isInfix * r && (equal (left r) l || equal (right r) l) ⇒ S (combined / (constant oneNumber) (the (otherFactor r l))))
     -- 37. (m*n)/r: min(l/r, S(m*S(n/r)))
     ∷ (op is / && isInfix * l ⇒ lesser (new (quotient l r)) (S (combined * (the (left l)) (S (new (quotient (right l) r))))))
     -- 38. l/(m*n): min(l/r, S(S(l/m)/n))
     ∷ (op is / && isInfix * r ⇒ lesser (new (quotient l r)) (S (combined / (S (new (quotient l (left r)))) (the (right r)))))
     -- 39. (o/r)*r: o
-    ∷ (op is * && endsWith / l r ⇒ the (left l))
+    ∷ (op is * && isInfix / l && equal (right l) r ⇒ the (left l))
     -- 40. l*(o/l): o
-    ∷ (op is * && endsWith / r l ⇒ the (left r))
+    ∷ (op is * && isInfix / r && equal (right r) l ⇒ the (left r))
     -- 41. Rebuild
     ∷ (true ⇒ new (infixed op l r))
     ∷ []

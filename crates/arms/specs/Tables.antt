@@ -5,8 +5,40 @@ use Rattle.complex.specs.Constants.{zeroNumber, oneNumber, twoNumber, minusOneN
 use Rattle.expression.specs.declared.InfixOperator.{InfixOperator}
 use Rattle.expression.specs.Trees.{Tree, infixed}
 use Rattle.expression.specs.Alike.{equal}
-use Rattle.arms.specs.Looks.{bothHold, eitherHolds, isNumber, isZeroNumber, isOneNumber, isNegation, under, isInfix, left, right, bothInfix, eitherInfix, beginsWith, endsWith, mulMatches}
+use Rattle.arms.specs.Looks.{isNumber, isZeroNumber, isOneNumber, isNegation, under, isInfix, left, right}
 use Rattle.arms.specs.Arms.{Plan, the, new, negation, combined, S, lesser, armIf, constant, minus, sum, difference, product, quotient, folding, uninverted, shared}
+
+-- ---- tests
+
+-- both tests hold, as the library's _&&_; shut, so that a law can be matched with it
+unfoldable pub bothHold : Bool → Bool → Bool
+bothHold true b = b
+bothHold false b = false
+
+-- at least one of the tests does, as the library's _||_
+unfoldable pub eitherHolds : Bool → Bool → Bool
+eitherHolds true b = true
+eitherHolds false b = b
+
+-- both are b op c, each with its own b and c
+abbrev pub bothInfix : InfixOperator → Tree → Tree → Bool
+bothInfix op l r = bothHold (isInfix op l) (isInfix op r)
+
+abbrev pub eitherInfix : InfixOperator → Tree → Tree → Bool
+eitherInfix op l r = eitherHolds (isInfix op l) (isInfix op r)
+
+-- t is k op c, or b op k, for a tree equal to k
+abbrev pub beginsWith : InfixOperator → (t k : Tree) → Bool
+beginsWith op t k = bothHold (isInfix op t) (equal (left t) k)
+
+abbrev pub endsWith : InfixOperator → (t k : Tree) → Bool
+endsWith op t k = bothHold (isInfix op t) (equal (right t) k)
+
+-- `mul_matches`: both are products, and they share a factor
+abbrev pub mulMatches : Tree → Tree → Bool
+mulMatches l r =
+    bothHold (bothInfix InfixOperator.Star l r)
+    (eitherHolds (equal (left l) (left r)) (eitherHolds (equal (left l) (right r)) (eitherHolds (equal (right l) (left r)) (equal (right l) (right r)))))
 
 -- ---- arms of more than one operator
 

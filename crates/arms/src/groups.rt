@@ -1,8 +1,7 @@
 // The arms that regroup and those that move a sign, which are the same for several operators.
 ghost use mathlib.Core.Path.{_≡_};
-ghost use Rattle.arms.specs.Looks.{eitherInfix};
 ghost use Rattle.arms.specs.Arms.{uninverted as uninvertedOf};
-ghost use Rattle.arms.specs.Tables.{isInverse, eitherNegation, groupedRight, grouped, moved};
+ghost use Rattle.arms.specs.Tables.{eitherInfix, isInverse, eitherNegation, groupedRight, grouped, moved};
 ghost use Rattle.arms.specs.Choosing.{ChoosesWhere, rightInfix};
 use super::Arm;
 use super::Outer;

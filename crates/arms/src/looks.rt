@@ -2,8 +2,8 @@
 ghost use mathlib.Core.Path.{_≡_};
 ghost use Prim.Native.Nat.{ℕ};
 ghost use Rattle.store.specs.Memory.{Memory, memory, treeOf};
-ghost use Rattle.arms.specs.Looks.{bothHold, eitherHolds, isNumber, isZeroNumber, isOneNumber, numberIn, isNegation, isInfix, bothInfix, eitherInfix, beginsWith, endsWith};
-ghost use Rattle.arms.specs.Tables.{bothNumbers};
+ghost use Rattle.arms.specs.Looks.{isNumber, isZeroNumber, isOneNumber, numberIn, isNegation, isInfix};
+ghost use Rattle.arms.specs.Tables.{bothHold, eitherHolds, bothInfix, eitherInfix, beginsWith, endsWith, bothNumbers};
 ghost use Rattle.arms.specs.Choosing.{operandIn, leftIn, rightIn, Tells, TellsBoth, LikensTo};
 use complex::Complex;
 use complex::constants::zero;

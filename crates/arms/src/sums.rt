@@ -1,8 +1,7 @@
 // The arms of +: 1, 2, 17 to 19, 27 to 30, 32 and 41.
 ghost use Rattle.store.specs.Memory.{memory};
-ghost use Rattle.arms.specs.Looks.{mulMatches};
 ghost use Rattle.arms.specs.Arms.{shared};
-ghost use Rattle.arms.specs.Tables.{affineTest, likeProducts, likeSums, affineSum, sumPlan};
+ghost use Rattle.arms.specs.Tables.{mulMatches, affineTest, likeProducts, likeSums, affineSum, sumPlan};
 ghost use Rattle.arms.specs.Choosing.{Likens, ComparesNodes, Chooses, ChoosesShared};
 use super::Arm;
 use super::Outer;

@@ -1,6 +1,6 @@
 -- `is_affine` meets its contract. Assumes nothing.
 use mathlib.Core.Path.{sym}
-use Rattle.arms.specs.Looks.{mulMatches}
+use Rattle.arms.specs.Tables.{mulMatches}
 use Rattle.arms.proofs.Looking.{so, first-of-both, second-of-both, both-yes, both-not, likened, left-parts}
 use borrow.Author.Needs.{needs}
 use Rattle.arms.proofs.sums.is_affine.Statement.{statement}

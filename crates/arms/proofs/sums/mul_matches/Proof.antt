@@ -1,6 +1,6 @@
 -- `mul_matches` meets its contract. Assumes nothing.
 use mathlib.Core.Path.{sym, _∙_}
-use Rattle.arms.specs.Looks.{mulMatches}
+use Rattle.arms.specs.Tables.{mulMatches}
 use Rattle.arms.proofs.Looking.{so, first-of-both, second-of-both, both-yes, both-not, tree-of, within-of, compared, either-yes, either-not, not-true, not-false, left-parts, right-parts}
 use borrow.Author.Needs.{needs}
 use Rattle.arms.proofs.sums.mul_matches.Statement.{statement}
