@@ -1,6 +1,6 @@
 -- What 01's arms want, as plans: on trees, whose operands are simplified, and the parts of plans that 01 writes in words; and the arms of a function
 -- and of a prefix. When each arm of an infix operation matches is in Ordered. Definitions only.
-use mathlib.Core.Bool.{Bool, true, false, cond}
+use mathlib.Core.Bool.{Bool, cond}
 use lib.Dec.{ltb}
 use Rattle.complex.specs.declared.Complex.{Complex}
 use Rattle.complex.specs.Arithmetic.{negated}
@@ -25,8 +25,7 @@ pub data Plan : Type 0 where
 
 -- an arm if its test holds, or else the arms after it
 unfoldable pub armIf : Bool → (arm rest : Plan) → Plan
-armIf true arm rest = arm
-armIf false arm rest = rest
+armIf test arm rest = cond test arm rest
 
 -- min is `smaller`; "a `min_by_key` tie keeps the first"
 unfoldable pub smaller : Tree → Tree → Tree

@@ -1,6 +1,6 @@
 -- 01's arms by operator, as the code tries them: a table for each operator, which is proved to choose the first match in Ordered's list
 -- (proofs/Ordered.antt, `by-tables`). Only connecting: no promise to a caller rests on it.
-use mathlib.Core.Bool.{Bool, true, false}
+use mathlib.Core.Bool.{Bool, true, false, _&&_, _||_}
 use Rattle.complex.specs.Constants.{zeroNumber, oneNumber, twoNumber, minusOneNumber, nanNumber}
 use Rattle.expression.specs.declared.InfixOperator.{InfixOperator}
 use Rattle.expression.specs.Trees.{Tree, infixed}
@@ -10,15 +10,12 @@ use Rattle.arms.specs.Arms.{Plan, the, new, negation, combined, S, lesse
 
 -- ---- tests
 
--- both tests hold, as the library's _&&_; shut, so that a law can be matched with it
+-- both tests hold, and at least one does: names that stay shut, so that laws can be matched with them
 unfoldable pub bothHold : Bool → Bool → Bool
-bothHold true b = b
-bothHold false b = false
+bothHold a b = a && b
 
--- at least one of the tests does, as the library's _||_
 unfoldable pub eitherHolds : Bool → Bool → Bool
-eitherHolds true b = true
-eitherHolds false b = b
+eitherHolds a b = a || b
 
 -- both are b op c, each with its own b and c
 abbrev pub bothInfix : InfixOperator → Tree → Tree → Bool
