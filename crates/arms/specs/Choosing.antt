@@ -79,7 +79,7 @@ pub record Chosen (m : Memory) (n : ℕ) (r : Arm) (plan : Plan) : Type 0 where
 
 -- ---- operands of a node
 
--- e of -e, b and c of b op c, as nodes; 0 of any other node
+-- the operand of a prefix, and b and c of b op c, as nodes; 0 of a node that has none such
 unfoldable pub operandIn : Expression → ℕ
 operandIn (Expression.Number z) = 0
 operandIn Expression.PiConstant = 0

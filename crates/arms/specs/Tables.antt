@@ -1,5 +1,5 @@
--- 01's arms by operator, as the code tries them: a table for each operator, which is proved to choose the first match in Ordered's list
--- (proofs/Ordered.antt, `by-tables`). Only connecting: no promise to a caller rests on it.
+-- 01's arms by operator, a table for each, as the code tries them. Only connecting: a table chooses what is the first match in Ordered's list, which is
+-- proved (proofs/Ordered.antt, `by-tables`), and the promise rests on the list.
 use mathlib.Core.Bool.{Bool, true, false, _&&_, _||_}
 use Rattle.complex.specs.Constants.{zeroNumber, oneNumber, twoNumber, minusOneNumber, nanNumber}
 use Rattle.expression.specs.declared.InfixOperator.{InfixOperator}
