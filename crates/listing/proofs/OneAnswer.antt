@@ -18,7 +18,7 @@ use Rattle.listing.specs.declared.Listing.{Listing}
 use Rattle.listing.specs.declared.Swap as Code
 use Rattle.listing.specs.Listings as Spec
 use Rattle.listing.specs.Listings.{Swap, accepted}
-use Rattle.listing.specs.Tables.{Lists, Reads, LooksUp}
+use Rattle.listing.specs.Tables.{swapTrees, Lists, Reads, LooksUp}
 use Rattle.memory.proofs.Values.{length-upTo}
 
 root-in : Spec.Listing → Tree
@@ -69,6 +69,12 @@ module _ {substituting : Bool} {text : List ℕ} {l l₁ l₂ : Lent} {table₁ 
   pub one-store : (i s j u : ℕ) → Reads substituting text (Listing.Read i s) l l₁ table₁ → Reads substituting text (Listing.Read j u) l l₂ table₂ → stateIn l₁ ≡ stateIn l₂
   unfolding store-in
   one-store i s j u p q = ap (λ x. store-in x (stateIn l₁)) (p .answer ∙ sym (q .answer))
+
+  -- and the table then has the same s lines: their variables and the trees that they name
+  pub one-swaps : (i s j u : ℕ) → Reads substituting text (Listing.Read i s) l l₁ table₁ → Reads substituting text (Listing.Read j u) l l₂ table₂
+      → swapTrees (l₁ .rows) table₁ s ≡ swapTrees (l₂ .rows) table₂ u
+  unfolding swaps-in
+  one-swaps i s j u p q = ap swaps-in (p .answer ∙ sym (q .answer))
 
 -- where the table has the s lines of a listing over a store
 pub one-swap : {l : Lent} {table : List ℕ} {swaps : ℕ} (variable : ℕ) (r r′ : Code.Swap) → swaps ≤ 256 → Lists l table 0 swaps

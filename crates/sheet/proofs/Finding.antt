@@ -70,7 +70,7 @@ pair-key region index w h = elim (ℕ-discrete region (w / 4294967296)) [
   | no e ↦ rw (ne-eqb region (w / 4294967296) e) (ne-eqb (region * 4294967296 + index) w λ q. e (omega arith))
 ]
 
-number-back : (w : ℕ) → 0 < w → w < 6 → operationCode (operationOf w) ≡ w
+pub number-back : (w : ℕ) → 0 < w → w < 6 → operationCode (operationOf w) ≡ w
 number-back w p q = operation-code-back w (record { least = omega (arith, p); most = omega (arith, q) })
 
 row-test : (t : List ℕ) (o : Operation) (x y : Complex) (j : ℕ) → Comparable t j → rowMatches t (operationCode o) (wordsOf x) (wordsOf y) j ≡ called o x y (rowAt t j)

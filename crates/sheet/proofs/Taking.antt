@@ -33,10 +33,10 @@ counts v m f = record { variables = v; cells = m; functions = f }
 
 -- a line that is refused
 pub refuses : {text t : List ℕ} {n : Counts} {line : Line Rows Refusal} {why : Refusal} → stops why ≡ line → Takes text t n line (Step.Stop why)
-refuses e = record { answer = e; held = tt }
+refuses e = record { answer = e; held = tt; inside = tt }
 
 pub as-line : {text t : List ℕ} {n : Counts} {line line′ : Line Rows Refusal} {r : Step} → Takes text t n line r → line ≡ line′ → Takes text t n line′ r
-as-line p e = record { answer = p .answer ∙ e; held = p .held }
+as-line p e = record { answer = p .answer ∙ e; held = p .held; inside = p .inside }
 
 module _ (t : List ℕ) (n : Counts) where
   pub line-number : lineNumber (rowsOf t n) ≡ lineOf n
@@ -151,11 +151,12 @@ module _ (text t : List ℕ) (n : Counts) (h : Held t n) (room : tableWords ≤ 
         operands = λ j l. same-comparable-beyond changed j (omega arith) (h .operands j l);
       }
 
-      pub variable-taken : Takes text (withVariable t (n .variables) k w) n (variableLine (rowsOf t n) first bs) (Step.Next (counts (n .variables + 1) (n .cells) (n .functions)) next)
+      pub variable-taken : next ≤ length text → Takes text (withVariable t (n .variables) k w) n (variableLine (rowsOf t n) first bs) (Step.Next (counts (n .variables + 1) (n .cells) (n .functions)) next)
       unfolding variableLine
-      variable-taken = record {
+      variable-taken inside = record {
         answer = ap (λ s. goes s (drop next text)) variable-rows ∙ taken _ 256 (n .variables) _ _ _ line (number-is t n line here first bs) (length-upTo (n .variables) (variableAt t)) _ _ (drop next text) few e (f ∙ variable-order t n k (numberOf w));
         held = (variable-held, omega arith);
+        inside = inside;
       }
 
   module _ (region index real next : ℕ) (few : n .cells < 1024) (small : index < 4294967296) (e : is (cell region index (doubleOf real)) (drop next text) ≡ fieldsAfter first bs cellFields) where
@@ -187,11 +188,12 @@ module _ (text t : List ℕ) (n : Counts) (h : Held t n) (room : tableWords ≤ 
         operands = λ j l. same-comparable-beyond p j (omega arith) (h .operands j l);
       }
 
-      pub cell-taken : Takes text (withCell t (n .cells) (region * 4294967296 + index) real) n (cellLine (rowsOf t n) first bs) (Step.Next (counts (n .variables) (n .cells + 1) (n .functions)) next)
+      pub cell-taken : next ≤ length text → Takes text (withCell t (n .cells) (region * 4294967296 + index) real) n (cellLine (rowsOf t n) first bs) (Step.Next (counts (n .variables) (n .cells + 1) (n .functions)) next)
       unfolding cellLine key
-      cell-taken = record {
+      cell-taken inside = record {
         answer = ap (λ s. goes s (drop next text)) cell-rows ∙ taken _ 1024 (n .cells) _ _ _ line (number-is t n line here first bs) (length-upTo (n .cells) (cellAt t)) _ _ (drop next text) few e (f ∙ cell-order t n region index (doubleOf real) small);
         held = (cell-held, omega arith);
+        inside = inside;
       }
 
   module _ (k : ℕ) (x y z : Words) (next : ℕ) (few : n .functions < 256) (named : (0 < k) × (k < 6))
@@ -221,11 +223,12 @@ module _ (text t : List ℕ) (n : Counts) (h : Held t n) (room : tableWords ≤ 
       ];
     }
 
-    pub row-taken : Takes text (withRow t (n .functions) k x y z) n (functionLine (rowsOf t n) first bs) (Step.Next (counts (n .variables) (n .cells) (n .functions + 1)) next)
+    pub row-taken : next ≤ length text → Takes text (withRow t (n .functions) k x y z) n (functionLine (rowsOf t n) first bs) (Step.Next (counts (n .variables) (n .cells) (n .functions + 1)) next)
     unfolding functionLine
-    row-taken = record {
+    row-taken inside = record {
       answer = ap (λ s. goes s (drop next text)) row-rows ∙ taken _ 256 (n .functions) _ _ _ line (number-is t n line here first bs) (length-upTo (n .functions) (rowAt t)) _ _ (drop next text) few e refl;
       held = (row-held, omega arith);
+      inside = inside;
     }
 
 -- ---- the first byte decides

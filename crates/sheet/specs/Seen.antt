@@ -1,7 +1,7 @@
 -- What the readers of fields answer, as what is read of a list of bytes. Only connecting.
-use Prim.Native.Nat.{ℕ, _<_}
+use Prim.Native.Nat.{ℕ, _≤_, _<_}
 use mathlib.Core.List.{List}
-use lib.ListN.{drop}
+use lib.ListN.{length, drop}
 use Rattle.complex.specs.declared.Complex.{Complex}
 use Rattle.complex.specs.Bits.{doubleOf}
 use Rattle.complex.specs.Constants.{ofParts}
@@ -42,3 +42,20 @@ smallCell CellFields.Bad = Unit {0}
 abbrev pub smallRow : RowFields → Type 0
 smallRow (RowFields.Are name x y value next) = (0 < name) × (name < 6)
 smallRow RowFields.Bad = Unit {0}
+
+-- the place after what was read is one of the text or its end
+abbrev pub PairInside : List ℕ → Pair → Type 0
+PairInside text (Pair.Are w next) = next ≤ length text
+PairInside text Pair.Bad = Unit {0}
+
+abbrev pub VariableInside : List ℕ → VariableFields → Type 0
+VariableInside text (VariableFields.Are number w next) = next ≤ length text
+VariableInside text VariableFields.Bad = Unit {0}
+
+abbrev pub CellInside : List ℕ → CellFields → Type 0
+CellInside text (CellFields.Are region index real next) = next ≤ length text
+CellInside text CellFields.Bad = Unit {0}
+
+abbrev pub RowInside : List ℕ → RowFields → Type 0
+RowInside text (RowFields.Are name x y value next) = next ≤ length text
+RowInside text RowFields.Bad = Unit {0}

@@ -3,7 +3,7 @@ use Prim.Native.Nat.{ℕ, zero, suc, _+_, _*_, _/_, _%_, _≤_, _<_}
 use mathlib.Core.Path.{_≡_}
 use mathlib.Core.List.{List}
 use mathlib.Core.Bool.{Bool, true, _&&_}
-use lib.ListN.{getD, set, drop}
+use lib.ListN.{length, getD, set, drop}
 use lib.Dec.{ltb, eqb}
 use Rattle.complex.specs.declared.Complex.{Complex}
 use Rattle.complex.specs.Bits.{bitsOf, doubleOf, Canonical}
@@ -84,9 +84,15 @@ abbrev pub heldAfter : List ℕ → (line : ℕ) → Step → Type 0
 heldAfter t line (Step.Next n next) = Held t n × (lineOf n ≡ line + 1)
 heldAfter t line (Step.Stop why) = Unit {0}
 
+-- the next line's place is one of the text or its end
+abbrev pub StepInside : List ℕ → Step → Type 0
+StepInside text (Step.Next n next) = next ≤ length text
+StepInside text (Step.Stop why) = Unit {0}
+
 pub record Takes (text t : List ℕ) (n : Counts) (line : Line Rows Refusal) (r : Step) : Type 0 where
   pub answer : seenStep text t r ≡ line
   pub held : heldAfter t (lineOf n) r
+  pub inside : StepInside text r
 
 -- ---- a row more
 

@@ -4,7 +4,7 @@ ghost use mathlib.Core.Path.{_≡_};
 ghost use Prim.Native.Nat.{_<_};
 ghost use lib.ListN.{drop};
 ghost use Rattle.sheet.specs.Rows.{complexField, secondOperand, fieldsAfter, variableFields, cellFields, rowFields};
-ghost use Rattle.sheet.specs.Seen.{seenPair, seenVariable, seenCell, seenRow, smallCell, smallRow};
+ghost use Rattle.sheet.specs.Seen.{seenPair, seenVariable, seenCell, seenRow, smallCell, smallRow, PairInside, VariableInside, CellInside, RowInside};
 use spelling::operation_at;
 use text::reading::Number;
 use text::reading::decimal_field;
@@ -47,7 +47,7 @@ pub enum RowFields {
 
 fn pair_field(text: &[u8], at: usize, stop: u8) -> Pair
     requires { ⌜ 0 < stop ⌝ }
-    ensures { λ r. ⌜ seenPair (now (text .entry)) r ≡ complexField stop (drop at (now (text .entry))) ⌝ }
+    ensures { λ r. ⌜ (seenPair (now (text .entry)) r ≡ complexField stop (drop at (now (text .entry)))) × PairInside (now (text .entry)) r ⌝ }
 {
     let first = hex_field(text, at, TAB);
     let Number::Is(re, second) = first else {
@@ -62,7 +62,7 @@ fn pair_field(text: &[u8], at: usize, stop: u8) -> Pair
 
 // v: a number and its value.
 pub fn read_variable(text: &[u8], at: usize) -> VariableFields
-    ensures { λ r. ⌜ seenVariable (now (text .entry)) r ≡ fieldsAfter 118 (drop at (now (text .entry))) variableFields ⌝ }
+    ensures { λ r. ⌜ (seenVariable (now (text .entry)) r ≡ fieldsAfter 118 (drop at (now (text .entry))) variableFields) × VariableInside (now (text .entry)) r ⌝ }
 {
     let kind = end_field(text, Number::Is(118, at), TAB);
     let Number::Is(_, start) = kind else {
@@ -81,7 +81,7 @@ pub fn read_variable(text: &[u8], at: usize) -> VariableFields
 
 // m: region, index and a real.
 pub fn read_cell(text: &[u8], at: usize) -> CellFields
-    ensures { λ r. ⌜ (seenCell (now (text .entry)) r ≡ fieldsAfter 109 (drop at (now (text .entry))) cellFields) × smallCell r ⌝ }
+    ensures { λ r. ⌜ (seenCell (now (text .entry)) r ≡ fieldsAfter 109 (drop at (now (text .entry))) cellFields) × smallCell r × CellInside (now (text .entry)) r ⌝ }
 {
     let kind = end_field(text, Number::Is(109, at), TAB);
     let Number::Is(_, start) = kind else {
@@ -104,7 +104,7 @@ pub fn read_cell(text: &[u8], at: usize) -> CellFields
 
 // For all but pow two fields of zeros; the bits of -0 are none.
 fn second_operand(text: &[u8], at: usize, name: u64) -> Pair
-    ensures { λ r. ⌜ seenPair (now (text .entry)) r ≡ secondOperand name (drop at (now (text .entry))) ⌝ }
+    ensures { λ r. ⌜ (seenPair (now (text .entry)) r ≡ secondOperand name (drop at (now (text .entry)))) × PairInside (now (text .entry)) r ⌝ }
 {
     let first = hex_field(text, at, TAB);
     let Number::Is(re, middle) = first else {
@@ -128,7 +128,7 @@ fn second_operand(text: &[u8], at: usize, name: u64) -> Pair
 
 // t: a name, two operands and the value.
 pub fn read_row(text: &[u8], at: usize) -> RowFields
-    ensures { λ r. ⌜ (seenRow (now (text .entry)) r ≡ fieldsAfter 116 (drop at (now (text .entry))) rowFields) × smallRow r ⌝ }
+    ensures { λ r. ⌜ (seenRow (now (text .entry)) r ≡ fieldsAfter 116 (drop at (now (text .entry))) rowFields) × smallRow r × RowInside (now (text .entry)) r ⌝ }
 {
     let kind = end_field(text, Number::Is(116, at), TAB);
     let Number::Is(_, start) = kind else {

@@ -25,4 +25,4 @@ take-cell-spec =
     (λ c κs. c .before .before .before .before .before .before .before .before .if1 .left)
     (λ c. omega arith)
     (λ c. search needs)
-    (λ c. rw (c .before .before .put-cell .ensures) (cell-taken _ (c .before .before .before .before .before .before .before .before .before .before .before .before .before .before .before .args .table .now) (c .before .before .before .before .before .before .before .before .before .before .before .before .before .before .before .args .counts) (c .before .before .before .before .before .before .before .before .before .before .before .before .before .before .before .pre .1) (c .before .before .before .before .before .before .before .before .before .before .before .before .before .before .before .pre .0) (c .before .before .before .before .before .before .before .before .before .before .before .before .line-number .result) (c .before .before .before .before .before .before .before .before .before .before .before .before .line-number .ensures) _ _ _ _ _ _ (c .before .before .before .before .before .before .before .before .before .before .before .if1 .left) ((rw (c .before .before .before .before .before .before .before .before .fields .given .1) at (c .before .before .before .before .before .before .before .before .before .before .read-cell .ensures .1)) .1) (rw (c .before .before .before .before .before .before .before .before .fields .given .1) at (c .before .before .before .before .before .before .before .before .before .before .read-cell .ensures .0)) (sym (not-false _ (c .before .before .before .before .if2 .left)) ∙ c .before .before .before .before .before .cell-may .ensures))))
+    (λ c. rw (c .before .before .put-cell .ensures) (cell-taken _ (c .before .before .before .before .before .before .before .before .before .before .before .before .before .before .before .args .table .now) (c .before .before .before .before .before .before .before .before .before .before .before .before .before .before .before .args .counts) (c .before .before .before .before .before .before .before .before .before .before .before .before .before .before .before .pre .1) (c .before .before .before .before .before .before .before .before .before .before .before .before .before .before .before .pre .0) (c .before .before .before .before .before .before .before .before .before .before .before .before .line-number .result) (c .before .before .before .before .before .before .before .before .before .before .before .before .line-number .ensures) _ _ _ _ _ _ (c .before .before .before .before .before .before .before .before .before .before .before .if1 .left) ((rw (c .before .before .before .before .before .before .before .before .fields .given .1) at (c .before .before .before .before .before .before .before .before .before .before .read-cell .ensures .1)) .1) (rw (c .before .before .before .before .before .before .before .before .fields .given .1) at (c .before .before .before .before .before .before .before .before .before .before .read-cell .ensures .0)) (sym (not-false _ (c .before .before .before .before .if2 .left)) ∙ c .before .before .before .before .before .cell-may .ensures) (rw (c .before .before .before .before .before .before .before .before .fields .given .1) at (c .before .before .before .before .before .before .before .before .before .before .read-cell .ensures .2)))))
