@@ -1,8 +1,9 @@
 -- Two answers that a contract of `tape` allows are equal: of compiling and playing where the rows hold a store and the table a sheet, of the others
 -- always. The check and the bytes of the pick are in Checking. Assumes nothing.
-use mathlib.Core.Path.{_≡_, refl, sym, _∙_}
+use mathlib.Core.Path.{_≡_, refl, sym, ap, _∙_}
 use mathlib.Core.List.{List}
 use Prim.Native.Nat.{ℕ, _<_}
+use denote.Ref.{RefT}
 use Rattle.store.specs.Memory.{Memory}
 use Rattle.store.specs.Held.{Holds}
 use Rattle.writing.specs.declared.Written.{Written}
@@ -26,9 +27,19 @@ one-played tape t p q = p t ∙ sym (q t)
 pub one-which : (a b : List ℕ) {r r′ : Picked} → r ≡ picked a b → r′ ≡ picked a b → r ≡ r′
 one-which a b p q = p ∙ sym q
 
--- the slice that `pick` hands back, and not its bytes alone, where a tape is sound: the clause `own`
-pub one-slice : {Slice : Type 0} (which : Picked) {a b r r′ : Slice} → (which ≡ Picked.Nothing → ⊥)
-    → (which ≡ Picked.First → r ≡ a) × (which ≡ Picked.Second → r ≡ b) → (which ≡ Picked.First → r′ ≡ a) × (which ≡ Picked.Second → r′ ≡ b) → r ≡ r′
+-- ---- the slice that `pick` hands back, and not its bytes alone: the clause `own`, where `which` is the choice
+
+abbrev pub Own : (which : Picked) (a b r : RefT (List ℕ)) → Type 0
+Own which a b r = (which ≡ Picked.First → r ≡ a) × (which ≡ Picked.Second → r ≡ b) × (which ≡ Picked.Nothing → r .ptr ≡ a .ptr)
+
+-- where a tape is sound it is that very slice
+pub one-slice : (which : Picked) {a b r r′ : RefT (List ℕ)} → (which ≡ Picked.Nothing → ⊥) → Own which a b r → Own which a b r′ → r ≡ r′
 one-slice Picked.First some p q = p .0 refl ∙ sym (q .0 refl)
 one-slice Picked.Second some p q = p .1 refl ∙ sym (q .1 refl)
 one-slice Picked.Nothing some p q = absurd (some refl)
+
+-- and where it begins is one always; with its bytes (Checking, `one-picked`) this is all that a program sees of a slice
+pub one-pointer : (which : Picked) {a b r r′ : RefT (List ℕ)} → Own which a b r → Own which a b r′ → r .ptr ≡ r′ .ptr
+one-pointer Picked.First p q = ap (λ x. x .ptr) (p .0 refl ∙ sym (q .0 refl))
+one-pointer Picked.Second p q = ap (λ x. x .ptr) (p .1 refl ∙ sym (q .1 refl))
+one-pointer Picked.Nothing p q = p .2 refl ∙ sym (q .2 refl)

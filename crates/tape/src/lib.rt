@@ -134,7 +134,7 @@ pub fn which(a: &[u8], b: &[u8]) -> Picked
 // The tape that was picked, as the caller lent it, or the empty part of the first.
 pub fn pick<'a>(a: &'a [u8], b: &'a [u8]) -> &'a [u8]
     ensures { λ r. ⌜ now r ≡ Tapes.pick (now (a .entry)) (now (b .entry)) ⌝ }
-    ensures own { λ r. ⌜ (Tapes.picked (now (a .entry)) (now (b .entry)) ≡ Picked.First → r ≡ a .entry) × (Tapes.picked (now (a .entry)) (now (b .entry)) ≡ Picked.Second → r ≡ b .entry) ⌝ }
+    ensures own { λ r. ⌜ (Tapes.picked (now (a .entry)) (now (b .entry)) ≡ Picked.First → r ≡ a .entry) × (Tapes.picked (now (a .entry)) (now (b .entry)) ≡ Picked.Second → r ≡ b .entry) × (Tapes.picked (now (a .entry)) (now (b .entry)) ≡ Picked.Nothing → r .ptr ≡ a .entry .ptr) ⌝ }
 {
     let choice = which(a, b);
     match choice {

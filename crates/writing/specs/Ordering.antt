@@ -124,3 +124,7 @@ linesText rows table (suc i) = linesText rows table i ++ lineText (lineAt rows t
 -- the tree of a node is written as the definition says, and a refusal leaves the output as it was
 abbrev pub Writes : (m : Memory) (root : ℕ) (r : Written) (out out′ : List ℕ) → Type 0
 Writes m root r out out′ = (n : ℕ) → Holds m n → root < n → (r, out′) ≡ written (treeAt m root) out
+
+-- and leaves the rows as they were, but for the links
+abbrev pub KeepsRows : (m : Memory) (root : ℕ) (m′ : Memory) → Type 0
+KeepsRows m root m′ = (n : ℕ) → Holds m n → root < n → m′ ≡ columns (m .tag) (m .first) (m .second) (m′ .link)

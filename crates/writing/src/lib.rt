@@ -6,7 +6,7 @@ ghost use Rattle.memory.specs.Layout.{tableWords};
 ghost use Rattle.store.specs.Memory.{memory};
 ghost use Rattle.listing.specs.Tables.{moved};
 ghost use Rattle.text.specs.Put.{Put};
-ghost use Rattle.writing.specs.Ordering.{lineAt, linesText, Writes};
+ghost use Rattle.writing.specs.Ordering.{lineAt, linesText, Writes, KeepsRows};
 use expression::node::Expression;
 use expression::node::Operands;
 use expression::node::operands_of;
@@ -107,6 +107,7 @@ pub fn write_listing(
 ) -> Written
     requires { ⌜ tableWords ≤ length (now table) ⌝ }
     ensures { λ r. ⌜ Writes (memory (now (store .entry))) root r (now (out .entry)) (now (out .exit)) ⌝ }
+    ensures kept { λ r. ⌜ KeepsRows (memory (now (store .entry))) root (memory (now (store .exit))) ⌝ }
 {
     let count = visit(store, table, root, NONE, 0);
     if 1024 < count {
