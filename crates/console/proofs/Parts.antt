@@ -1,10 +1,13 @@
--- A text parts at one place only. Assumes nothing.
-use mathlib.Core.Path.{_≡_}
-use Prim.Native.Nat.{ℕ, _<_}
+-- A text parts at one place, and at one only. Assumes nothing.
+use mathlib.Core.Path.{_≡_, sym, subst}
+use Prim.Native.Nat.{ℕ, zero, suc, _+_, _<_}
 use native.Mathlib.Omega.{arith}
-use native.Mathlib.Decide.{decLt}
-use mathlib.Core.List.{List}
-use Rattle.console.specs.Parting.{Parted}
+use native.Mathlib.Decide.{decLt, ℕ-discrete}
+use mathlib.Core.List.{List, _∷_}
+use lib.ListN.{length, getD}
+use lib.Seq.{length-take-le}
+use Rattle.text.specs.Reading.{lf}
+use Rattle.console.specs.Parting.{EmptyLine, Parted}
 
 -- a place before another one at which the text parts has an empty line, which the other has passed
 not-before : {text : List ℕ} {n m : ℕ} → Parted text n → Parted text m → n < m → ⊥
@@ -15,3 +18,47 @@ one-place {text} {n} {m} p q = elim (decLt n m) [
   | yes lt ↦ absurd (not-before p q lt)
   | no ge ↦ elim (decLt m n) [ yes gt ↦ absurd (not-before q p gt) | no le ↦ omega arith ]
 ]
+
+-- ---- every text parts
+
+pub record Somewhere (text : List ℕ) : Type 0 where
+  pub place : ℕ
+  pub parted : Parted text place
+
+-- no empty line begins before this place
+abbrev NoneBefore : (text : List ℕ) (k : ℕ) → Type 0
+NoneBefore text k = (place : ℕ) → place < k → EmptyLine text place → ⊥
+
+one-more : (text : List ℕ) (k : ℕ) → NoneBefore text k → (EmptyLine text k → ⊥) → NoneBefore text (suc k)
+one-more text k none here place h x = elim (ℕ-discrete place k) [
+  | yes e ↦ here (subst (λ p. EmptyLine text p) e x)
+  | no n ↦ none place (omega arith) x
+]
+
+-- from a place that is passed on, with as many bytes left as the fuel says
+parts-from : (text : List ℕ) (fuel k : ℕ) → fuel + k ≡ length text → NoneBefore text k → Somewhere text
+parts-from text zero k e none = record {
+  place = k;
+  parted = record {
+    counts = (omega (arith, e), sym (length-take-le k text (omega (arith, e))));
+    without = none;
+    followed = λ h. absurd (omega (arith, e, h));
+  };
+}
+parts-from text (suc fuel) k e none = elim (ℕ-discrete (getD (lf ∷ text) k 0) lf) [
+  | yes a ↦ elim (ℕ-discrete (getD text k 0) lf) [
+    | yes b ↦ record {
+      place = k;
+      parted = record {
+        counts = (omega (arith, e), sym (length-take-le k text (omega (arith, e))));
+        without = none;
+        followed = λ h. (a, b);
+      };
+    }
+    | no b ↦ parts-from text fuel (suc k) (omega (arith, e)) (one-more text k none λ x. b (x .1))
+  ]
+  | no a ↦ parts-from text fuel (suc k) (omega (arith, e)) (one-more text k none λ x. a (x .0))
+]
+
+pub every-text : (text : List ℕ) → Somewhere text
+every-text text = parts-from text (length text) 0 (omega arith) λ place h x. omega (arith, h)
