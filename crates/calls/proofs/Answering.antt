@@ -32,7 +32,7 @@ use Rattle.calls.specs.declared.Evaluated.{Evaluated}
 use Rattle.calls.specs.declared.Simplified.{Simplified}
 use Rattle.calls.specs.Calls as Calls
 use Rattle.calls.specs.Calls.{Job, ready, afterListing, job, writtenAnswer, withCalls, callsIn, evaluated, evaluateJob, evaluateCall, substituteCall, toRealCall, simplifyJob, simplifyCall, compileCall, playCall}
-use Rattle.calls.proofs.Refusing.{refusal-some, ListingUpTo, listing-up-to, WholeUpTo, sheet-up-to, JobUpTo, job-up-to}
+use Rattle.calls.proofs.Refusing.{refusal-some, OfSheet, listing-most, sheet-most, job-most, ListingBy, listing-numbers, WholeBy, sheet-numbers, JobBy, job-numbers}
 use Rattle.calls.proofs.TapeBytes.{FromAnywhere, refused-first, plays, Answered, sheet-refused, value, need, incomplete, from-anywhere}
 
 -- one of the fifteen of 01's table
@@ -98,13 +98,13 @@ evaluation-so (Evaluation.Value z) = tt
 evaluation-so Evaluation.Incomplete = by-most Refusal.Incomplete (omega arith)
 evaluation-so (Evaluation.Need operation x y) = by-most (Refusal.Need operation x y) (omega arith)
 
-job-so : (j : Job) → JobUpTo 8 j → EvaluatedSo (evaluateJob j)
-unfolding evaluateJob JobUpTo
+job-so : (j : Job) → JobBy j → EvaluatedSo (evaluateJob j)
+unfolding evaluateJob JobBy
 job-so (ready root store rows) h = evaluation-so (evaluate rows root)
-job-so (Calls.refused why) h = by-most why (omega (arith, h))
+job-so (Calls.refused why) h = by-most why (omega (arith, job-most h))
 
 pub evaluate-call-so : (room : ℕ) (list values : List ℕ) → EvaluatedSo (evaluateCall room list values)
-evaluate-call-so room list values = job-so (job room list values) (job-up-to room list values)
+evaluate-call-so room list values = job-so (job room list values) (job-numbers room list values)
 
 real-if : (b : Bool) (x y : Real) → RealSo x → RealSo y → RealSo (cond b x y)
 real-if true x y p q = p
@@ -121,12 +121,12 @@ real-so (prefixed o t) = by-most Refusal.NotANumber (omega arith)
 real-so (infixed o l r) = by-most Refusal.NotANumber (omega arith)
 
 pub real-call-so : (room : ℕ) (list : List ℕ) → RealSo (toRealCall room list)
-unfolding toRealCall afterListing ListingUpTo
-real-call-so room list = go (listing false list (fresh room 0)) (listing-up-to false list (fresh room 0))
+unfolding toRealCall afterListing ListingBy
+real-call-so room list = go (listing false list (fresh room 0)) (listing-numbers false list (fresh room 0))
   where
-    go : (l : Listing) → ListingUpTo 8 l → RealSo (afterListing Real.Refused l λ root swaps store. toReal root)
+    go : (l : Listing) → ListingBy l → RealSo (afterListing Real.Refused l λ root swaps store. toReal root)
     go (accepted root swaps store) h = real-so root
-    go (Listings.refused why) h = by-most why (omega (arith, h))
+    go (Listings.refused why) h = by-most why (omega (arith, listing-most h))
 
 -- ---- substituting, compiling
 
@@ -156,21 +156,21 @@ substitutes swaps (infixed o l r) s =
     then-at-most (substitute swaps l s) _ (substitutes swaps l s) λ l s. then-at-most (substitute swaps r s) _ (substitutes swaps r s) λ r s. stores (infixed o l r) s
 
 -- a call that takes no sheet
-listing-so : (out : List ℕ) (l : Listing) (next : Tree → List Swap → State → Written × List ℕ) → ListingUpTo 8 l
+listing-so : (out : List ℕ) (l : Listing) (next : Tree → List Swap → State → Written × List ℕ) → ListingBy l
     → ((root : Tree) (swaps : List Swap) (store : State) → So out (next root swaps store)) → So out (afterListing (λ why. (Written.Refused why, out)) l next)
-unfolding afterListing ListingUpTo
+unfolding afterListing ListingBy
 listing-so out (accepted root swaps store) next h f = f root swaps store
-listing-so out (Listings.refused why) next h f = (by-most why (omega (arith, h)), refl)
+listing-so out (Listings.refused why) next h f = (by-most why (omega (arith, listing-most h)), refl)
 
 pub substitute-call-so : (room : ℕ) (list out : List ℕ) → So out (substituteCall room list out)
 unfolding substituteCall
 substitute-call-so room list out =
-    listing-so out (listing true list (fresh room 0)) _ (listing-up-to true list (fresh room 0)) λ root swaps store. answer-so out (substitute swaps root store) (substitutes swaps root store)
+    listing-so out (listing true list (fresh room 0)) _ (listing-numbers true list (fresh room 0)) λ root swaps store. answer-so out (substitute swaps root store) (substitutes swaps root store)
 
 pub compile-call-so : (room : ℕ) (list out : List ℕ) → So out (compileCall room list out)
 unfolding compileCall
 compile-call-so room list out =
-    listing-so out (listing false list (fresh room 0)) _ (listing-up-to false list (fresh room 0)) λ root swaps store. compiled-so root out
+    listing-so out (listing false list (fresh room 0)) _ (listing-numbers false list (fresh room 0)) λ root swaps store. compiled-so root out
 
 -- ---- simplifying
 
@@ -183,32 +183,32 @@ pub six-to-nine-so : (a : Answer) → SixToNine a → AtMost9 a
 six-to-nine-so (gives t s) h = tt
 six-to-nine-so (Storing.refused why s) h = h .1
 
-simplify-job-so : (limit : ℕ) (out : List ℕ) (j : Job) → JobUpTo 8 j → SimplifiedSo out (simplifyJob limit out j .1) (simplifyJob limit out j .0)
-unfolding simplifyJob JobUpTo
+simplify-job-so : (limit : ℕ) (out : List ℕ) (j : Job) → JobBy j → SimplifiedSo out (simplifyJob limit out j .1) (simplifyJob limit out j .0)
+unfolding simplifyJob JobBy
 simplify-job-so limit out (ready root store rows) h =
     let a = simplify rows limit root store in
     with-calls-so out (writtenAnswer out a .1) (callsIn a) (writtenAnswer out a .0) (answer-so out a (six-to-nine-so a (six-to-nine suc rows limit root store)))
-simplify-job-so limit out (Calls.refused why) h = (by-most why (omega (arith, h)), refl)
+simplify-job-so limit out (Calls.refused why) h = (by-most why (omega (arith, job-most h)), refl)
 
 pub simplify-call-so : (room limit : ℕ) (list values out : List ℕ) → SimplifiedSo out (simplifyCall room limit list values out .1) (simplifyCall room limit list values out .0)
 unfolding simplifyCall
 simplify-call-so room limit list values out = go (isAllowed limit)
   where
     go : (b : Bool) → SimplifiedSo out (cond b (simplifyJob limit out (job room list values)) (Simplified.Refused Refusal.BadLimit, out) .1) (cond b (simplifyJob limit out (job room list values)) (Simplified.Refused Refusal.BadLimit, out) .0)
-    go true = simplify-job-so limit out (job room list values) (job-up-to room list values)
+    go true = simplify-job-so limit out (job room list values) (job-numbers room list values)
     go false = (by-most Refusal.BadLimit (omega arith), refl)
 
 -- ---- playing
 
-sheet-number : (w : Whole Rows Refusal) → WholeUpTo 4 w → {why : Refusal} → w ≡ Lines.refused why → numberOf why ≤ 4
-unfolding WholeUpTo
-sheet-number w h e = subst (WholeUpTo 4) e h
+sheet-number : (w : Whole Rows Refusal) → WholeBy OfSheet w → {why : Refusal} → w ≡ Lines.refused why → numberOf why ≤ 4
+unfolding WholeBy
+sheet-number w h e = sheet-most (subst (WholeBy OfSheet) e h)
 
 pub play-call-so : (tape values : List ℕ) → EvaluatedSo (playCall tape values)
 play-call-so tape values = go (from-anywhere tape values)
   where
     answered : Answered tape values → EvaluatedSo (playCall tape values)
-    answered (sheet-refused why s e) = subst EvaluatedSo (sym e) (by-most why (omega (arith, sheet-number (sheet values) (sheet-up-to values) s)))
+    answered (sheet-refused why s e) = subst EvaluatedSo (sym e) (by-most why (omega (arith, sheet-number (sheet values) (sheet-numbers values) s)))
     answered (value rows z s r e) = subst EvaluatedSo (sym e) tt
     answered (need rows operation x y s r e) = subst EvaluatedSo (sym e) (by-most (Refusal.Need operation x y) (omega arith))
     answered (incomplete rows s r e) = subst EvaluatedSo (sym e) (by-most Refusal.Incomplete (omega arith))

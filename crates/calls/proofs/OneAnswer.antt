@@ -1,18 +1,18 @@
 -- Any two answers that the contract of a public call allows are equal, and so are the output bytes and the work memory that come with them; and two
 -- answers of what the calls share. Assumes nothing.
-use mathlib.Core.Path.{_≡_, sym, ap, _∙_}
+use mathlib.Core.Path.{_≡_, sym, _∙_}
 use Prim.Native.Nat.{ℕ, _<_}
 use native.Mathlib.Omega.{arith}
 use mathlib.Core.List.{List}
-use lib.ListN.{length}
-use Rattle.memory.proofs.Values.{length-upTo}
 use Rattle.expression.specs.Trees.{Tree}
 use Rattle.expression.specs.Alike.{identical}
 use Rattle.store.specs.Storing.{State, state, place}
 use Rattle.store.specs.Desk.{count, refusedFrom}
 use Rattle.store.specs.Held.{Lent, treeIn, stateIn, Sound}
 use Rattle.store.proofs.Seeking.{own-place}
+use Rattle.sheet.specs.declared.Counts.{Counts}
 use Rattle.sheet.specs.Table.{rowsOf}
+use Rattle.sheet.proofs.OneAnswer.{one-counts}
 use Rattle.writing.specs.declared.Written.{Written}
 use Rattle.evaluation.specs.declared.real.Real.{Real}
 use Rattle.calls.specs.declared.Evaluated.{Evaluated}
@@ -59,13 +59,22 @@ module _ {list values : List ℕ} {l l₁ l₂ : Lent} {table₁ table₂ : List
       let s : stateIn l₁ ≡ stateIn l₂ = cc in
       let w : rowsOf table₁ n ≡ rowsOf table₂ k = cc in
       let root = sym (own-place (p .after .1 .holds) i (p .after .0)) ∙ (λ x. place (identical (t x)) (stored-in (s x))) ∙ own-place (q .after .1 .holds) j (q .after .0) in
-      let v = sym (length-upTo (n .variables) _) ∙ ap (λ x. length (x .variables)) w ∙ length-upTo (k .variables) _ in
-      let c = sym (length-upTo (n .cells) _) ∙ ap (λ x. length (x .cells)) w ∙ length-upTo (k .cells) _ in
-      let f = sym (length-upTo (n .functions) _) ∙ ap (λ x. length (x .functions)) w ∙ length-upTo (k .functions) _ in
-      λ x. Job.Ready (root x) (record { variables = v x; cells = c x; functions = f x })
+      let c : n ≡ k = one-counts table₁ table₂ n k w in
+      λ x. Job.Ready (root x) (c x)
   one-job (Job.Ready i n) (Job.Refused why) p q = let e = p .answer ∙ sym (q .answer) in let z : _≡_ {A = ℕ} 0 1 = cc in absurd (omega arith)
   one-job (Job.Refused why) (Job.Ready j k) p q = let e = p .answer ∙ sym (q .answer) in let z : _≡_ {A = ℕ} 0 1 = cc in absurd (omega arith)
   one-job (Job.Refused why) (Job.Refused why′) p q = let e = p .answer ∙ sym (q .answer) in cc
+
+  -- and what it leaves is one: the root's tree, the state of the store, and the rows of the sheet
+  pub one-job-state : (i j : ℕ) (n k : Counts) → ReadsJob list values (Job.Ready i n) l l₁ table₁ → ReadsJob list values (Job.Ready j k) l l₂ table₂
+      → (treeIn l₁ i ≡ treeIn l₂ j) × (stateIn l₁ ≡ stateIn l₂) × (rowsOf table₁ n ≡ rowsOf table₂ k)
+  unfolding stateIn
+  one-job-state i j n k p q =
+      let e = p .answer ∙ sym (q .answer) in
+      let t : treeIn l₁ i ≡ treeIn l₂ j = cc in
+      let s : stateIn l₁ ≡ stateIn l₂ = cc in
+      let w : rowsOf table₁ n ≡ rowsOf table₂ k = cc in
+      (t, s, w)
 
 pub one-written : {l : Lent} {built : ℕ} {r r′ : Written} (out : List ℕ) {out₁ out₂ : List ℕ} → Sound l → (built < refusedFrom → built < count (l .desk))
     → WritesAnswer l built r out out₁ → WritesAnswer l built r′ out out₂ → _≡_ {A = Written × List ℕ} (r, out₁) (r′, out₂)

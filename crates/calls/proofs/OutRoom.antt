@@ -26,7 +26,7 @@ use Rattle.simplification.proofs.Stored.{Given}
 use Rattle.calls.specs.declared.Simplified.{Simplified}
 use Rattle.calls.specs.Calls as Calls
 use Rattle.calls.specs.Calls.{Job, ready, afterListing, job, writtenAnswer, substituteCall, withCalls, callsIn, simplifyJob, simplifyCall}
-use Rattle.calls.proofs.Refusing.{ListingUpTo, listing-up-to, JobUpTo, job-up-to}
+use Rattle.calls.proofs.Refusing.{listing-most, job-most, ListingBy, listing-numbers, JobBy, job-numbers}
 use Rattle.calls.proofs.Stored.{GivenIn, substituted-is-in}
 use Rattle.calls.proofs.Accepted.{Listed, listing-listed, Jobbed, job-in}
 use Rattle.calls.proofs.ReadBack.{simplified-stored}
@@ -86,9 +86,9 @@ unfolding withCalls HasRoom SimplifiedHasRoom
 counted-room calls (Written.Bytes bytes) p = tt
 counted-room calls (Written.Refused why) p = p
 
-job-room : (room limit : ℕ) (out : List ℕ) (j : Job) → Jobbed room j → JobUpTo 8 j → Ample out (simplifiedLines limit j) → SimplifiedHasRoom (simplifyJob limit out j .0)
-unfolding simplifyJob JobUpTo simplifiedLines SimplifiedHasRoom
-job-room room limit out (Calls.refused why) x n ample = λ e. omega (arith, n, e)
+job-room : (room limit : ℕ) (out : List ℕ) (j : Job) → Jobbed room j → JobBy j → Ample out (simplifiedLines limit j) → SimplifiedHasRoom (simplifyJob limit out j .0)
+unfolding simplifyJob JobBy simplifiedLines SimplifiedHasRoom
+job-room room limit out (Calls.refused why) x n ample = λ e. omega (arith, job-most n, e)
 job-room room limit out (ready root store rows) x n ample =
     let a = simplify rows limit root store in
     let r = given-result room store a (simplified-stored room limit root store rows x) (six-to-nine-so a (six-to-nine suc rows limit root store)) in
@@ -100,7 +100,7 @@ module _ (room limit : ℕ) (list values out : List ℕ) where
   simplified-room ample = go (isAllowed limit)
     where
       go : (b : Bool) → SimplifiedHasRoom (cond b (simplifyJob limit out (job room list values)) (Simplified.Refused Refusal.BadLimit, out) .0)
-      go true = job-room room limit out (job room list values) (job-in room list values) (job-up-to room list values) ample
+      go true = job-room room limit out (job room list values) (job-in room list values) (job-numbers room list values) ample
       go false = λ e. omega (arith, e)
 
   -- an output with 36 bytes for each line of the result is not too short
@@ -125,15 +125,15 @@ substitutedLines (Listings.refused why) = 0
 
 module _ (room : ℕ) (list out : List ℕ) where
   substituted-room : Ample out (substitutedLines (listing true list (fresh room 0))) → HasRoom (substituteCall room list out .0)
-  unfolding substituteCall afterListing substitutedLines HasRoom ListingUpTo Listed
-  substituted-room = go (listing true list (fresh room 0)) (listing-listed room true list) (listing-up-to true list (fresh room 0))
+  unfolding substituteCall afterListing substitutedLines HasRoom ListingBy Listed
+  substituted-room = go (listing true list (fresh room 0)) (listing-listed room true list) (listing-numbers true list (fresh room 0))
     where
-      go : (l : Listing) → Listed room l → ListingUpTo 8 l → Ample out (substitutedLines l)
+      go : (l : Listing) → Listed room l → ListingBy l → Ample out (substitutedLines l)
           → HasRoom (afterListing (λ why. (Written.Refused why, out)) l (λ root swaps store. writtenAnswer out (substitute swaps root store)) .0)
       go (accepted root swaps store) x n ample =
           let a = substitute swaps root store in
           answer-room out a (given-result room store a (substituted-is-in room swaps root store (x .0) (x .2) (x .1)) (substitutes swaps root store)) ample
-      go (Listings.refused why) x n ample = λ e. omega (arith, n, e)
+      go (Listings.refused why) x n ample = λ e. omega (arith, listing-most n, e)
 
   pub substitute-room-by-lines : 36 * substitutedLines (listing true list (fresh room 0)) ≤ length out
       → substituteCall room list out .0 ≡ Written.Refused Refusal.OutRoom → ⊥

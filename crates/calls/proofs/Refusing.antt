@@ -1,4 +1,4 @@
--- By which numbers is refused: 1 to 20 at all, a listing by at most 8, a sheet by at most 4. Assumes nothing.
+-- By which numbers is refused: 1 to 20 at all; a listing by 1, 2, 6, 7 or 8, a sheet by 3 or 4, and a job by one of these. Assumes nothing.
 use mathlib.Core.Bool.{Bool, true, false, cond, _&&_}
 use mathlib.Core.List.{List, [], _∷_}
 use Prim.Native.Nat.{ℕ, zero, suc, _≤_}
@@ -46,132 +46,164 @@ refusal-some Refusal.BadBook = (omega arith, omega arith)
 refusal-some (Refusal.Many listing) = (omega arith, omega arith)
 refusal-some Refusal.NoText = (omega arith, omega arith)
 
--- ---- a text whose lines are refused by numbers up to `most`
+-- ---- the numbers of each part
 
-LineUpTo : {S : Type 0} → (most : ℕ) → Line S Refusal → Type 0
-LineUpTo most (goes s rest) = Unit {0}
-LineUpTo most (stops why) = numberOf why ≤ most
+pub data OfListing : ℕ → Type 0 where
+  one : OfListing 1
+  two : OfListing 2
+  six : OfListing 6
+  seven : OfListing 7
+  eight : OfListing 8
 
-unfoldable pub WholeUpTo : {S : Type 0} → (most : ℕ) → Whole S Refusal → Type 0
-WholeUpTo most (Lines.read s) = Unit {0}
-WholeUpTo most (Lines.refused why) = numberOf why ≤ most
+pub data OfSheet : ℕ → Type 0 where
+  three : OfSheet 3
+  four : OfSheet 4
 
-either-line : {S : Type 0} (most : ℕ) (b : Bool) (x y : Line S Refusal) → LineUpTo most x → LineUpTo most y → LineUpTo most (cond b x y)
-either-line most true x y p q = p
-either-line most false x y p q = q
+pub data OfJob : ℕ → Type 0 where
+  of-listing : {k : ℕ} → OfListing k → OfJob k
+  of-sheet : {k : ℕ} → OfSheet k → OfJob k
 
-module _ {S : Type 0} (most : ℕ) (line : S → ℕ → List ℕ → Line S Refusal) (f : (s : S) (b : ℕ) (bs : List ℕ) → LineUpTo most (line s b bs)) where
-  after-line : (l : Line S Refusal) (next : S → List ℕ → Whole S Refusal) → LineUpTo most l → ((s : S) (bs : List ℕ) → WholeUpTo most (next s bs))
-      → WholeUpTo most (afterLine l next)
-  unfolding afterLine LineUpTo WholeUpTo
+pub listing-most : {k : ℕ} → OfListing k → k ≤ 8
+listing-most one = omega arith
+listing-most two = omega arith
+listing-most six = omega arith
+listing-most seven = omega arith
+listing-most eight = omega arith
+
+pub sheet-most : {k : ℕ} → OfSheet k → k ≤ 4
+sheet-most three = omega arith
+sheet-most four = omega arith
+
+pub job-most : {k : ℕ} → OfJob k → k ≤ 8
+job-most (of-listing x) = listing-most x
+job-most (of-sheet x) = omega (arith, sheet-most x)
+
+-- ---- a text whose lines are refused by the numbers that `Of` tells
+
+LineBy : {S : Type 0} → (Of : ℕ → Type 0) → Line S Refusal → Type 0
+LineBy Of (goes s rest) = Unit {0}
+LineBy Of (stops why) = Of (numberOf why)
+
+unfoldable pub WholeBy : {S : Type 0} → (Of : ℕ → Type 0) → Whole S Refusal → Type 0
+WholeBy Of (Lines.read s) = Unit {0}
+WholeBy Of (Lines.refused why) = Of (numberOf why)
+
+either-line : {S : Type 0} (Of : ℕ → Type 0) (b : Bool) (x y : Line S Refusal) → LineBy Of x → LineBy Of y → LineBy Of (cond b x y)
+either-line Of true x y p q = p
+either-line Of false x y p q = q
+
+module _ {S : Type 0} (Of : ℕ → Type 0) (line : S → ℕ → List ℕ → Line S Refusal) (f : (s : S) (b : ℕ) (bs : List ℕ) → LineBy Of (line s b bs)) where
+  after-line : (l : Line S Refusal) (next : S → List ℕ → Whole S Refusal) → LineBy Of l → ((s : S) (bs : List ℕ) → WholeBy Of (next s bs))
+      → WholeBy Of (afterLine l next)
+  unfolding afterLine LineBy WholeBy
   after-line (goes s rest) next x more = more s rest
   after-line (stops why) next x more = x
 
-  with-fuel : (fuel : ℕ) (s : S) (bs : List ℕ) → WholeUpTo most (linesBy fuel line s bs)
-  unfolding linesBy atLine WholeUpTo
+  with-fuel : (fuel : ℕ) (s : S) (bs : List ℕ) → WholeBy Of (linesBy fuel line s bs)
+  unfolding linesBy atLine WholeBy
   with-fuel zero s bs = tt
   with-fuel (suc fuel) s [] = tt
   with-fuel (suc fuel) s (b ∷ bs) = after-line (line s b bs) (λ s bs. linesBy fuel line s bs) (f s b bs) λ s bs. with-fuel fuel s bs
 
-  text-up-to : (s : S) (bs : List ℕ) → WholeUpTo most (lines line s bs)
+  text-by : (s : S) (bs : List ℕ) → WholeBy Of (lines line s bs)
   unfolding lines
-  text-up-to s bs = with-fuel (length bs) s bs
+  text-by s bs = with-fuel (length bs) s bs
 
 -- ---- a listing: 1, 2, 6, 7, 8
 
-AnswerUpTo : (most : ℕ) → Answer → Type 0
-AnswerUpTo most (gives t s) = Unit {0}
-AnswerUpTo most (Storing.refused why s) = numberOf why ≤ most
+AnswerBy : Answer → Type 0
+AnswerBy (gives t s) = Unit {0}
+AnswerBy (Storing.refused why s) = OfListing (numberOf why)
 
-either-answer : (b : Bool) (x y : Answer) → AnswerUpTo 8 x → AnswerUpTo 8 y → AnswerUpTo 8 (cond b x y)
+either-answer : (b : Bool) (x y : Answer) → AnswerBy x → AnswerBy y → AnswerBy (cond b x y)
 either-answer true x y p q = p
 either-answer false x y p q = q
 
-storing-up-to : (t : Tree) (s : State) → AnswerUpTo 8 (intern t s)
-unfolding intern AnswerUpTo
-storing-up-to t (state room ts kept calls) =
+storing-by : (t : Tree) (s : State) → AnswerBy (intern t s)
+unfolding intern AnswerBy
+storing-by t (state room ts kept calls) =
     either-answer (among ts t) _ _ tt
-    (either-answer (ltb largest (size t)) _ _ (omega arith)
-    (either-answer (ltb deepest (depth t)) _ _ (omega arith)
-    (either-answer (ltb (length ts) room) _ _ tt (omega arith))))
+    (either-answer (ltb largest (size t)) _ _ six
+    (either-answer (ltb deepest (depth t)) _ _ seven
+    (either-answer (ltb (length ts) room) _ _ tt eight)))
 
-stored-up-to : (k : Known) (rest : List ℕ) (a : Answer) → AnswerUpTo 8 a → LineUpTo 8 (stored k rest a)
-unfolding stored AnswerUpTo LineUpTo
-stored-up-to k rest (gives t s) x = tt
-stored-up-to k rest (Storing.refused why s) x = x
+stored-by : (k : Known) (rest : List ℕ) (a : Answer) → AnswerBy a → LineBy OfListing (stored k rest a)
+unfolding stored AnswerBy LineBy
+stored-by k rest (gives t s) x = tt
+stored-by k rest (Storing.refused why s) x = x
 
-formed-up-to : (k : Known) (r : Read Tree) → LineUpTo 8 (formed k r)
-unfolding formed LineUpTo
-formed-up-to k bad = omega arith
-formed-up-to k (is t rest) = stored-up-to k rest (intern t (k .store)) (storing-up-to t (k .store))
+formed-by : (k : Known) (r : Read Tree) → LineBy OfListing (formed k r)
+unfolding formed LineBy
+formed-by k bad = one
+formed-by k (is t rest) = stored-by k rest (intern t (k .store)) (storing-by t (k .store))
 
-swapped-up-to : (substituting : Bool) (k : Known) (r : Read Swap) → LineUpTo 8 (swapped substituting k r)
-unfolding swapped LineUpTo
-swapped-up-to substituting k bad = omega arith
-swapped-up-to substituting k (is s rest) = either-line 8 (substituting && aboveLast aboveVariable (k .swaps) s) _ _ tt (omega arith)
+swapped-by : (substituting : Bool) (k : Known) (r : Read Swap) → LineBy OfListing (swapped substituting k r)
+unfolding swapped LineBy
+swapped-by substituting k bad = one
+swapped-by substituting k (is s rest) = either-line OfListing (substituting && aboveLast aboveVariable (k .swaps) s) _ _ tt one
 
-listing-line-up-to : (substituting : Bool) (k : Known) (first : ℕ) (bs : List ℕ) → LineUpTo 8 (listingLine substituting k first bs)
-unfolding listingLine swapLine nodeLine LineUpTo
-listing-line-up-to substituting k first bs =
-    either-line 8 (eqb first (letter "s")) _ _
-    (either-line 8 (ltb (length (k .swaps)) mostSwaps) _ _ (swapped-up-to substituting k (swapFields (k .nodes) first bs)) (omega arith))
-    (either-line 8 (ltb (length (k .nodes)) mostNodes) _ _ (formed-up-to k (cond (none (k .swaps)) (nodeFields (k .nodes) first bs) bad)) (omega arith))
+listing-line-by : (substituting : Bool) (k : Known) (first : ℕ) (bs : List ℕ) → LineBy OfListing (listingLine substituting k first bs)
+unfolding listingLine swapLine nodeLine LineBy
+listing-line-by substituting k first bs =
+    either-line OfListing (eqb first (letter "s")) _ _
+    (either-line OfListing (ltb (length (k .swaps)) mostSwaps) _ _ (swapped-by substituting k (swapFields (k .nodes) first bs)) two)
+    (either-line OfListing (ltb (length (k .nodes)) mostNodes) _ _ (formed-by k (cond (none (k .swaps)) (nodeFields (k .nodes) first bs) bad)) two)
 
-unfoldable pub ListingUpTo : (most : ℕ) → Listing → Type 0
-ListingUpTo most (accepted root swaps store) = Unit {0}
-ListingUpTo most (Listings.refused why) = numberOf why ≤ most
+unfoldable pub ListingBy : Listing → Type 0
+ListingBy (accepted root swaps store) = Unit {0}
+ListingBy (Listings.refused why) = OfListing (numberOf why)
 
-rooted-up-to : (ts : List Tree) (swaps : List Swap) (store : State) → ListingUpTo 8 (rooted ts swaps store)
-unfolding rooted ListingUpTo
-rooted-up-to [] swaps store = omega arith
-rooted-up-to (t ∷ ts) swaps store = tt
+rooted-by : (ts : List Tree) (swaps : List Swap) (store : State) → ListingBy (rooted ts swaps store)
+unfolding rooted ListingBy
+rooted-by [] swaps store = one
+rooted-by (t ∷ ts) swaps store = tt
 
-whole-up-to : (w : Whole Known Refusal) → WholeUpTo 8 w → ListingUpTo 8 (whole w)
-unfolding whole WholeUpTo ListingUpTo
-whole-up-to (Lines.read k) x = rooted-up-to (k .nodes) (k .swaps) (k .store)
-whole-up-to (Lines.refused why) x = x
+whole-by : (w : Whole Known Refusal) → WholeBy OfListing w → ListingBy (whole w)
+unfolding whole WholeBy ListingBy
+whole-by (Lines.read k) x = rooted-by (k .nodes) (k .swaps) (k .store)
+whole-by (Lines.refused why) x = x
 
-pub listing-up-to : (substituting : Bool) (bs : List ℕ) (store : State) → ListingUpTo 8 (listing substituting bs store)
+pub listing-numbers : (substituting : Bool) (bs : List ℕ) (store : State) → ListingBy (listing substituting bs store)
 unfolding listing
-listing-up-to substituting bs store = whole-up-to _ (text-up-to 8 (listingLine substituting) (listing-line-up-to substituting) (known [] [] store) bs)
+listing-numbers substituting bs store = whole-by _ (text-by OfListing (listingLine substituting) (listing-line-by substituting) (known [] [] store) bs)
 
 -- ---- a sheet: 3, 4
 
-row-up-to : {A : Type 0} (s : Rows) (inOrder : A → Bool) (with : A → Rows) (r : Read A) → LineUpTo 4 (Rows.formed s inOrder with r)
-unfolding Rows.formed LineUpTo
-row-up-to s inOrder with bad = omega arith
-row-up-to s inOrder with (is x rest) = either-line 4 (inOrder x) _ _ tt (omega arith)
+row-by : {A : Type 0} (s : Rows) (inOrder : A → Bool) (with : A → Rows) (r : Read A) → LineBy OfSheet (Rows.formed s inOrder with r)
+unfolding Rows.formed LineBy
+row-by s inOrder with bad = three
+row-by s inOrder with (is x rest) = either-line OfSheet (inOrder x) _ _ tt three
 
-counted-up-to : {A : Type 0} (s : Rows) (most : ℕ) (before : List A) (l : Line Rows Refusal) → LineUpTo 4 l → LineUpTo 4 (Rows.counted s most before l)
-unfolding Rows.counted LineUpTo
-counted-up-to s most before l x = either-line 4 (ltb (length before) most) _ _ x (omega arith)
+counted-by : {A : Type 0} (s : Rows) (most : ℕ) (before : List A) (l : Line Rows Refusal) → LineBy OfSheet l → LineBy OfSheet (Rows.counted s most before l)
+unfolding Rows.counted LineBy
+counted-by s most before l x = either-line OfSheet (ltb (length before) most) _ _ x four
 
-sheet-line-up-to : (s : Rows) (first : ℕ) (bs : List ℕ) → LineUpTo 4 (sheetLine s first bs)
-unfolding sheetLine variableLine cellLine functionLine LineUpTo
-sheet-line-up-to s first bs =
-    either-line 4 (eqb first (letter "v")) _ _ (counted-up-to s _ (s .variables) _ (row-up-to s _ _ _))
-    (either-line 4 (eqb first (letter "m")) _ _ (counted-up-to s _ (s .cells) _ (row-up-to s _ _ _))
-    (either-line 4 (eqb first (letter "t")) _ _ (counted-up-to s _ (s .functions) _ (row-up-to s _ _ _)) (omega arith)))
+sheet-line-by : (s : Rows) (first : ℕ) (bs : List ℕ) → LineBy OfSheet (sheetLine s first bs)
+unfolding sheetLine variableLine cellLine functionLine LineBy
+sheet-line-by s first bs =
+    either-line OfSheet (eqb first (letter "v")) _ _ (counted-by s _ (s .variables) _ (row-by s _ _ _))
+    (either-line OfSheet (eqb first (letter "m")) _ _ (counted-by s _ (s .cells) _ (row-by s _ _ _))
+    (either-line OfSheet (eqb first (letter "t")) _ _ (counted-by s _ (s .functions) _ (row-by s _ _ _)) three))
 
-pub sheet-up-to : (bs : List ℕ) → WholeUpTo 4 (sheet bs)
+pub sheet-numbers : (bs : List ℕ) → WholeBy OfSheet (sheet bs)
 unfolding sheet
-sheet-up-to bs = text-up-to 4 sheetLine sheet-line-up-to (rows [] [] []) bs
+sheet-numbers bs = text-by OfSheet sheetLine sheet-line-by (rows [] [] []) bs
 
--- ---- both
+-- ---- a job: 1, 2, 3, 4, 6, 7, 8
 
-unfoldable pub JobUpTo : (most : ℕ) → Job → Type 0
-JobUpTo most (ready root store rows) = Unit {0}
-JobUpTo most (Calls.refused why) = numberOf why ≤ most
+unfoldable pub JobBy : Job → Type 0
+JobBy (ready root store rows) = Unit {0}
+JobBy (Calls.refused why) = OfJob (numberOf why)
 
-sheet-job : (root : Tree) (store : State) (w : Whole Rows Refusal) → WholeUpTo 4 w → JobUpTo 8 (withSheet root store w)
-unfolding withSheet WholeUpTo JobUpTo
+sheet-job : (root : Tree) (store : State) (w : Whole Rows Refusal) → WholeBy OfSheet w → JobBy (withSheet root store w)
+unfolding withSheet WholeBy JobBy
 sheet-job root store (Lines.read rows) x = tt
-sheet-job root store (Lines.refused why) x = omega arith
+sheet-job root store (Lines.refused why) x = of-sheet x
 
-pub job-up-to : (room : ℕ) (list values : List ℕ) → JobUpTo 8 (job room list values)
-unfolding job afterListing ListingUpTo JobUpTo
-job-up-to room list values = go (listing false list (fresh room 0)) (listing-up-to false list (fresh room 0))
+pub job-numbers : (room : ℕ) (list values : List ℕ) → JobBy (job room list values)
+unfolding job afterListing ListingBy JobBy
+job-numbers room list values = go (listing false list (fresh room 0)) (listing-numbers false list (fresh room 0))
   where
-    go : (l : Listing) → ListingUpTo 8 l → JobUpTo 8 (afterListing Calls.refused l λ root swaps store. withSheet root store (sheet values))
-    go (accepted root swaps store) x = sheet-job root store (sheet values) (sheet-up-to values)
-    go (Listings.refused why) x = x
+    go : (l : Listing) → ListingBy l → JobBy (afterListing Calls.refused l λ root swaps store. withSheet root store (sheet values))
+    go (accepted root swaps store) x = sheet-job root store (sheet values) (sheet-numbers values)
+    go (Listings.refused why) x = of-listing x

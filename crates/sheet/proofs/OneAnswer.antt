@@ -23,7 +23,7 @@ use Rattle.sheet.specs.declared.fields.CellFields.{CellFields}
 use Rattle.sheet.specs.declared.fields.RowFields.{RowFields}
 use Rattle.sheet.specs.declared.lines.Step.{Step}
 use Rattle.sheet.specs.Rows.{Variable, Cell, Row, Rows, Lookup, found, missing, sheet}
-use Rattle.sheet.specs.Seen.{numberOf, seenVariable, seenCell, seenRow, smallRow, VariableInside, CellInside, RowInside}
+use Rattle.sheet.specs.Seen.{numberOf, seenVariable, seenCell, seenRow, smallCell, smallRow, VariableInside, CellInside, RowInside}
 use Rattle.sheet.specs.Table.{rowsOf, seen, seenFound, Takes}
 use Rattle.sheet.proofs.Finding.{number-back}
 
@@ -112,15 +112,15 @@ SameCell (CellFields.Are a b x i) CellFields.Bad = ⊥
 SameCell CellFields.Bad (CellFields.Are c d y j) = ⊥
 SameCell CellFields.Bad CellFields.Bad = Unit {0}
 
-pub one-cell : {want : Read Cell} (text : List ℕ) (r r′ : CellFields) → (seenCell text r ≡ want) × CellInside text r
-    → (seenCell text r′ ≡ want) × CellInside text r′ → SameCell r r′
+pub one-cell : {want : Read Cell} (text : List ℕ) (r r′ : CellFields) → (seenCell text r ≡ want) × smallCell r × CellInside text r
+    → (seenCell text r′ ≡ want) × smallCell r′ × CellInside text r′ → SameCell r r′
 unfolding SameCell
 one-cell text (CellFields.Are a b x i) (CellFields.Are c d y j) p q =
     let e = p .0 ∙ sym (q .0) in
     let region : a ≡ c = cc in
     let index : b ≡ d = cc in
     let real : doubleOf x ≡ doubleOf y = cc in
-    let place : i ≡ j = one-place text i j (p .1) (q .1) cc in
+    let place : i ≡ j = one-place text i j (p .2) (q .2) cc in
     (region, index, real, place)
 one-cell text (CellFields.Are a b x i) CellFields.Bad p q = never (q .0 ∙ sym (p .0))
 one-cell text CellFields.Bad (CellFields.Are c d y j) p q = never (p .0 ∙ sym (q .0))

@@ -23,7 +23,7 @@ same-length-3 : tie.Need-same-length-3
 same-length-3 c = search needs
 
 returns-2 : tie.Need-returns-2
-returns-2 c = writes-node _ _ (c .before .before .before .before .before .before .before .before .before .if1 .left) (c .before .before .before .before .before .write-listing .ensures)
+returns-2 c = writes-node _ _ (c .before .before .before .before .before .before .before .before .before .if1 .left) (c .before .before .before .before .before .write-listing .ensures .0)
 
 pub write-answer-spec : {M : Type 1} → statement M
 write-answer-spec = tie.close (tie.spec refusal-of-requires returns write-listing-requires same-length same-length-2 same-length-3 returns-2)
