@@ -1,12 +1,16 @@
--- What the reducer prints is determined: two answers that its contract allows are the same bytes. Assumes nothing.
-use mathlib.Core.Path.{_≡_, sym, _∙_}
+-- What the reducer prints is determined, for every text: two answers that its contract allows are the same bytes, and as many. Assumes nothing.
+use mathlib.Core.Path.{_≡_, sym, ap, _∙_}
 use Prim.Native.Nat.{ℕ}
 use mathlib.Core.List.{List}
-use lib.ListN.{take}
-use Rattle.console.specs.Parting.{Parted}
+use lib.ListN.{length, take}
+use Rattle.io.specs.Counts.{Counts}
+use Rattle.console.proofs.Parts.{every-text}
 use Rattle.reduce.specs.Reducing.{Reduces}
 
--- every text has such an n: `listing_length` gives it
-pub one-reduction : {text out out₁ out₂ : List ℕ} {room r₁ r₂ n : ℕ} → Parted text n → Reduces room text out r₁ out₁ → Reduces room text out r₂ out₂
-    → take r₁ out₁ ≡ take r₂ out₂
-one-reduction {n = n} p a b = a .bytes n p ∙ sym (b .bytes n p)
+module _ {text out out₁ out₂ : List ℕ} {room r₁ r₂ : ℕ} (a : Reduces room text out r₁ out₁) (b : Reduces room text out r₂ out₂) where
+  pub one-reduction : take r₁ out₁ ≡ take r₂ out₂
+  one-reduction = let p = every-text text in a .bytes (p .place) (p .parted) ∙ sym (b .bytes (p .place) (p .parted))
+
+  -- the answer: how many bytes are printed, by the clause `within`
+  pub one-count : Counts r₁ out₁ → Counts r₂ out₂ → r₁ ≡ r₂
+  one-count c d = c .1 ∙ ap length one-reduction ∙ sym (d .1)

@@ -10,8 +10,8 @@ use Rattle.expression.specs.declared.refusal.Refusal.{Refusal}
 use Rattle.calls.specs.declared.Simplified.{Simplified}
 use Rattle.calls.proofs.OutRoom.{simplify-not-13, simplify-room}
 use Rattle.calls.proofs.Begins.{simplified-begins}
-use Rattle.console.specs.Parting.{Parted}
 use Rattle.console.specs.Answers.{refusedLine}
+use Rattle.console.proofs.Parts.{every-text}
 use Rattle.console.proofs.Refusals.{refused-first, refused-number, refusal-number}
 use Rattle.reduce.specs.Reducing.{simplifiedText, printed, reduction, Reduces}
 
@@ -34,6 +34,5 @@ module _ (room : ℕ) (text out : List ℕ) (n : ℕ) (enough : 36864 ≤ length
       go false p = printed-other at (simplifiedText room text out n .0) refl p
 
 -- on the bytes that it prints: the first r of its output, which has 65,536
-pub never-prints-13 : {text out out′ : List ℕ} {room r n : ℕ} → Parted text n → 36864 ≤ length out → Reduces room text out r out′
-    → (at : ℕ) → take r out′ ≡ refusedLine 13 at → ⊥
-never-prints-13 {text} {out} {room = room} {n = n} p enough q at e = never-13 room text out n enough at (sym (q .bytes n p) ∙ e)
+pub never-prints-13 : {text out out′ : List ℕ} {room r : ℕ} → 36864 ≤ length out → Reduces room text out r out′ → (at : ℕ) → take r out′ ≡ refusedLine 13 at → ⊥
+never-prints-13 {text} {out} {room = room} enough q at e = let p = every-text text in never-13 room text out (p .place) enough at (sym (q .bytes (p .place) (p .parted)) ∙ e)
