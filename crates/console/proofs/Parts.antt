@@ -1,14 +1,14 @@
 -- A text parts at one place, and at one only; and the sheet's part of it is one, with the place where it begins. Assumes nothing.
 use mathlib.Core.Path.{_≡_, sym, subst, _∙_}
-use Prim.Native.Nat.{ℕ, zero, suc, _+_, _<_, min}
+use Prim.Native.Nat.{ℕ, zero, suc, _+_, _<_}
 use native.Mathlib.Omega.{arith}
 use native.Mathlib.Decide.{decLt, ℕ-discrete}
 use mathlib.Core.List.{List, _∷_}
-use lib.ListN.{length, getD, drop}
+use lib.ListN.{length, getD}
 use lib.Seq.{length-take-le}
 use denote.Ref.{RefT}
 use Rattle.text.specs.Reading.{lf}
-use Rattle.console.specs.Parting.{EmptyLine, Parted}
+use Rattle.console.specs.Parting.{EmptyLine, Parted, SheetPart}
 
 -- a place before another one at which the text parts has an empty line, which the other has passed
 not-before : {text : List ℕ} {n m : ℕ} → Parted text n → Parted text m → n < m → ⊥
@@ -65,11 +65,6 @@ pub every-text : (text : List ℕ) → Somewhere text
 every-text text = parts-from text (length text) 0 (omega arith) λ place h x. omega (arith, h)
 
 -- ---- the part that `sheet_of` hands back: its bytes, and where they stand
-
-pub record SheetPart (rest r : RefT (List ℕ)) : Type 0 where
-  pub bytes : r .now ≡ drop 1 (rest .now)
-  pub block : r .ptr .0 ≡ rest .ptr .0
-  pub place : r .ptr .1 ≡ rest .ptr .1 + min 1 (length (rest .now))
 
 pub one-sheet-part : {rest r r′ : RefT (List ℕ)} → SheetPart rest r → SheetPart rest r′ → (r .now ≡ r′ .now) × (r .ptr ≡ r′ .ptr)
 one-sheet-part p q = let b = p .block ∙ sym (q .block) in let a = p .place ∙ sym (q .place) in (p .bytes ∙ sym (q .bytes), λ i. (b i, a i))

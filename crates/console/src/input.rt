@@ -1,9 +1,9 @@
 // The job on standard input: reading it to its end, and where its listing and its sheet part.
 ghost use mathlib.Core.Path.{_≡_};
-ghost use Prim.Native.Nat.{_+_, min};
-ghost use lib.ListN.{length, drop};
+ghost use Prim.Native.Nat.{min};
+ghost use lib.ListN.{length};
 ghost use Rattle.io.specs.Counts.{Counts};
-ghost use Rattle.console.specs.Parting.{Parted};
+ghost use Rattle.console.specs.Parting.{Parted, SheetPart};
 use libc::STDERR_FILENO;
 use libc::STDIN_FILENO;
 
@@ -61,8 +61,7 @@ pub fn listing_length(text: &[u8]) -> usize
 
 // The sheet: what follows after the line feed of the empty line.
 pub fn sheet_of(rest: &[u8]) -> &[u8]
-    ensures { λ r. ⌜ now r ≡ drop 1 (now (rest .entry)) ⌝ }
-    ensures place { λ r. ⌜ (r .ptr .0 ≡ rest .entry .ptr .0) × (r .ptr .1 ≡ rest .entry .ptr .1 + min 1 (length (now (rest .entry)))) ⌝ }
+    ensures { λ r. ⌜ SheetPart (rest .entry) r ⌝ }
 {
     if rest.len() == 0 {
         return rest;

@@ -13,7 +13,7 @@ use Rattle.evaluation.specs.declared.Evaluation.{Evaluation}
 use Rattle.tape.specs.declared.Picked.{Picked}
 use Rattle.tape.specs.Tapes.{picked}
 use Rattle.tape.specs.Playing.{played}
-use Rattle.tape.specs.Run.{Compiles}
+use Rattle.tape.specs.Run.{Compiles, Own}
 
 -- answer and output bytes
 pub one-compiled : {m : Memory} {root nodes : ℕ} {r r′ : Written} (out : List ℕ) {out₁ out₂ : List ℕ} → Holds m nodes → root < nodes
@@ -28,9 +28,6 @@ pub one-which : (a b : List ℕ) {r r′ : Picked} → r ≡ picked a b → r′
 one-which a b p q = p ∙ sym q
 
 -- ---- the slice that `pick` hands back, and not its bytes alone: the clause `own`, where `which` is the choice
-
-abbrev pub Own : (which : Picked) (a b r : RefT (List ℕ)) → Type 0
-Own which a b r = (which ≡ Picked.First → r ≡ a) × (which ≡ Picked.Second → r ≡ b) × (which ≡ Picked.Nothing → r .ptr ≡ a .ptr)
 
 -- where a tape is sound it is that very slice
 pub one-slice : (which : Picked) {a b r r′ : RefT (List ℕ)} → (which ≡ Picked.Nothing → ⊥) → Own which a b r → Own which a b r′ → r ≡ r′

@@ -2,9 +2,8 @@
 ghost use mathlib.Core.Path.{_≡_};
 ghost use Prim.Native.Nat.{_*_, _≤_};
 ghost use lib.ListN.{length};
-ghost use Rattle.tape.specs.declared.Picked.{Picked};
 ghost use Rattle.tape.specs.Tapes as Tapes;
-ghost use Rattle.tape.specs.Run.{valuesAfter, isSound};
+ghost use Rattle.tape.specs.Run.{valuesAfter, isSound, Own};
 use steps::Fields;
 use steps::Step;
 use steps::bytes::fields_at;
@@ -134,7 +133,7 @@ pub fn which(a: &[u8], b: &[u8]) -> Picked
 // The tape that was picked, as the caller lent it, or the empty part of the first.
 pub fn pick<'a>(a: &'a [u8], b: &'a [u8]) -> &'a [u8]
     ensures { λ r. ⌜ now r ≡ Tapes.pick (now (a .entry)) (now (b .entry)) ⌝ }
-    ensures own { λ r. ⌜ (Tapes.picked (now (a .entry)) (now (b .entry)) ≡ Picked.First → r ≡ a .entry) × (Tapes.picked (now (a .entry)) (now (b .entry)) ≡ Picked.Second → r ≡ b .entry) × (Tapes.picked (now (a .entry)) (now (b .entry)) ≡ Picked.Nothing → r .ptr ≡ a .entry .ptr) ⌝ }
+    ensures own { λ r. ⌜ Own (Tapes.picked (now (a .entry)) (now (b .entry))) (a .entry) (b .entry) r ⌝ }
 {
     let choice = which(a, b);
     match choice {

@@ -9,17 +9,19 @@ use Rattle.console.proofs.input.sheet_of.Statement.{statement}
 use Rattle.console.proofs.input.sheet_of.Tie as tie
 
 returns : tie.Need-returns
-returns c = (
-  drop-of-length-le (c .before .args .rest .now) {i = 0} (omega arith) ∙
-      sym (drop-of-length-le (c .before .args .rest .now) {i = 1} (omega arith)),
-  (refl, omega arith),
-)
+returns c = record {
+  bytes =
+      drop-of-length-le (c .before .args .rest .now) {i = 0} (omega arith) ∙
+      sym (drop-of-length-le (c .before .args .rest .now) {i = 1} (omega arith));
+  block = refl;
+  place = omega arith;
+}
 
 returns-2 : tie.Need-returns-2
 returns-2 c =
     let short : length (drop 1 (c .before .before .args .rest .now)) ≤ length (c .before .before .args .rest .now) - 1 =
     simp length-drop (omega arith) in
-    (take-all _ _ short, (refl, omega arith))
+    record { bytes = take-all _ _ short; block = refl; place = omega arith }
 
 pub sheet-of-spec : {M : Type 1} → statement M
 sheet-of-spec = tie.close (tie.spec returns (λ c. search needs) (λ c. search needs) (λ c. search needs) returns-2)

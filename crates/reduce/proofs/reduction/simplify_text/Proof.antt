@@ -5,7 +5,7 @@ use Rattle.reduce.proofs.reduction.simplify_text.Statement.{statement}
 use Rattle.reduce.proofs.reduction.simplify_text.Tie as tie
 
 returns : tie.Need-returns
-returns c = simplifies (c .before .before .before .before .before .before .before .before .before .before .before .listing-length .ensures) (c .before .before .before .before .before .before .before .before .before .sheet-of .ensures .0) (c .before .before .before .simplify .ensures)
+returns c = simplifies (c .before .before .before .before .before .before .before .before .before .before .before .listing-length .ensures) (c .before .before .before .before .before .before .before .before .before .sheet-of .ensures .bytes) (c .before .before .before .simplify .ensures)
 
 pub simplify-text-spec : {M : Type 1} → statement M
 simplify-text-spec =
