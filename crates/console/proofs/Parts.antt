@@ -8,7 +8,8 @@ use lib.ListN.{length, getD}
 use lib.Seq.{length-take-le}
 use denote.Ref.{RefT}
 use Rattle.text.specs.Reading.{lf}
-use Rattle.console.specs.Parting.{EmptyLine, Parted, SheetPart}
+use Rattle.console.specs.Parting.{EmptyLine, Parted}
+use Rattle.console.specs.Slices.{SheetPart}
 
 -- a place before another one at which the text parts has an empty line, which the other has passed
 not-before : {text : List ℕ} {n m : ℕ} → Parted text n → Parted text m → n < m → ⊥

@@ -1,4 +1,5 @@
--- The definitions that the contracts of `console` cite, all to believe.
+-- The definitions that the contracts of `console` cite. To believe: Parting, Answers, TapeText; Slices only connects.
 pub mod Parting
 pub mod Answers
 pub mod TapeText
+pub mod Slices

@@ -3,7 +3,8 @@ ghost use mathlib.Core.Path.{_≡_};
 ghost use Prim.Native.Nat.{min};
 ghost use lib.ListN.{length};
 ghost use Rattle.io.specs.Counts.{Counts};
-ghost use Rattle.console.specs.Parting.{Parted, SheetPart};
+ghost use Rattle.console.specs.Parting.{Parted};
+ghost use Rattle.console.specs.Slices.{SheetPart};
 use libc::STDERR_FILENO;
 use libc::STDIN_FILENO;
 

@@ -36,8 +36,8 @@ unfoldable pub keeping : Tree → Answer → Answer
 keeping t answer = andThen answer λ u s. gives u (keep t u s)
 
 module _ (rows : Rows) where
-  -- A plan carried out, where `S` is what simplifies again: from left to right, operands before their node
-  unfoldable pub carryOut : (S : Simplifier) → Plan → State → Answer
+  -- A plan carried out, where `simplified` is what S stands for: from left to right, operands before their node
+  unfoldable pub carryOut : (simplified : Simplifier) → Plan → State → Answer
   carryOut simplified (the t) s = gives t s
   carryOut simplified (new t) s = intern t s
   carryOut simplified (folded op x y) s = foldedTo (calculateInfix rows op x y) s

@@ -27,6 +27,9 @@ fieldsOf (Step.Infix o) = fields 7 (infixCode o) 0 0 0 0
 
 -- ---- "24 bytes, little-endian"
 
+abbrev pub stepBytes : ℕ
+stepBytes = 24
+
 -- the k lowest bytes of n, the lowest first
 unfoldable pub little : (k : ℕ) → ℕ → List ℕ
 little zero n = []

@@ -11,9 +11,9 @@ use Rattle.sheet.specs.declared.Counts.{Counts}
 use Rattle.sheet.specs.Table.{rowsOf, Held}
 use Rattle.evaluation.specs.declared.Evaluation.{Evaluation}
 use Rattle.tape.specs.declared.Picked.{Picked}
-use Rattle.tape.specs.Tapes.{picked}
+use Rattle.tape.specs.Tapes.{picked, Own}
 use Rattle.tape.specs.Playing.{played}
-use Rattle.tape.specs.Run.{Compiles, Own}
+use Rattle.tape.specs.Run.{Compiles}
 
 -- answer and output bytes
 pub one-compiled : {m : Memory} {root nodes : ℕ} {r r′ : Written} (out : List ℕ) {out₁ out₂ : List ℕ} → Holds m nodes → root < nodes

@@ -5,7 +5,6 @@ use mathlib.Core.List.{List, [], _∷_}
 use mathlib.Core.Bool.{Bool, true, false, cond}
 use lib.ListN.{length, getD}
 use lib.Ieee.{nan}
-use denote.Ref.{RefT}
 use Rattle.complex.specs.declared.Complex.{Complex}
 use Rattle.expression.specs.Trees.{number, pi, variable, cell}
 use Rattle.expression.specs.declared.node.Expression.{Expression}
@@ -20,7 +19,6 @@ use Rattle.steps.specs.declared.Step.{Step}
 use Rattle.steps.specs.declared.Fields.{Fields}
 use Rattle.steps.specs.Steps.{encoded, stepOf}
 use Rattle.tape.specs.declared.Checked.{Checked}
-use Rattle.tape.specs.declared.Picked.{Picked}
 use Rattle.tape.specs.Tapes.{tape, compiled, after, allowed}
 
 -- ---- compiling
@@ -77,7 +75,3 @@ valueOf rows (Step.Memory region index) x y = leafValue rows (cell region index)
 valueOf rows (Step.Function f) x y = calculateFunction rows f x
 valueOf rows (Step.Prefix o) x y = Evaluation.Value (calculatePrefix o x)
 valueOf rows (Step.Infix o) x y = calculateInfix rows o x y
-
--- the slice that is handed back: the very tape that is picked, and where none is a part that begins where the first does
-abbrev pub Own : (which : Picked) (a b r : RefT (List ℕ)) → Type 0
-Own which a b r = (which ≡ Picked.First → r ≡ a) × (which ≡ Picked.Second → r ≡ b) × (which ≡ Picked.Nothing → r .ptr ≡ a .ptr)

@@ -1,15 +1,18 @@
 -- The tape of an expression, when a tape is sound, and which of two is picked, by 01's "The tape". Definitions only.
+use mathlib.Core.Path.{_≡_}
 use Prim.Native.Nat.{ℕ, zero, suc, _+_, _/_, _%_, _-_}
 use mathlib.Core.List.{List, [], _∷_, _++_, map}
 use mathlib.Core.Bool.{Bool, cond, _&&_}
 use lib.ListN.{length, drop}
 use lib.Dec.{ltb, eqb}
+use denote.Ref.{RefT}
 use Rattle.expression.specs.declared.refusal.Refusal.{Refusal}
 use Rattle.expression.specs.Trees.{Tree, Leaf, number, pi, variable, cell, leaf, functionCall, prefixed, infixed, size}
 use Rattle.writing.specs.declared.Written.{Written}
+use Rattle.writing.specs.Order.{fitted}
 use Rattle.steps.specs.declared.Step.{Step}
 use Rattle.steps.specs.declared.Fields.{Fields}
-use Rattle.steps.specs.Steps.{within, tapeOf, fieldsIn, known, stepOf}
+use Rattle.steps.specs.Steps.{stepBytes, within, tapeOf, fieldsIn, known, stepOf}
 use Rattle.tape.specs.declared.Checked.{Checked}
 use Rattle.tape.specs.declared.Picked.{Picked}
 
@@ -27,29 +30,28 @@ steps (functionCall f t) = steps t ++ (Step.Function f ∷ [])
 steps (prefixed o t) = steps t ++ (Step.Prefix o ∷ [])
 steps (infixed o l r) = steps l ++ (steps r ++ (Step.Infix o ∷ []))
 
+-- "size over 512", "1 to 512 whole steps"
 abbrev pub mostSteps : ℕ
 mostSteps = 512
 
 abbrev pub tape : Tree → List ℕ
 tape t = tapeOf (steps t)
 
--- "14 LONG_TAPE: size over 512"; "13 OUT_ROOM: output shorter than the result"; "A success writes its bytes at the start of the output and keeps
--- the rest"
+-- "14 LONG_TAPE: size over 512", then 13
 unfoldable pub compiled : Tree → (out : List ℕ) → Written × List ℕ
 compiled t out =
     cond (ltb mostSteps (size t)) (Written.Refused Refusal.LongTape, out)
-    (cond (ltb (length out) (length (tape t))) (Written.Refused Refusal.OutRoom, out)
-    (Written.Bytes (length (tape t)), tape t ++ drop (length (tape t)) out))
+    (fitted (tape t) out)
 
 -- ---- soundness
 
--- the fields of n steps of 24 bytes
+-- the fields of n steps
 unfoldable pub fieldsOfAll : (n : ℕ) → List ℕ → List Fields
 fieldsOfAll zero bs = []
-fieldsOfAll (suc n) bs = fieldsIn bs ∷ fieldsOfAll n (drop 24 bs)
+fieldsOfAll (suc n) bs = fieldsIn bs ∷ fieldsOfAll n (drop stepBytes bs)
 
 abbrev pub count : List ℕ → ℕ
-count bs = length bs / 24
+count bs = length bs / stepBytes
 
 -- the steps that a tape is
 abbrev pub stepsIn : List ℕ → List Step
@@ -57,7 +59,7 @@ stepsIn bs = map stepOf (fieldsOfAll (count bs) bs)
 
 -- "1 to 512 whole steps"
 abbrev pub whole : List ℕ → Bool
-whole bs = eqb (length bs % 24) 0 && within mostSteps (count bs)
+whole bs = eqb (length bs % stepBytes) 0 && within mostSteps (count bs)
 
 -- how many values a step takes from the stack; each step leaves one
 unfoldable pub takes : Step → ℕ
@@ -69,6 +71,7 @@ takes (Step.Function f) = 1
 takes (Step.Prefix o) = 1
 takes (Step.Infix o) = 2
 
+-- "nor passes 64"
 abbrev pub mostValues : ℕ
 mostValues = 64
 
@@ -107,3 +110,7 @@ partOf Picked.Nothing a b = []
 
 abbrev pub pick : (a b : List ℕ) → List ℕ
 pick a b = partOf (picked a b) a b
+
+-- "hands back, as a part of the caller's own": the very slice that was lent, or a part that begins where the first does
+abbrev pub Own : (which : Picked) (a b r : RefT (List ℕ)) → Type 0
+Own which a b r = (which ≡ Picked.First → r ≡ a) × (which ≡ Picked.Second → r ≡ b) × (which ≡ Picked.Nothing → r .ptr ≡ a .ptr)

@@ -3,7 +3,7 @@ ghost use mathlib.Core.Path.{_≡_};
 ghost use Prim.Native.Nat.{_*_, _≤_};
 ghost use lib.ListN.{length};
 ghost use Rattle.tape.specs.Tapes as Tapes;
-ghost use Rattle.tape.specs.Run.{valuesAfter, isSound, Own};
+ghost use Rattle.tape.specs.Run.{valuesAfter, isSound};
 use steps::Fields;
 use steps::Step;
 use steps::bytes::fields_at;
@@ -133,7 +133,7 @@ pub fn which(a: &[u8], b: &[u8]) -> Picked
 // The tape that was picked, as the caller lent it, or the empty part of the first.
 pub fn pick<'a>(a: &'a [u8], b: &'a [u8]) -> &'a [u8]
     ensures { λ r. ⌜ now r ≡ Tapes.pick (now (a .entry)) (now (b .entry)) ⌝ }
-    ensures own { λ r. ⌜ Own (Tapes.picked (now (a .entry)) (now (b .entry))) (a .entry) (b .entry) r ⌝ }
+    ensures own { λ r. ⌜ Tapes.Own (Tapes.picked (now (a .entry)) (now (b .entry))) (a .entry) (b .entry) r ⌝ }
 {
     let choice = which(a, b);
     match choice {

@@ -55,10 +55,14 @@ text lines (t ∷ ts) = line (lineFields lines t) ++ text lines ts
 abbrev pub textOf : Tree → List ℕ
 textOf t = text (order t) (order t)
 
--- "2 LONG_LIST: a result listing of over 1024 lines", 0; "13 OUT_ROOM: output shorter than the result"; "A success writes its bytes at the start of
--- the output and keeps the rest"
+-- "13 OUT_ROOM: output shorter than the result"; "A success writes its bytes at the start of the output and keeps the rest"
+abbrev pub fitted : (result out : List ℕ) → Written × List ℕ
+fitted result out =
+    cond (ltb (length out) (length result)) (Written.Refused Refusal.OutRoom, out)
+    (Written.Bytes (length result), result ++ drop (length result) out)
+
+-- "2 LONG_LIST: a result listing of over 1024 lines", 0; then 13
 unfoldable pub written : Tree → (out : List ℕ) → Written × List ℕ
 written t out =
     cond (ltb mostNodes (length (order t))) (Written.Refused (Refusal.LongList 0), out)
-    (cond (ltb (length out) (length (textOf t))) (Written.Refused Refusal.OutRoom, out)
-    (Written.Bytes (length (textOf t)), textOf t ++ drop (length (textOf t)) out))
+    (fitted (textOf t) out)
