@@ -1,4 +1,6 @@
 // The memory that a case lends: whether all of it is zero after a call, and the paper of an output.
+ghost use mathlib.Core.Path.{_≡_};
+ghost use Rattle.replay.specs.Judges.{clear, written};
 use super::say;
 use super::slices::is_all;
 use super::slices::is_same;
@@ -17,7 +19,9 @@ pub fn is_clear(
     store: &[[u64; 4]; 4096],
     desk: &[u64; DESK_WORDS],
     table: &[u64; TABLE_WORDS],
-) -> bool {
+) -> bool
+    ensures { λ r. ⌜ r ≡ clear rows (now (store .entry)) (now (desk .entry)) (now (table .entry)) ⌝ }
+{
     if !is_zero_in(store, rows) {
         return false;
     }
@@ -28,7 +32,9 @@ pub fn is_clear(
 }
 
 // Whether a paper begins with the wanted bytes, and the others are blank.
-pub fn is_written(wanted: &[u8], paper: &[u8]) -> bool {
+pub fn is_written(wanted: &[u8], paper: &[u8]) -> bool
+    ensures { λ r. ⌜ r ≡ written (now (wanted .entry)) (now (paper .entry)) ⌝ }
+{
     let n = part_of_bytes(paper, wanted.len());
     if !is_same(wanted, &paper[..n]) {
         say::fault(b"the port has written something else");

@@ -1,6 +1,9 @@
 // A line of a list of cases: one or two letters, and fields of hex digits in either case, each after a tab. What they stand
 // for is said where the lists are made, in tests/ and in tests/rust.
 ghost use Prim.Native.Nat.{_<_};
+ghost use mathlib.Core.Path.{_≡_};
+ghost use lib.Dec.{eqb};
+ghost use Rattle.replay.specs.Judges.{digitOf};
 ghost use Rattle.io.specs.Counts.{Counts};
 use super::slices::part_of_bytes;
 
@@ -21,13 +24,17 @@ impl Line {
         }
     }
 
-    pub fn is_none(self) -> bool {
+    pub fn is_none(self) -> bool
+        ensures { λ r. ⌜ r ≡ eqb (self .kind) 0 ⌝ }
+    {
         self.kind == 0
     }
 }
 
 // The value of a hex digit; no other byte stands where it is asked.
-pub fn digit(c: u8) -> u8 {
+pub fn digit(c: u8) -> u8
+    ensures { λ r. ⌜ r ≡ digitOf c ⌝ }
+{
     if c <= b'9' { c % 16 } else { c % 8 + 9 }
 }
 

@@ -1,5 +1,8 @@
 // What is printed: words and numbers, the fields of a line, and what is wrong.
 ghost use Prim.Native.Nat.{_≤_};
+ghost use mathlib.Core.Path.{_≡_};
+ghost use mathlib.Core.Bool.{cond};
+ghost use Rattle.replay.specs.Judges.{sameUpTo};
 use libc::STDOUT_FILENO;
 
 pub fn word(text: &[u8]) {
@@ -39,7 +42,9 @@ fn answer(whose: &[u8], words: &[u64; 6]) {
     word(b"\n");
 }
 
-fn is_same_answer(a: &[u64; 6], b: &[u64; 6]) -> bool {
+fn is_same_answer(a: &[u64; 6], b: &[u64; 6]) -> bool
+    ensures { λ r. ⌜ r ≡ sameUpTo 6 (now (a .entry)) (now (b .entry)) ⌝ }
+{
     let mut i = 0;
     while i < 6 {
         if a[i] != b[i] {
@@ -51,7 +56,9 @@ fn is_same_answer(a: &[u64; 6], b: &[u64; 6]) -> bool {
 }
 
 // Whether an answer is the wanted one; prints both if it is not. `whose` is the one that it was wanted from.
-pub fn is_right(whose: &[u8], wanted: &[u64; 6], got: &[u64; 6]) -> bool {
+pub fn is_right(whose: &[u8], wanted: &[u64; 6], got: &[u64; 6]) -> bool
+    ensures { λ r. ⌜ r ≡ sameUpTo 6 (now (wanted .entry)) (now (got .entry)) ⌝ }
+{
     if is_same_answer(wanted, got) {
         return true;
     }
@@ -63,6 +70,7 @@ pub fn is_right(whose: &[u8], wanted: &[u64; 6], got: &[u64; 6]) -> bool {
 // Names the case if it is wrong, and answers 1 then and 0 otherwise.
 pub fn count_wrong(case: u64, is_right: bool) -> u64
     ensures { λ r. ⌜ r ≤ 1 ⌝ }
+    ensures wrong { λ r. ⌜ r ≡ cond «is_right» 0 1 ⌝ }
 {
     if is_right {
         return 0;

@@ -9,5 +9,5 @@ pub part-of-bytes-spec : {M : Type 1} → statement M
 part-of-bytes-spec =
     tie.close
     (tie.spec
-    (λ c. (omega arith, sym (length-take-le _ _ (omega arith))))
-    (λ c. (omega arith, sym (length-take-le _ _ (omega arith)))))
+    (λ c. ((omega arith, sym (length-take-le _ _ (omega arith))), omega arith))
+    (λ c. ((omega arith, sym (length-take-le _ _ (omega arith))), omega arith)))

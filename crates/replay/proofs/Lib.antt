@@ -1,0 +1,2 @@
+-- The theorems about the judges: what it means that one says yes.
+pub mod Judging

@@ -1,0 +1,2 @@
+-- What the contracts of `replay` cite: when a replayed case counts as right.
+pub mod Judges
