@@ -1,9 +1,11 @@
 // Reading: a listing, its lines alone, a sheet, and a job, which is a listing and a sheet.
+ghost use mathlib.Core.Path.{_≡_};
 ghost use Prim.Native.Nat.{_≤_};
 ghost use lib.ListN.{length};
 ghost use Rattle.memory.specs.Layout.{tableWords};
 ghost use Rattle.store.specs.Held.{lent};
 ghost use Rattle.timed.specs.Promises.{ReadsListing, ReadsSheet, ReadsTexts};
+ghost use Rattle.timed.specs.Reading.{withFields, ReadsLines};
 use super::packing::packed_job;
 use super::packing::packed_listing;
 use super::packing::packed_sheet;
@@ -36,6 +38,7 @@ pub extern "C" fn timed_read_listing(
 // Three words for each line.
 fn put_fields(table: &mut [u64], line: usize, f: Fields)
     requires { ⌜ line ≤ 1024 ⌝ }
+    ensures { λ _. ⌜ now (table .exit) ≡ withFields (now (table .entry)) line f ⌝ }
 {
     put(table, 3 * line, f.code);
     put(table, 3 * line + 1, f.first);
@@ -45,7 +48,9 @@ fn put_fields(table: &mut [u64], line: usize, f: Fields)
 // The lines of a listing without a store: of each the fields of a node whose operands are numbers of lines. The answer
 // is how many lines there are.
 #[no_mangle]
-pub extern "C" fn timed_read_lines(text: &[u8], table: &mut [u64]) -> u64 {
+pub extern "C" fn timed_read_lines(text: &[u8], table: &mut [u64]) -> u64
+    ensures { λ r. ⌜ ReadsLines (now (text .entry)) (now (table .entry)) r (now (table .exit)) ⌝ }
+{
     let mut at: usize = 0;
     let mut lines: usize = 0;
     while at < text.len() {
