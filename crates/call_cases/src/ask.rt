@@ -1,4 +1,6 @@
 // The port is asked, through the same functions as C asks it. All memory holds the case's word before.
+ghost use mathlib.Core.Path.{_≡_};
+ghost use Rattle.call_cases.specs.Judging.{answeredBy};
 use super::case::Case;
 use exports::findavoreb_compile;
 use exports::findavoreb_evaluate;
@@ -93,7 +95,9 @@ pub fn play(case: Case, tape: &[u8], sheet: &[u8]) -> Told {
 }
 
 // Whether the port has left the memory zero; says so if it has not.
-pub fn is_left_clear(told: Told) -> bool {
+pub fn is_left_clear(told: Told) -> bool
+    ensures { λ r. ⌜ r ≡ told .«is_clear» ⌝ }
+{
     if !told.is_clear {
         say::fault(b"the port has left something in the work memory");
     }
@@ -101,7 +105,9 @@ pub fn is_left_clear(told: Told) -> bool {
 }
 
 // Whether the answer is the wanted one, and the memory zero.
-pub fn is_right(whose: &[u8], wanted: [u64; 6], told: Told) -> bool {
+pub fn is_right(whose: &[u8], wanted: [u64; 6], told: Told) -> bool
+    ensures { λ r. ⌜ r ≡ answeredBy wanted (told .words) (told .«is_clear») ⌝ }
+{
     let words = told.words;
     if !say::is_right(whose, &wanted, &words) {
         return false;

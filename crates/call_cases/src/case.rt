@@ -1,5 +1,7 @@
 // A case of the public calls as a line of a list has it; tests/call_cases.py and tests/rust/README.md say what each field
 // stands for.
+ghost use mathlib.Core.Path.{_≡_};
+ghost use lib.Dec.{eqb};
 use replay::line::Line;
 use replay::line::next_line;
 
@@ -23,7 +25,9 @@ pub struct Case {
 
 impl Case {
     // What stands at the end of a list has no kind.
-    pub fn is_none(self) -> bool {
+    pub fn is_none(self) -> bool
+        ensures { λ r. ⌜ r ≡ eqb (self .kind) 0 ⌝ }
+    {
         self.kind == 0
     }
 }

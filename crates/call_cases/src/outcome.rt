@@ -1,4 +1,8 @@
 // What comes of a case, and how many tapes there were.
+ghost use mathlib.Core.Path.{_≡_};
+ghost use mathlib.Core.Bool.{cond};
+ghost use Rattle.call_cases.specs.declared.outcome.Outcome.{Outcome as Judged};
+ghost use Rattle.call_cases.specs.Judging.{rightly};
 use replay::lists::MOST;
 use replay::say::decimal;
 use replay::say::word;
@@ -14,15 +18,22 @@ pub enum Outcome {
 }
 
 impl Outcome {
-    pub fn is_right(self) -> bool {
+    pub fn is_right(self) -> bool
+        ensures { λ r. ⌜ r ≡ rightly self ⌝ }
+    {
         match self {
             Outcome::Wrong => false,
-            _ => true,
+            Outcome::Right => true,
+            Outcome::Played => true,
+            Outcome::Long => true,
+            Outcome::Refused => true,
         }
     }
 
     // This one if all is right.
-    pub fn if_right(self, is_right: bool) -> Self {
+    pub fn if_right(self, is_right: bool) -> Self
+        ensures { λ r. ⌜ r ≡ cond «is_right» self Judged.Wrong ⌝ }
+    {
         if is_right { self } else { Outcome::Wrong }
     }
 }
