@@ -9,7 +9,7 @@ use lib.ListN.{length, getD, take, drop, replicate, length-drop, drop-of-length-
 use lib.Seq.{getD-drop, take-length, take-all}
 use lib.Dec.{eqb}
 use borrow.Author.Tests.{eqb-true, eq-eqb, ne-eqb, le-leb, lt-leb, not-true, not-false}
-use Rattle.replay.specs.Judges.{every, same, sameUpTo, allAre, blank, blankRows, clear, written, digitOf}
+use Rattle.replay.specs.Judges.{every, same, sameUpTo, allAre, blank, blankRows, written, digitOf}
 
 -- ---- a test at each of the first places
 
