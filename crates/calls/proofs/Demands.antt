@@ -1,7 +1,9 @@
 -- The demands, in their order and words: each is one statement, made of the laws that prove it. What no theorem can say is left out: that the
 -- answers equal the Rust's is compared by running, and where the Rust breaks arithmetic or the Quil specification docs/DIFFERENCES.md says so. That
 -- the programs give what is said here of the definitions is in the contracts of the calls; that an operation rounds once is lib.Ieee's; the rules
--- for function, prefix, cache and limit are in simplification/specs; the stack is that of `run`, after each step up to the first lack. Assumes nothing.
+-- for function and prefix are in arms/specs/Arms, for the cache in store/specs/Storing, for pi, limit and leaves in tasks/specs/Tasks, and are joined in
+-- simplification/specs/Simplifying; the stack is that of `run`, after each step up to the first lack, and the player has it (tape/proofs/Standing).
+-- Assumes nothing.
 use mathlib.Core.Path.{_≡_, refl, sym, ap, subst}
 use mathlib.Core.Bool.{false}
 use mathlib.Core.List.{List, [], _++_}

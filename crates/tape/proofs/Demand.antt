@@ -62,7 +62,7 @@ fields-steps (s ∷ ss) p = λ i. step-back s (p .0) i ∷ fields-steps ss (p .1
 tape-count : (ss : List Step) → count (tapeOf ss) ≡ length ss
 tape-count ss = omega (arith, tape-size ss)
 
--- "The tape's bytes determine the steps": decoding what was encoded gives it back
+-- the tape's bytes determine the steps: decoding what was encoded gives it back
 pub steps-back : (ss : List Step) → AllProper ss → stepsIn (tapeOf ss) ≡ ss
 steps-back ss p = ap (λ k. map stepOf (fieldsOfAll k (tapeOf ss))) (tape-count ss) ∙ ap (map stepOf) (tape-fields ss p) ∙ fields-steps ss p
 

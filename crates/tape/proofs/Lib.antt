@@ -5,4 +5,5 @@ pub mod Depth
 pub mod Prefixes
 pub mod Emitting
 pub mod Stacks
+pub mod Standing
 pub mod OneAnswer

@@ -108,7 +108,7 @@ module _ (rows : Rows) where
   run-left [] stack l = l
   run-left (s ∷ ss) stack l = then-left (step rows s stack) (λ stack. run rows ss stack) (step-left s stack) λ next m. run-left ss next m
 
-  run-append : (ss us : List Step) (stack : List Complex) → run rows (ss ++ us) stack ≡ andThen (run rows ss stack) (λ stack. run rows us stack)
+  pub run-append : (ss us : List Step) (stack : List Complex) → run rows (ss ++ us) stack ≡ andThen (run rows ss stack) (λ stack. run rows us stack)
   unfolding run andThen
   run-append [] us stack = refl
   run-append (s ∷ ss) us stack =

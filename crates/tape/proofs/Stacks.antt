@@ -6,14 +6,12 @@ use Prim.Native.Nat.{ℕ, zero, suc, _+_, _*_, _<_, _≤_, _-_}
 use native.Mathlib.Nat.{sub-zero}
 use native.Mathlib.Numerals.{add-one}
 use native.Mathlib.Omega.{arith}
-use lib.ListN.{length, getD, set, drop, length-set}
+use lib.ListN.{length, getD, set, drop}
 use borrow.Author.Tests.{lt-ltb}
 use denote.Enum.Declared.{tagOf}
 use types.Run.{OneOf}
 use Rattle.complex.specs.declared.Complex.{Complex}
-use Rattle.sheet.specs.declared.Counts.{Counts}
 use Rattle.sheet.specs.Rows.{Rows}
-use Rattle.sheet.specs.Table.{rowsOf, Held}
 use Rattle.evaluation.proofs.Evaluation.{the-type}
 use Rattle.evaluation.specs.declared.Evaluation.{Evaluation}
 use Rattle.steps.specs.declared.Step.{Step}
@@ -108,10 +106,6 @@ left-begins bs e =
     let s = sound-is bs e in
     record { inside = omega arith; few = omega arith; long = s .few; sound = ap (checkFrom 0 0) (all-left (count bs) bs) ∙ s .steps }
 
-pub same-begins : (rows : Rows) (bs : List ℕ) (xs : List Complex) → Same rows bs 0 xs 0
-unfolding stackOf
-same-begins rows bs xs = ap (λ fs. run rows (map stepOf fs) []) (all-left (count bs) bs)
-
 -- the step that comes next
 module _ {bs : List ℕ} {i depth : ℕ} (h : Left bs i depth) (l : i < count bs) {f : Fields} {s : Step} (e : f ≡ fieldsIn (drop (24 * i) bs)) (t : s ≡ stepOf f) where
   rest : List Fields
@@ -139,6 +133,9 @@ module _ {bs : List ℕ} {i depth : ℕ} (h : Left bs i depth) (l : i < count bs
       let p : depth - takes s + 1 ≡ after depth (stepOf f) = omega (arith, ap takes t) in
       record { inside = omega (arith, l); few = omega (arith, p, a .0 .room); long = h .long; sound = (λ j. checkFrom (add-one i j) (p j) rest) ∙ a .1 }
 
+  pub next-left : leftSteps bs i ≡ s ∷ leftSteps bs (i + 1)
+  next-left = ap (map stepOf) (remaining (count bs) i bs l) ∙ (λ j. stepOf (sym e j) ∷ leftSteps bs (i + 1)) ∙ λ j. sym t j ∷ leftSteps bs (i + 1)
+
   module _ (rows : Rows) (xs : List Complex) (r : Same rows bs i xs depth) where
     abbrev slot : ℕ
     slot = depth - takes s
@@ -149,8 +146,7 @@ module _ {bs : List ℕ} {i depth : ℕ} (h : Left bs i depth) (l : i < count bs
     unfolding run
     now-runs {value} p =
         let q : push value (stackOf xs slot) ≡ step rows s (stackOf xs depth) = ap (λ v. push v (stackOf xs slot)) p ∙ sym (step-is rows s xs depth (taken .enough)) in
-        let c : map stepOf (fieldsOfAll (count bs - i) (drop (24 * i) bs)) ≡ s ∷ leftSteps bs (i + 1) = ap (map stepOf) (remaining (count bs) i bs l) ∙ (λ j. stepOf (sym e j) ∷ leftSteps bs (i + 1)) ∙ λ j. sym t j ∷ leftSteps bs (i + 1) in
-        ap (λ o. andThen o (λ stack. run rows (leftSteps bs (i + 1)) stack)) q ∙ ap (λ ss. run rows ss (stackOf xs depth)) (sym c) ∙ r
+        ap (λ o. andThen o (λ stack. run rows (leftSteps bs (i + 1)) stack)) q ∙ ap (λ ss. run rows ss (stackOf xs depth)) (sym next-left) ∙ r
 
     -- its slots as the player reads them
     pub value-read : {x y : Complex} {value : Evaluation} → x ≡ getD xs slot filler → (suc slot < 64 → y ≡ getD xs (suc slot) filler) → value ≡ valueOf rows s x y
@@ -173,16 +169,6 @@ pub play-stops : (rows : Rows) (bs : List ℕ) (w : Evaluation) (stack : List Co
     → w ≡ played rows bs
 play-stops rows bs w stack next p k = stops w stack next k ∙ ap result p
 
-pub same-on : (rows : Rows) (bs : List ℕ) (i : ℕ) (xs : List Complex) (slot : ℕ) {w : Evaluation} {z : Complex} → slot < 64 → length xs ≡ 64
-    → andThen (push w (stackOf xs slot)) (λ stack. run rows (leftSteps bs i) stack) ≡ run rows (stepsIn bs) [] → w ≡ Evaluation.Value z
-    → Same rows bs i (set xs slot z) (slot + 1)
-unfolding push andThen
-same-on rows bs i xs slot {w} {z} l long p v =
-    let a : length (stackOf xs slot) < 64 = omega (arith, stack-length xs slot, l) in
-    let q : push w (stackOf xs slot) ≡ stands (z ∷ stackOf xs slot) = ap (λ v. push v (stackOf xs slot)) v ∙ rw (lt-ltb (length (stackOf xs slot)) 64 a) refl in
-    let c : stackOf (set xs slot z) (slot + 1) ≡ z ∷ stackOf xs slot = ap (stackOf (set xs slot z)) (add-one slot) ∙ stack-push xs slot z (omega (arith, l, long)) in
-    ap (run rows (leftSteps bs i)) c ∙ ap (λ o. andThen o (λ stack. run rows (leftSteps bs i) stack)) (sym q) ∙ p
-
 -- a step of the player, who has read how many values it takes
 module _ {bs : List ℕ} {i depth : ℕ} (h : Left bs i depth) (l : i < count bs) {f : Fields} {s : Step} (e : f ≡ fieldsIn (drop (24 * i) bs)) (t : s ≡ stepOf f) {k : ℕ} (w : k ≡ takes s) where
   pub record Slot : Type 0 where
@@ -199,18 +185,30 @@ module _ {bs : List ℕ} {i depth : ℕ} (h : Left bs i depth) (l : i < count bs
 
   module _ (rows : Rows) (xs : List Complex) (r : Same rows bs i xs depth) (y : Complex) {value : Evaluation} (q : suc (depth - k) < 64 → y ≡ getD xs (suc (depth - k)) filler)
       (v : value ≡ valueOf rows s (getD xs (depth - k) filler) y) where
-    runs : andThen (push value (stackOf xs (depth - k))) (λ stack. run rows (leftSteps bs (i + 1)) stack) ≡ run rows (stepsIn bs) []
-    runs =
+    reads : value ≡ valueOf rows s (getD xs (depth - takes s) filler) (getD xs (suc (depth - takes s)) filler)
+    reads =
         let a : getD xs (depth - k) filler ≡ getD xs (depth - takes s) filler = ap (λ j. getD xs (depth - j) filler) w in
         let b : suc (depth - takes s) < 64 → y ≡ getD xs (suc (depth - takes s)) filler = subst (λ j. suc (depth - j) < 64 → y ≡ getD xs (suc (depth - j)) filler) w q in
+        value-read h l e t rows xs r a b v
+
+    runs : andThen (push value (stackOf xs (depth - k))) (λ stack. run rows (leftSteps bs (i + 1)) stack) ≡ run rows (stepsIn bs) []
+    runs =
         ap (λ j. andThen (push value (stackOf xs (depth - j))) (λ stack. run rows (leftSteps bs (i + 1)) stack)) w
-        ∙ now-runs h l e t rows xs r (value-read h l e t rows xs r a b v)
+        ∙ now-runs h l e t rows xs r reads
+
+    -- what the step leaves, where it has a value
+    pub player-leaves : {z : Complex} → length xs ≡ 64 → value ≡ Evaluation.Value z → step rows s (stackOf xs depth) ≡ stands (stackOf (set xs (depth - k) z) (depth - k + 1))
+    unfolding push
+    player-leaves {z} long p =
+        let o : length (stackOf xs (depth - k)) < 64 = omega (arith, stack-length xs (depth - k), slot-is .room) in
+        step-is rows s xs depth (taken h l e t .enough)
+        ∙ ap (λ v. push v (stackOf xs (depth - takes s))) (sym reads)
+        ∙ (λ j. push (p j) (stackOf xs (depth - sym w j)))
+        ∙ (rw (lt-ltb (length (stackOf xs (depth - k))) 64 o) refl)
+        ∙ ap stands (sym (ap (stackOf (set xs (depth - k) z)) (add-one (depth - k)) ∙ stack-push xs (depth - k) z (omega (arith, long, slot-is .room))))
 
     pub player-stops : Lacks value → value ≡ played rows bs
     player-stops k = play-stops rows bs value _ _ runs k
-
-    pub player-same : {z : Complex} → length xs ≡ 64 → value ≡ Evaluation.Value z → Same rows bs (i + 1) (set xs (depth - k) z) (depth - k + 1)
-    player-same long p = same-on rows bs (i + 1) xs (depth - k) (slot-is .room) long runs p
 
 -- at the end one value is left
 pub play-ends : (rows : Rows) (bs : List ℕ) (i depth : ℕ) (xs : List Complex) {z : Complex} → Left bs i depth → count bs ≤ i → Same rows bs i xs depth → z ≡ getD xs 0 filler
@@ -221,17 +219,3 @@ play-ends rows bs i depth xs {z} h l r e =
     let d : depth ≡ 1 = one-left i depth p in
     let q : stands (stackOf xs depth) ≡ run rows (stepsIn bs) [] = ap (λ fs. run rows (map stepOf fs) (stackOf xs depth)) (sym (none-left (count bs) i bs l)) ∙ r in
     ap Evaluation.Value e ∙ ap (λ k. result (stands (stackOf xs k))) (sym d) ∙ ap result q
-
--- ---- the loop
-
-pub record Going (table : List ℕ) (rows : Counts) (bs : List ℕ) (i : ℕ) (xs : List Complex) (depth : ℕ) : Type 0 where
-  pub left : Left bs i depth
-  pub long : length xs ≡ 64
-  pub same : Held table rows → Same (rowsOf table rows) bs i xs depth
-
-pub played-begins : (table : List ℕ) (rows : Counts) (bs : List ℕ) {xs : List Complex} → check bs ≡ Checked.Sound → length xs ≡ 64 → Going table rows bs 0 xs 0
-played-begins table rows bs {xs} e l = record { left = left-begins bs e; long = l; same = λ h. same-begins (rowsOf table rows) bs xs }
-
-pub player-goes : {table : List ℕ} {rows : Counts} {bs : List ℕ} {i j depth depth′ : ℕ} {xs : List Complex} (slot : ℕ) (z : Complex) → Going table rows bs i xs depth → Left bs j depth′
-    → (Held table rows → Same (rowsOf table rows) bs j (set xs slot z) depth′) → Going table rows bs j (set xs slot z) depth′
-player-goes {xs = xs} slot z g l s = record { left = l; long = length-set xs slot z ∙ g .long; same = s }

@@ -27,7 +27,7 @@ leafTask pi = number-of-pi
 leafTask (variable v) = itself (leaf (variable v))
 leafTask (cell region index) = itself (leaf (cell region index))
 
--- "pi gives its number, even at limit 0; limit 0 gives the node; leaves give themselves. Otherwise the operation runs"
+-- "pi gives its number (400921FB54442D18), even at limit 0; limit 0 gives the node; leaves give themselves. Otherwise the operation runs"
 unfoldable pub taskAt : (limit : ℕ) → Tree → Task
 taskAt zero (leaf l) = leafTask l
 taskAt zero (functionCall f t) = itself (functionCall f t)

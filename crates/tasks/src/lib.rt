@@ -45,7 +45,7 @@ pub fn count_call(desk: &mut [u64; DESK_WORDS])
     set_calls(desk, calls);
 }
 
-// "pi gives its number, even at limit 0; limit 0 gives the node; leaves give themselves. Otherwise the operation runs."
+// "pi gives its number (400921FB54442D18), even at limit 0; limit 0 gives the node; leaves give themselves. Otherwise the operation runs."
 pub fn task_at(limit: Limit, node: usize, e: Expression) -> Task
     ensures { λ task. ⌜ task ≡ nodeTask (limit .0) node e ⌝ }
 {

@@ -35,7 +35,7 @@ module _ {S R : Type 0} (line : S → ℕ → List ℕ → Line S R) (shortens :
   unfolding lines
   more-changes-nothing fuel s bs h = enough fuel (length bs) s bs h (omega arith)
 
-  -- "the empty rest after the last LF is no line"
+  -- the empty rest after the last LF is no line
   pub no-line : (s : S) → lines line s [] ≡ read s
   unfolding lines
   no-line s = none-left 0 s

@@ -1,10 +1,11 @@
--- `play` meets its contract: the run that is left. Assumes nothing.
+-- `play` meets its contract: after each step the player has the definition's stack. Assumes nothing.
 use Prim.Native.Nat.{_-_}
 use mathlib.Core.Path.{refl, ap}
 use lib.ListN.{getD}
 use Rattle.tape.specs.Run.{filler}
 use native.Mathlib.Omega.{arith}
-use Rattle.tape.proofs.Stacks.{slot-is, player-left, player-stops, player-same, play-ends, Going, played-begins, player-goes}
+use Rattle.tape.proofs.Stacks.{slot-is, player-left, player-stops, play-ends}
+use Rattle.tape.proofs.Standing.{stood-same, player-stands, Going, played-begins, player-goes}
 use borrow.Author.Needs.{needs}
 use Rattle.tape.proofs.play.play.Statement.{statement}
 use Rattle.tape.proofs.play.play.Tie as tie
@@ -35,12 +36,12 @@ play-spec =
     (λ c. c .before .above .ensures .0)
     (λ c κs. search needs)
     (λ c. search needs)
-    (λ c. λ h. player-stops (c .before .before .before .before .before .before .before .before .before .loop .inv .left) (c .before .before .before .before .before .before .before .before .loop-test .taken) (c .before .before .before .before .before .before .before .fields-at .ensures) (c .before .before .before .before .before .before .step-of .ensures) (c .before .before .before .before .before .takes .ensures .0) _ _ (c .before .before .before .before .before .before .before .before .before .loop .inv .same h) _ (λ l. ap (λ k. getD (c .before .before .before .before .before .before .before .before .before .loop .player .stack) k filler) (c .before .before .before .before .above .ensures .1 (omega (arith, l)))) (c .before .step .ensures h) (c .match .keys2))
+    (λ c. λ h. player-stops (c .before .before .before .before .before .before .before .before .before .loop .inv .left) (c .before .before .before .before .before .before .before .before .loop-test .taken) (c .before .before .before .before .before .before .before .fields-at .ensures) (c .before .before .before .before .before .before .step-of .ensures) (c .before .before .before .before .before .takes .ensures .0) _ _ (stood-same (c .before .before .before .before .before .before .before .before .before .loop .inv .stood h)) _ (λ l. ap (λ k. getD (c .before .before .before .before .before .before .before .before .before .loop .player .stack) k filler) (c .before .before .before .before .above .ensures .1 (omega (arith, l)))) (c .before .step .ensures h) (c .match .keys2))
     (λ c. let t = slot-is (c .before .before .before .before .before .before .before .before .before .before .before .loop .inv .left) (c .before .before .before .before .before .before .before .before .before .before .loop-test .taken) (c .before .before .before .before .before .before .before .before .before .fields-at .ensures) (c .before .before .before .before .before .before .before .before .step-of .ensures) (c .before .before .before .before .before .before .before .takes .ensures .0) in omega (arith, t .enough, t .room))
     (λ c. let t = slot-is (c .before .before .before .before .before .before .before .before .before .before .before .loop .inv .left) (c .before .before .before .before .before .before .before .before .before .before .loop-test .taken) (c .before .before .before .before .before .before .before .before .before .fields-at .ensures) (c .before .before .before .before .before .before .before .before .step-of .ensures) (c .before .before .before .before .before .before .before .takes .ensures .0) in omega (arith, t .enough, t .room))
     (λ c. let t = slot-is (c .before .before .before .before .before .before .before .before .before .before .before .loop .inv .left) (c .before .before .before .before .before .before .before .before .before .before .loop-test .taken) (c .before .before .before .before .before .before .before .before .before .fields-at .ensures) (c .before .before .before .before .before .before .before .before .step-of .ensures) (c .before .before .before .before .before .before .before .takes .ensures .0) in omega (arith, t .enough, t .room))
     (λ c. omega (arith, c .before .before .before .before .before .before .before .before .before .before .loop-test .taken, c .before .before .before .before .before .before .before .before .before .before .before .loop .inv .left .long))
     (λ c. omega (arith, c .before .before .before .before .before .before .before .before .before .before .loop-test .taken))
-    (λ c. player-goes _ _ (c .before .before .before .before .before .before .before .before .before .before .before .loop .inv) (player-left (c .before .before .before .before .before .before .before .before .before .before .before .loop .inv .left) (c .before .before .before .before .before .before .before .before .before .before .loop-test .taken) (c .before .before .before .before .before .before .before .before .before .fields-at .ensures) (c .before .before .before .before .before .before .before .before .step-of .ensures) (c .before .before .before .before .before .before .before .takes .ensures .0)) λ h. player-same (c .before .before .before .before .before .before .before .before .before .before .before .loop .inv .left) (c .before .before .before .before .before .before .before .before .before .before .loop-test .taken) (c .before .before .before .before .before .before .before .before .before .fields-at .ensures) (c .before .before .before .before .before .before .before .before .step-of .ensures) (c .before .before .before .before .before .before .before .takes .ensures .0) _ _ (c .before .before .before .before .before .before .before .before .before .before .before .loop .inv .same h) _ (λ l. ap (λ k. getD (c .before .before .before .before .before .before .before .before .before .before .before .loop .player .stack) k filler) (c .before .before .before .before .before .before .above .ensures .1 (omega (arith, l)))) (c .before .before .before .step .ensures h) (c .before .before .before .before .before .before .before .before .before .before .before .loop .inv .long) (c .before .value .given .1))
+    (λ c. player-goes _ _ (c .before .before .before .before .before .before .before .before .before .before .before .loop .inv) (player-left (c .before .before .before .before .before .before .before .before .before .before .before .loop .inv .left) (c .before .before .before .before .before .before .before .before .before .before .loop-test .taken) (c .before .before .before .before .before .before .before .before .before .fields-at .ensures) (c .before .before .before .before .before .before .before .before .step-of .ensures) (c .before .before .before .before .before .before .before .takes .ensures .0)) λ h. player-stands (c .before .before .before .before .before .before .before .before .before .before .before .loop .inv .left) (c .before .before .before .before .before .before .before .before .before .before .loop-test .taken) (c .before .before .before .before .before .before .before .before .before .fields-at .ensures) (c .before .before .before .before .before .before .before .before .step-of .ensures) (c .before .before .before .before .before .before .before .takes .ensures .0) _ _ (c .before .before .before .before .before .before .before .before .before .before .before .loop .inv .stood h) _ (λ l. ap (λ k. getD (c .before .before .before .before .before .before .before .before .before .before .before .loop .player .stack) k filler) (c .before .before .before .before .before .before .above .ensures .1 (omega (arith, l)))) (c .before .before .before .step .ensures h) (c .before .before .before .before .before .before .before .before .before .before .before .loop .inv .long) (c .before .value .given .1))
     (λ c. omega arith)
-    (λ c. λ h. play-ends _ _ _ _ _ (c .before .before .loop .inv .left) (c .before .loop-test .left) (c .before .before .loop .inv .same h) refl))
+    (λ c. λ h. play-ends _ _ _ _ _ (c .before .before .loop .inv .left) (c .before .loop-test .left) (stood-same (c .before .before .loop .inv .stood h)) refl))
