@@ -26,7 +26,7 @@ use Rattle.sheet.specs.Rows.{Rows, complexField, secondOperand, rowFields, fiel
 use Rattle.simplification.proofs.Stored.{Given}
 use Rattle.calls.specs.Calls as Calls
 use Rattle.calls.specs.Calls.{Job, ready, afterListing, withSheet, job}
-use Rattle.calls.proofs.Lining.{InLine, InWhole, to-the-end}
+use Rattle.calls.proofs.Lining.{LineHas, WholeHas, InLine, InWhole, to-the-end}
 use Rattle.calls.proofs.Stored.{Each, each-more, In, New, Good, storedIn, roomIn, StoredIn, Sane, limited, GivenIn, stores, treeOf, SwapsIn, valueOf, FittingRows}
 
 -- ---- what is read
@@ -101,7 +101,7 @@ module _ (room : ℕ) where
     pub swaps : SwapsIn (storedIn (k .store)) (k .swaps)
 
   stored-sound : (k : Known) (rest : List ℕ) (a : Answer) → Sound k → GivenIn room (k .store) a → InLine Sound (stored k rest a)
-  unfolding stored Given InLine
+  unfolding stored Given LineHas
   stored-sound k rest (Storing.refused why s) g x = tt
   stored-sound k rest (gives t s) g x = record {
     sane = x .sane;
@@ -110,20 +110,20 @@ module _ (room : ℕ) where
   }
 
   formed-sound : (k : Known) {r : Read Tree} → Sound k → Reads (New (storedIn (k .store))) r → InLine Sound (formed k r)
-  unfolding formed InLine
+  unfolding formed LineHas
   formed-sound k g no = tt
   formed-sound k g (says {x} {rest} p) = stored-sound k rest (intern x (k .store)) g (stores room x (k .store) (g .sane) p)
 
   swapped-sound : (substituting : Bool) (k : Known) {r : Read Swap} → Sound k → Reads (λ w. StoredIn (k .store) (treeOf w)) r
       → InLine Sound (swapped substituting k r)
-  unfolding swapped InLine
+  unfolding swapped LineHas
   swapped-sound substituting k g no = tt
   swapped-sound substituting k g (says {x} p) =
       line-either Sound (substituting && aboveLast aboveVariable (k .swaps) x) _ _
       (record { sane = g .sane; nodes = g .nodes; swaps = each-more (λ w. StoredIn (k .store) (treeOf w)) _ (k .swaps) x (g .swaps) p }) tt
 
   line-sound : (substituting : Bool) (k : Known) (first : ℕ) (bs : List ℕ) → Sound k → InLine Sound (listingLine substituting k first bs)
-  unfolding listingLine swapLine nodeLine InLine
+  unfolding listingLine swapLine nodeLine LineHas
   line-sound substituting k first bs g =
       let ts = storedIn (k .store) in
       line-either Sound (eqb first 115) _ _
@@ -140,7 +140,7 @@ module _ (room : ℕ) where
   last-in ts t (u ∷ us) f = last-in ts u us λ k l. f (suc k) (omega (arith, l))
 
   whole-listed : (w : Whole Known Refusal) → InWhole Sound w → Listed (whole w)
-  unfolding whole InWhole Listed rooted
+  unfolding whole WholeHas Listed rooted
   whole-listed (Lines.refused why) g = tt
   whole-listed (Lines.read k) g = go (k .nodes) (g .nodes)
     where
@@ -186,13 +186,13 @@ FittingSheet R = FittingRows (R .functions)
 
 sheet-formed : {A : Type 0} {P : A → Type 0} (R : Rows) (most : ℕ) (before : List A) (inOrder : A → Bool) (with : A → Rows) {r : Read A} → Reads P r
     → ((x : A) → P x → FittingSheet (with x)) → InLine FittingSheet (Rows.counted R most before (Rows.formed R inOrder with r))
-unfolding Rows.counted Rows.formed InLine
+unfolding Rows.counted Rows.formed LineHas
 sheet-formed R most before inOrder with no f = line-either FittingSheet (ltb (length before) most) _ _ tt tt
 sheet-formed R most before inOrder with (says {x} p) f =
     line-either FittingSheet (ltb (length before) most) _ _ (line-either FittingSheet (inOrder x) _ _ (f x p) tt) tt
 
 sheet-line : (R : Rows) (first : ℕ) (bs : List ℕ) → FittingSheet R → InLine FittingSheet (sheetLine R first bs)
-unfolding sheetLine variableLine cellLine functionLine FittingSheet InLine
+unfolding sheetLine variableLine cellLine functionLine FittingSheet LineHas
 sheet-line R first bs g =
     line-either FittingSheet (eqb first 118) _ _ (sheet-formed R _ _ _ _ (any (fieldsAfter first bs Rows.variableFields)) λ x _. g)
     (line-either FittingSheet (eqb first 109) _ _ (sheet-formed R _ _ _ _ (any (fieldsAfter first bs Rows.cellFields)) λ x _. g)
@@ -210,7 +210,7 @@ Jobbed room (ready root store R) = Sane room store × StoredIn store root × Fit
 Jobbed room (Calls.refused why) = Unit {0}
 
 pub job-in : (room : ℕ) (list values : List ℕ) → Jobbed room (job room list values)
-unfolding job afterListing withSheet Listed Jobbed InWhole FittingSheet
+unfolding job afterListing withSheet Listed Jobbed WholeHas FittingSheet
 job-in room list values = go (listing false list (fresh room 0)) (listing-listed room false list) (sheet values) (sheet-fits values)
   where
     go : (l : Listing) → Listed room l → (w : Whole Rows Refusal) → InWhole FittingSheet w

@@ -13,6 +13,7 @@ pub mod Examples
 pub mod OutRoom
 pub mod Begins
 pub mod Rooms
+pub mod Capacity
 pub mod TapeBytes
 pub mod Answering
 pub mod Demands

@@ -36,7 +36,7 @@ use Rattle.calls.specs.Lent.{Work, capacity}
 use Rattle.calls.specs.Calls as Calls
 use Rattle.calls.specs.Calls.{Job, ready, afterListing, withSheet, job, writtenAnswer, withCalls, callsIn, simplifyJob, simplifyCall}
 use Rattle.calls.specs.Promises.{Simplifies}
-use Rattle.calls.proofs.Lining.{InLine, InWhole, to-the-end}
+use Rattle.calls.proofs.Lining.{LineHas, WholeHas, InLine, InWhole, to-the-end}
 
 -- ---- a store into which a listing was read: nothing is counted, and nothing kept
 
@@ -68,22 +68,22 @@ line-either true x y p q = p
 line-either false x y p q = q
 
 stored-fresh : (k : Known) (rest : List ℕ) (a : Answer) → FreshIn a → InLine FreshKnown (stored k rest a)
-unfolding stored FreshIn InLine FreshKnown
+unfolding stored FreshIn LineHas FreshKnown
 stored-fresh k rest (gives t s) x = x
 stored-fresh k rest (Storing.refused why s) x = tt
 
 formed-fresh : (k : Known) (r : Read Tree) → Fresh (k .store) → InLine FreshKnown (formed k r)
-unfolding formed InLine
+unfolding formed LineHas
 formed-fresh k bad f = tt
 formed-fresh k (is t rest) f = stored-fresh k rest (intern t (k .store)) (stores t (k .store) f)
 
 swapped-fresh : (substituting : Bool) (k : Known) (r : Read Swap) → Fresh (k .store) → InLine FreshKnown (swapped substituting k r)
-unfolding swapped InLine FreshKnown
+unfolding swapped LineHas FreshKnown
 swapped-fresh substituting k bad f = tt
 swapped-fresh substituting k (is s rest) f = line-either (substituting && aboveLast aboveVariable (k .swaps) s) _ _ f tt
 
 line-fresh : (substituting : Bool) (k : Known) (first : ℕ) (bs : List ℕ) → FreshKnown k → InLine FreshKnown (listingLine substituting k first bs)
-unfolding listingLine swapLine nodeLine InLine FreshKnown
+unfolding listingLine swapLine nodeLine LineHas FreshKnown
 line-fresh substituting k first bs f =
     line-either (eqb first 115) _ _
     (line-either (ltb (length (k .swaps)) mostSwaps) _ _ (swapped-fresh substituting k (swapFields (k .nodes) first bs) f) tt)
@@ -99,7 +99,7 @@ rooted-fresh [] swaps store f = tt
 rooted-fresh (t ∷ ts) swaps store f = f
 
 whole-fresh : (w : Whole Known Refusal) → InWhole FreshKnown w → FreshListing (whole w)
-unfolding whole InWhole FreshKnown FreshListing
+unfolding whole WholeHas FreshKnown FreshListing
 whole-fresh (Lines.read k) f = rooted-fresh (k .nodes) (k .swaps) (k .store) f
 whole-fresh (Lines.refused why) f = tt
 
