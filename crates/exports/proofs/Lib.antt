@@ -1,4 +1,5 @@
--- The laws that the proofs of this crate cite, and the theorem about its calls.
+-- The laws that the proofs of this crate cite, and the theorems about its calls.
 mod Answers
 pub mod OneAnswer
 pub mod Demand
+pub mod Capacity

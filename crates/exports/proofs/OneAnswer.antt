@@ -5,7 +5,7 @@ use mathlib.Core.List.{List}
 use Rattle.calls.specs.Lent.{Work}
 use Rattle.exports.specs.Words.{Answered, Evaluates, Substitutes, ReadsReal, Simplifies, Compiles, Plays, Checks, Picks}
 
-one-words : {want : List ℕ} {r r′ : ℕ} {a a′ : List ℕ} → Answered want r a → Answered want r′ a′ → (r ≡ r′) × (a ≡ a′)
+pub one-words : {want : List ℕ} {r r′ : ℕ} {a a′ : List ℕ} → Answered want r a → Answered want r′ a′ → (r ≡ r′) × (a ≡ a′)
 one-words p q = (p .number ∙ sym (q .number), p .words ∙ sym (q .words))
 
 pub one-evaluated : {list values : List ℕ} {w : Work} {r r′ : ℕ} {a a′ : List ℕ} {w₁ w₂ : Work}

@@ -1,5 +1,6 @@
 // The public calls for C, Rust and others, over numbers and slices alone; include/findavoreb.h says what each
 // parameter and each answer word is.
+ghost use mathlib.Core.Path.{_≡_};
 ghost use Rattle.calls.specs.Lent.{work};
 ghost use Rattle.exports.specs.Words.{Evaluates, Substitutes, ReadsReal, Simplifies, Compiles, Plays, Checks, Picks};
 use answer::put_checked;
@@ -21,6 +22,16 @@ use tape::check;
 use tape::which;
 
 mod answer;
+
+// 10000 times the major number, 100 times the minor one and the patch's: FINDAVOREB_VERSION_NUMBER of the header.
+pub const VERSION: u64 = 20_000;
+
+#[no_mangle]
+pub extern "C" fn findavoreb_version() -> u64
+    ensures { λ r. ⌜ r ≡ 20000 ⌝ }
+{
+    VERSION
+}
 
 #[no_mangle]
 pub extern "C" fn findavoreb_evaluate(
