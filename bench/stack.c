@@ -1,5 +1,6 @@
 /* How much stack the functions of findavoreb.h use. Each job runs on a stack of its own that was painted before; the lowest byte that has
- * changed says how deep the call went. Two paints, since a byte may be written as it was. bench/stack builds it and runs it. */
+ * changed says how deep the call went. Two paints, since a byte may be written as it was. For each function the most is printed, the
+ * answer's number there, and the job; a number as argument asks for so many random jobs. bench/stack builds it and runs it. */
 #include <stdio.h>
 #include <stdlib.h>
 #include <string.h>
@@ -7,7 +8,7 @@
 
 #include "findavoreb.h"
 
-enum { STACK = 1 << 20, TEXT = 1 << 17, STEP = 24 };
+enum { STACK = 1 << 16, TEXT = 1 << 17, RANDOM_JOBS = 4000 };
 
 static uint8_t stack[STACK] __attribute__((aligned(64)));
 static uint64_t store[FINDAVOREB_MOST_ROWS][4], desk[FINDAVOREB_DESK_WORDS], table[FINDAVOREB_TABLE_WORDS];
@@ -18,30 +19,46 @@ static uint8_t out[FINDAVOREB_OUT_BYTES];
 
 static char listing[TEXT], sheet[TEXT];
 static uint8_t tape[FINDAVOREB_TAPE_BYTES];
-static size_t listing_length, sheet_length, tape_length;
+static size_t listing_length, swaps_length, sheet_length, tape_length; /* the s lines stand after the listing, for substituting alone */
 
 /* The stack pointer just before a call, so that the return address and what C passes on the stack are counted. */
 static uint8_t *top;
 #define HERE __asm__ volatile("mov %%rsp, %0" : "=m"(top) : : "memory")
-#define TEXTS (uint8_t *)listing, listing_length
+#define LISTING (uint8_t *)listing, listing_length
+#define WITH_SWAPS (uint8_t *)listing, listing_length + swaps_length
 #define SHEET (uint8_t *)sheet, sheet_length
 #define WORK store, FINDAVOREB_MOST_ROWS, desk, table
 
+static void evaluate(void) { HERE; findavoreb_evaluate(LISTING, SHEET, WORK, answer); }
+static void substitute(void) { HERE; findavoreb_substitute(WITH_SWAPS, WORK, out, sizeof out, answer); }
+static void to_real(void) { HERE; findavoreb_to_real(LISTING, WORK, answer); }
+static void simplify(void) { HERE; findavoreb_simplify(LISTING, SHEET, 10, WORK, out, sizeof out, answer); }
+static void compile(void) { HERE; findavoreb_compile(LISTING, WORK, out, sizeof out, answer); }
 static void play(void) { HERE; findavoreb_play(tape, tape_length, SHEET, table, answer); }
 static void check(void) { HERE; findavoreb_check(tape, tape_length, answer); }
 static void pick(void) { HERE; findavoreb_pick(tape, tape_length, tape, tape_length, picked); }
-static void compile(void) { HERE; findavoreb_compile(TEXTS, WORK, out, sizeof out, answer); }
-static void evaluate(void) { HERE; findavoreb_evaluate(TEXTS, SHEET, WORK, answer); }
-static void to_real(void) { HERE; findavoreb_to_real(TEXTS, WORK, answer); }
-static void substitute(void) { HERE; findavoreb_substitute(TEXTS, WORK, out, sizeof out, answer); }
-static void simplify(void) { HERE; findavoreb_simplify(TEXTS, SHEET, 10, WORK, out, sizeof out, answer); }
+static void version(void) { HERE; findavoreb_version(); }
+
+static struct function {
+    const char *name;
+    void (*call)(void);
+    size_t most;
+    uint64_t number;
+    const char *job;
+} functions[] = {
+    {"evaluate", evaluate, 0, 0, ""}, {"substitute", substitute, 0, 0, ""}, {"to_real", to_real, 0, 0, ""},
+    {"simplify", simplify, 0, 0, ""}, {"compile", compile, 0, 0, ""},       {"play", play, 0, 0, ""},
+    {"check", check, 0, 0, ""},       {"pick", pick, 0, 0, ""},             {"version", version, 0, 0, ""},
+};
+
+enum { FUNCTIONS = sizeof functions / sizeof functions[0] };
 
 /* ---- painting */
 
-static void (*job)(void);
+static void (*call)(void);
 static ucontext_t here, there;
 
-static void enter(void) { job(); }
+static void enter(void) { call(); }
 
 static size_t depth_with(uint8_t paint)
 {
@@ -58,15 +75,34 @@ static size_t depth_with(uint8_t paint)
     return (size_t)(top - (stack + lowest));
 }
 
-/* The depth of the job, and its number of refusal. */
-static void say(const char *name, const char *what, void (*call)(void))
+static void try_function(struct function *f, const char *job)
 {
-    job = call;
-    size_t one = depth_with(0xA5), two = depth_with(0x5A);
-    printf("%-12s%8zu  answer %2llu  %s\n", name, one > two ? one : two, (unsigned long long)answer[0], what);
+    size_t one, two;
+    call = f->call;
+    one = depth_with(0xA5);
+    two = depth_with(0x5A);
+    if (one < two)
+        one = two;
+    if (f->most < one) {
+        f->most = one;
+        f->number = f->call == pick ? picked[0] : f->call == version ? 0 : answer[0];
+        f->job = job;
+    }
 }
 
-/* ---- jobs */
+/* The tape is the one that compiling writes, or the last that it wrote. */
+static void try_all(const char *job)
+{
+    compile();
+    if (answer[0] == FINDAVOREB_DONE) {
+        tape_length = (size_t)answer[1];
+        memcpy(tape, out, tape_length);
+    }
+    for (size_t i = 0; i < FUNCTIONS; i++)
+        try_function(&functions[i], job);
+}
+
+/* ---- sheets */
 
 static void add(char *text, size_t *length, const char *format, unsigned a, unsigned b)
 {
@@ -90,52 +126,138 @@ static void full_sheet(void)
     add(sheet, &sheet_length, "t\tsin\t" ONE "\t" ZERO "\t" ZERO "\t" ZERO "\t" ZERO "\t" ZERO "\n", 0, 0);
 }
 
-/* An expression of depth 64 whose stack has 64 values: the left operand of each infix is a leaf or a function of one. */
-static void deep_listing(const char *operator)
+/* ---- listings */
+
+static void line(const char *format, unsigned a, unsigned b) { add(listing, &listing_length, format, a, b); }
+static void swap_line(unsigned variable, unsigned node)
 {
-    listing_length = 0;
-    add(listing, &listing_length, "v\t255\nm\t7\t127\nf\tcis\t0\nn\t" ONE "\t" ZERO "\n", 0, 0);
+    size_t length = listing_length + swaps_length;
+    add(listing, &length, "s\t%u\t%u\n", variable, node);
+    swaps_length = length - listing_length;
+}
+
+static void new_listing(void) { listing_length = swaps_length = 0; }
+
+/* An expression of depth 64 whose stack has 64 values: the left operand of each infix is a leaf or a function of one. An s line for the
+ * variable has all of it built anew. */
+static void deep_chain(const char *operator)
+{
+    new_listing();
+    line("v\t255\nm\t7\t127\nf\tcis\t0\nn\t" ONE "\t" ZERO "\n", 0, 0);
     for (unsigned i = 0; i < 62; i++) {
-        add(listing, &listing_length, "b\t", 0, 0);
-        add(listing, &listing_length, operator, 0, 0);
-        add(listing, &listing_length, "\t%u\t%u\n", i % 3, i == 0 ? 2 : i + 3);
+        line("b\t", 0, 0);
+        line(operator, 0, 0);
+        line("\t%u\t%u\n", i % 3, i == 0 ? 2 : i + 3);
+    }
+    swap_line(255, 3);
+}
+
+/* 63 times the same over a variable. */
+static void deep_stack(const char *what)
+{
+    new_listing();
+    line("v\t255\n", 0, 0);
+    for (unsigned i = 0; i < 63; i++) {
+        line(what, 0, 0);
+        line("\t%u\n", i, 0);
+    }
+    swap_line(255, 0);
+}
+
+static uint64_t seed = 0xA0761D6478BD642F;
+
+static unsigned below(unsigned limit)
+{
+    seed = seed * 6364136223846793005 + 1442695040888963407;
+    return (unsigned)((seed >> 33) % limit);
+}
+
+static void random_leaf(void)
+{
+    switch (below(6)) {
+    case 0: line("n\t" ONE "\t" ZERO "\n", 0, 0); break;
+    case 1: line("n\t" ZERO "\t" ZERO "\n", 0, 0); break;
+    case 2: line("n\t4008000000000000\t3FE0000000000000\n", 0, 0); break;
+    case 3: line("m\t%u\t%u\n", below(8), below(4)); break;
+    default: line("v\t%u\n", below(3), 0);
     }
 }
 
-static void compiled(void)
+/* A node over two of the last few before it, so that it grows deep. */
+static void random_node(unsigned number)
 {
+    static const char *functions[] = {"sin", "cos", "exp", "sqrt", "cis"}, *infixes[] = {"+", "-", "*", "/", "^"};
+    unsigned a = number - 1 - below(number < 3 ? number : 3), b = below(2) ? below(number) : number - 1, kind = below(12);
+    if (kind == 0) {
+        line("f\t", 0, 0);
+        line(functions[below(5)], 0, 0);
+        line("\t%u\n", a, 0);
+    } else if (kind < 3) {
+        line(kind == 1 ? "u\t-\t%u\n" : "u\t+\t%u\n", a, 0);
+    } else {
+        line("b\t", 0, 0);
+        line(infixes[below(below(4) == 0 ? 5 : 4)], 0, 0);
+        line("\t%u\t%u\n", kind % 2 ? a : b, kind % 2 ? b : a);
+    }
+}
+
+static void random_listing(void)
+{
+    unsigned leaves = 1 + below(4), nodes = 2 + below(70);
+    new_listing();
+    for (unsigned i = 0; i < leaves; i++)
+        random_leaf();
+    for (unsigned i = leaves; i < leaves + nodes; i++)
+        random_node(i);
+    swap_line(0, below(leaves + nodes));
+}
+
+/* ---- the jobs */
+
+static void deep_jobs(void)
+{
+    static const char *infixes[] = {"+", "-", "*", "/", "^"};
+    for (unsigned i = 0; i < 5; i++) {
+        deep_chain(infixes[i]);
+        try_all("depth 64, a chain of one infix operator with cis at its end");
+    }
+    deep_stack("f\tsin");
+    try_all("depth 64, functions of functions");
+    deep_stack("u\t-");
+    try_all("depth 64, prefixes of prefixes");
+}
+
+static void refused_jobs(void)
+{
+    new_listing();
+    for (unsigned i = 0; i < 1024; i++)
+        line("n\t" ONE "\t%016X\n", i, 0);
+    try_all("1024 numbers");
+    line("q", 0, 0);
+    try_all("a bad last line of a listing");
+    deep_chain("+");
     compile();
-    tape_length = (size_t)answer[1];
-    memcpy(tape, out, tape_length);
-}
-
-static void say_all(const char *what)
-{
-    compiled();
-    say("play", what, play);
-    say("check", what, check);
-    say("pick", what, pick);
-    say("compile", what, compile);
-    say("evaluate", what, evaluate);
-    say("substitute", what, substitute);
-    say("simplify", what, simplify);
-    say("to_real", what, to_real);
-}
-
-int main(void)
-{
-    full_sheet();
-    deep_listing("+");
-    say_all("depth 64, a full sheet, cis, sums");
-    deep_listing("^");
-    say_all("the same with powers, the first of which is lacking");
-    deep_listing("/");
-    sheet_length = 0;
-    say_all("the same with quotients and an empty sheet");
-    full_sheet();
     add(sheet, &sheet_length, "q\n", 0, 0);
-    say("play", "a bad last line of a sheet", play);
+    try_all("a bad last line of a sheet");
     tape[tape_length - 1] ^= 1;
-    say("play", "an unsound tape", play);
+    try_function(&functions[5], "an unsound tape");
+    try_function(&functions[6], "an unsound tape");
+}
+
+int main(int count, char **words)
+{
+    unsigned jobs = count > 1 ? (unsigned)strtoul(words[1], NULL, 10) : RANDOM_JOBS;
+    full_sheet();
+    deep_jobs();
+    refused_jobs();
+    sheet_length = 0;
+    deep_jobs();
+    full_sheet();
+    for (unsigned i = 0; i < jobs; i++) {
+        random_listing();
+        try_all("a random expression");
+    }
+    for (struct function *f = functions; f < functions + FUNCTIONS; f++)
+        printf("%-12s%8zu  answer %2llu  %s\n", f->name, f->most, (unsigned long long)f->number, f->job);
     return EXIT_SUCCESS;
 }

@@ -1,20 +1,63 @@
 /* Findavoreb for C and for all that calls C: expressions evaluated, simplified, substituted and read as real numbers, or compiled to a
  * tape that is checked, played and picked.
  *
- * The functions are those of the static library that `rt staticlib exports` writes, target/staticlib/libexports.a, for x86-64. A
- * listing, a sheet and a written listing are texts and a tape is bytes as the rules have them (README.md says where those are); what is
- * named here is what a caller lends and what comes back.
+ * The functions are those of the static library that `rt staticlib exports` writes, target/staticlib/libexports.a, for x86-64. What is
+ * named here is what a caller lends and what comes back. How a listing, a sheet and a tape are written and when each is refused is said in
+ * docs/FORMATS.md; what of all this is proved, and what is believed, in docs/TRUST.md.
  *
  * What a function asks of its caller: nothing of the bytes and nothing of the lengths. Whatever texts, tapes, work memory and answer
  * hold at entry, a function returns, and its answer is what the rules say. It keeps nothing between calls and allocates
  * nothing, so that calls with memory of their own may run at the same time.
  *
- * What C has a caller see to: a pointer is not null and is aligned for what it points to, also where its length is 0; there are as
- * many elements behind it as its length, or the parameter's comment, says; and the lent memory (store, desk, table, out, answer,
- * picked) overlaps neither itself nor a text nor a tape.
+ * What C has a caller see to. Nothing of it can be tested by the functions, and without it nothing is promised:
+ *
+ *   Pointers      A pointer is not null and is aligned for what it points to; there are as many elements behind it as its length, or the
+ *                 parameter's comment, says; and the lent memory (store, desk, table, out, answer, picked) overlaps neither itself nor a
+ *                 text nor a tape. This holds for a length of 0 too, where any aligned address will do, as FINDAVOREB_NO_BYTES. Null
+ *                 with a length of 0 is not promised, since the proofs know no null pointer. It is harmless in this archive: nothing
+ *                 is read or written through a pointer whose length is 0, the compiler was not told that a pointer is not null, and
+ *                 tests/c tries it for each of them.
+ *   Other threads From a call's beginning to its return nobody else writes to what it is lent, texts and tapes included, and nobody else
+ *                 reads what it may write. Bytes are read more than once: a tape is first checked and then played, and one that changes
+ *                 in between is neither.
+ *   Arithmetic    The processor rounds to nearest, handles subnormal numbers as IEEE 754 has them (neither flushes results to zero nor
+ *                 takes operands for zero) and masks all exceptions. So it is in every thread of a C program that has not changed it.
+ *                 Linking with -ffast-math changes it for the whole program, before main: 2^-1074 + 2^-1074 is then 0, with no refusal.
+ *                 So do fesetround, feenableexcept and some libraries. findavoreb_float_mode_is_right, below, looks. On x86-64 only the
+ *                 register MXCSR counts: the archive has no x87 instruction. A call may set the flags of exceptions (fetestexcept), and
+ *                 leaves the mode as it was.
+ *   memset        The archive needs this one function of the C library, and nothing else. A host without a C library brings its own.
+ *   Stack         Bytes that a call takes, its return address and what C passes on the stack included. Measured with this build on x86-64
+ *                 by bench/stack, the most over its jobs, and not proved (bench/results/stack.md); what memset takes, and the binding of
+ *                 it at the first call in a dynamically linked program, is not in it.
+ *
+ *                   evaluate 19,848    substitute 10,448    simplify 8,712    compile 8,408
+ *                   play      1,760    to_real       496    pick       152    check     136    version 8
  *
  * What holds at every return, also after a refusal: each word of the store's rows, as many as are lent, of the desk and of the table is
- * 0. After a refusal, out is as it was; after a success its first bytes are the result, and the rest is as it was. */
+ * 0. After a refusal, out is as it was; after a success its first bytes are the result, and the rest is as it was.
+ *
+ * What to lend, in bytes:
+ *
+ *   store    32 a row      131,072 for 4096 rows, 32,768 for 1024      evaluate, substitute, to_real, simplify, compile
+ *   desk      2,176                                                    the same
+ *   table    36,864                                                    the same, and play
+ *   answer       48                                                    all but pick and version; pick 16
+ *   out      36,864 for a listing, 12,288 for a tape, or less          substitute, simplify; compile
+ *
+ *   in all   170,160 with 4096 rows and 71,856 with 1024, and out; 36,912 for play
+ *
+ * How many rows: evaluate, to_real and compile store no more nodes than the listing has node lines, of which there are at most 1024. So
+ * 1024 rows are always enough for them: with more the answer is the same, word for word, and compile's bytes too (proved:
+ * crates/exports/proofs/Capacity.antt). substitute and simplify store new nodes besides. All rows that are lent are cleared, whether or not
+ * they were used, so that fewer rows make a short call faster: evaluating (theta - phi) / 2 takes less than half of the time with 1024
+ * rows of what it takes with 4096.
+ *
+ * Memory that was never written: a function reads rows before it writes them, tests what it finds there, and answers the same whatever
+ * it was. So a memory checker (valgrind) that watches rows fresh from malloc reports jumps that depend on uninitialised values, in
+ * store::add and writing::order::visit, and soundly. The report is harmless where two reads of one word give the same, which is not so of
+ * pages that the system may still take back (MADV_FREE). Who zeroes the memory once, as by calloc, has neither: every return leaves it
+ * zero. Nothing was reported of desk, table, out and answer. */
 #ifndef FINDAVOREB_H
 #define FINDAVOREB_H
 
@@ -25,11 +68,23 @@
 extern "C" {
 #endif
 
-/* Which interface this is. In 1 the store was four slices of words, tag, first, second and link, each with a length of its own; now it
- * is rows, with a desk beside them. So each of the five functions with a store has three parameters in place of eight: a pointer and a
- * length for four of each, and the desk. The table has 4608 words in place of 8192. All else is as it was: the other parameters and
- * functions, the answers, what is written to out. */
+/* Which version this is: major.minor.patch, and as a number 10000 * major + 100 * minor + patch.
+ *
+ *   major   a program that was right with the one before has to be changed, or at least compiled anew: a parameter, a size, the meaning of
+ *           an answer or what a call asks is another one. It is FINDAVOREB_INTERFACE.
+ *   minor   something was added: a function, a refusal for inputs that had none, a macro. What was there answers as before.
+ *   patch   no declaration changed and no answer: speed, stack, words.
+ *
+ * In 1 the store was four slices of words, tag, first, second and link, each with a length of its own; in 2 it is rows, with a desk beside
+ * them. So each of the five functions with a store has three parameters in place of eight: a pointer and a length for four of each, and the
+ * desk. The table has 4608 words in place of 8192. All else is as it was: the other parameters and functions, the answers, what is written
+ * to out. */
 #define FINDAVOREB_INTERFACE 2
+#define FINDAVOREB_VERSION "2.0.0"
+#define FINDAVOREB_VERSION_NUMBER 20000
+
+/* The number of the archive that was linked; of another one than this header's if it is not FINDAVOREB_VERSION_NUMBER. */
+uint64_t findavoreb_version(void);
 
 /* answer[0], which is also what each function returns: 0 for a success, else why the job is refused. The numbers and the names are
  * those of the rules. */
@@ -80,6 +135,9 @@ enum {
     FINDAVOREB_PICKED_WORDS = 2
 };
 
+/* An empty text. */
+#define FINDAVOREB_NO_BYTES ((const uint8_t *)"")
+
 /* All the work memory of a call behind one pointer, for those who want that. A function is lent its four parts. */
 struct findavoreb_work {
     uint64_t (*store)[4];
@@ -99,6 +157,25 @@ static inline void findavoreb_init_work(struct findavoreb_work *work, uint64_t (
         work->desk[i] = 0;
     for (i = 0; i < FINDAVOREB_TABLE_WORDS; i++)
         work->table[i] = 0;
+}
+
+/* Whether this thread's arithmetic is in the mode that the functions ask for (at the top, "Arithmetic"): 1, or 0. On x86-64 it reads
+ * MXCSR: the rounding is to nearest, neither FTZ nor DAZ is set and all six exceptions are masked. On AArch64 it reads FPCR: the rounding
+ * is to nearest, FZ, FIZ, AH and NEP are 0 and no exception is trapped; DN and FZ16 do not matter. On any other processor, or for a
+ * compiler that does not know GNU C's asm, it cannot tell and answers 0. */
+static inline int findavoreb_float_mode_is_right(void)
+{
+#if defined(__GNUC__) && defined(__x86_64__)
+    uint32_t mode;
+    __asm__ volatile("stmxcsr %0" : "=m"(mode));
+    return (mode & 0xFFC0) == 0x1F80; /* FTZ 15, rounding 14 and 13, masks 12 to 7, DAZ 6 */
+#elif defined(__GNUC__) && defined(__aarch64__)
+    uint64_t mode;
+    __asm__ volatile("mrs %0, fpcr" : "=r"(mode));
+    return (mode & 0x1C09F07) == 0; /* FZ 24, rounding 23 and 22, traps 15 and 12 to 8, NEP 2, AH 1, FIZ 0 */
+#else
+    return 0;
+#endif
 }
 
 /* The answer's words; those that are not used are 0.
