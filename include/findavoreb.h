@@ -28,8 +28,8 @@
  *                 leaves the mode as it was.
  *   memset        The archive needs this one function of the C library, and nothing else. A host without a C library brings its own.
  *   Stack         Bytes that a call takes, its return address and what C passes on the stack included. Measured with this build on x86-64
- *                 by bench/stack, the most over its jobs, and not proved (bench/results/stack.md); what memset takes, and the binding of
- *                 it at the first call in a dynamically linked program, is not in it.
+ *                 by bench/stack, the most over its jobs, and not proved (bench/results/stack.md). What memset takes is not in it, nor
+ *                 what binding it takes at its first call in a dynamically linked program, about 3,000 bytes.
  *
  *                   evaluate 19,848    substitute 10,448    simplify 8,712    compile 8,408
  *                   play      1,760    to_real       496    pick       152    check     136    version 8

@@ -32,6 +32,7 @@ use Rattle.calls.specs.declared.Evaluated.{Evaluated}
 use Rattle.calls.specs.declared.Simplified.{Simplified}
 use Rattle.calls.specs.Calls as Calls
 use Rattle.calls.specs.Calls.{Job, ready, afterListing, job, writtenAnswer, withCalls, callsIn, evaluated, evaluateJob, evaluateCall, substituteCall, toRealCall, simplifyJob, simplifyCall, compileCall, playCall}
+use Rattle.calls.proofs.Lining.{WholeHas}
 use Rattle.calls.proofs.Refusing.{refusal-some, OfSheet, listing-most, sheet-most, job-most, ListingBy, listing-numbers, WholeBy, sheet-numbers, JobBy, job-numbers}
 use Rattle.calls.proofs.TapeBytes.{FromAnywhere, refused-first, plays, Answered, sheet-refused, value, need, incomplete, from-anywhere}
 
@@ -201,7 +202,7 @@ simplify-call-so room limit list values out = go (isAllowed limit)
 -- ---- playing
 
 sheet-number : (w : Whole Rows Refusal) → WholeBy OfSheet w → {why : Refusal} → w ≡ Lines.refused why → numberOf why ≤ 4
-unfolding WholeBy
+unfolding WholeHas
 sheet-number w h e = sheet-most (subst (WholeBy OfSheet) e h)
 
 pub play-call-so : (tape values : List ℕ) → EvaluatedSo (playCall tape values)

@@ -1,7 +1,7 @@
 -- By which numbers is refused: 1 to 20 at all; a listing by 1, 2, 6, 7 or 8, a sheet by 3 or 4, and a job by one of these. Assumes nothing.
 use mathlib.Core.Bool.{Bool, true, false, cond, _&&_}
 use mathlib.Core.List.{List, [], _∷_}
-use Prim.Native.Nat.{ℕ, zero, suc, _≤_}
+use Prim.Native.Nat.{ℕ, _≤_}
 use native.Mathlib.Omega.{arith}
 use lib.Dec.{ltb, eqb}
 use lib.ListN.{length}
@@ -12,7 +12,7 @@ use Rattle.expression.specs.Refusals.{numberOf}
 use Rattle.text.specs.Reading.{Read, is, bad}
 use Rattle.text.specs.Lines as Lines
 use Rattle.text.specs.Letters.{letter}
-use Rattle.text.specs.Lines.{Line, goes, stops, Whole, afterLine, atLine, lines, linesBy, none, aboveLast}
+use Rattle.text.specs.Lines.{Line, Whole, lines, none, aboveLast}
 use Rattle.store.specs.Storing as Storing
 use Rattle.store.specs.Storing.{State, state, Answer, gives, among, intern, fresh}
 use Rattle.listing.specs.Listings as Listings
@@ -22,6 +22,7 @@ use Rattle.sheet.specs.Rows as Rows
 use Rattle.sheet.specs.Rows.{Rows, rows, variableLine, cellLine, functionLine, sheetLine, sheet}
 use Rattle.calls.specs.Calls as Calls
 use Rattle.calls.specs.Calls.{Job, ready, afterListing, withSheet, job}
+use Rattle.calls.proofs.Lining.{LineHas, WholeHas, by-lines}
 
 -- each refusal has a number from 1 to 20; 0 says that there is none
 pub refusal-some : (why : Refusal) → (1 ≤ numberOf why) × (numberOf why ≤ 20)
@@ -80,34 +81,19 @@ job-most (of-sheet x) = omega (arith, sheet-most x)
 
 -- ---- a text whose lines are refused by the numbers that `Of` tells
 
-LineBy : {S : Type 0} → (Of : ℕ → Type 0) → Line S Refusal → Type 0
-LineBy Of (goes s rest) = Unit {0}
-LineBy Of (stops why) = Of (numberOf why)
+module _ {S : Type 0} (Of : ℕ → Type 0) where
+  abbrev LineBy : Line S Refusal → Type 0
+  LineBy = LineHas (λ _. Unit {0}) (λ why. Of (numberOf why))
 
-unfoldable pub WholeBy : {S : Type 0} → (Of : ℕ → Type 0) → Whole S Refusal → Type 0
-WholeBy Of (Lines.read s) = Unit {0}
-WholeBy Of (Lines.refused why) = Of (numberOf why)
+  abbrev pub WholeBy : Whole S Refusal → Type 0
+  WholeBy = WholeHas (λ _. Unit {0}) (λ why. Of (numberOf why))
 
-either-line : {S : Type 0} (Of : ℕ → Type 0) (b : Bool) (x y : Line S Refusal) → LineBy Of x → LineBy Of y → LineBy Of (cond b x y)
-either-line Of true x y p q = p
-either-line Of false x y p q = q
+  either-line : (b : Bool) (x y : Line S Refusal) → LineBy x → LineBy y → LineBy (cond b x y)
+  either-line true x y p q = p
+  either-line false x y p q = q
 
-module _ {S : Type 0} (Of : ℕ → Type 0) (line : S → ℕ → List ℕ → Line S Refusal) (f : (s : S) (b : ℕ) (bs : List ℕ) → LineBy Of (line s b bs)) where
-  after-line : (l : Line S Refusal) (next : S → List ℕ → Whole S Refusal) → LineBy Of l → ((s : S) (bs : List ℕ) → WholeBy Of (next s bs))
-      → WholeBy Of (afterLine l next)
-  unfolding afterLine LineBy WholeBy
-  after-line (goes s rest) next x more = more s rest
-  after-line (stops why) next x more = x
-
-  with-fuel : (fuel : ℕ) (s : S) (bs : List ℕ) → WholeBy Of (linesBy fuel line s bs)
-  unfolding linesBy atLine WholeBy
-  with-fuel zero s bs = tt
-  with-fuel (suc fuel) s [] = tt
-  with-fuel (suc fuel) s (b ∷ bs) = after-line (line s b bs) (λ s bs. linesBy fuel line s bs) (f s b bs) λ s bs. with-fuel fuel s bs
-
-  text-by : (s : S) (bs : List ℕ) → WholeBy Of (lines line s bs)
-  unfolding lines
-  text-by s bs = with-fuel (length bs) s bs
+  text-by : (line : S → ℕ → List ℕ → Line S Refusal) → ((s : S) (b : ℕ) (bs : List ℕ) → LineBy (line s b bs)) → (s : S) (bs : List ℕ) → WholeBy (lines line s bs)
+  text-by line f s bs = by-lines (λ _. Unit {0}) (λ why. Of (numberOf why)) line (λ s b bs _. f s b bs) s bs tt
 
 -- ---- a listing: 1, 2, 6, 7, 8
 
@@ -128,22 +114,22 @@ storing-by t (state room ts kept calls) =
     (either-answer (ltb (length ts) room) _ _ tt eight)))
 
 stored-by : (k : Known) (rest : List ℕ) (a : Answer) → AnswerBy a → LineBy OfListing (stored k rest a)
-unfolding stored AnswerBy LineBy
+unfolding stored AnswerBy LineHas
 stored-by k rest (gives t s) x = tt
 stored-by k rest (Storing.refused why s) x = x
 
 formed-by : (k : Known) (r : Read Tree) → LineBy OfListing (formed k r)
-unfolding formed LineBy
+unfolding formed LineHas
 formed-by k bad = one
 formed-by k (is t rest) = stored-by k rest (intern t (k .store)) (storing-by t (k .store))
 
 swapped-by : (substituting : Bool) (k : Known) (r : Read Swap) → LineBy OfListing (swapped substituting k r)
-unfolding swapped LineBy
+unfolding swapped LineHas
 swapped-by substituting k bad = one
 swapped-by substituting k (is s rest) = either-line OfListing (substituting && aboveLast aboveVariable (k .swaps) s) _ _ tt one
 
 listing-line-by : (substituting : Bool) (k : Known) (first : ℕ) (bs : List ℕ) → LineBy OfListing (listingLine substituting k first bs)
-unfolding listingLine swapLine nodeLine LineBy
+unfolding listingLine swapLine nodeLine LineHas
 listing-line-by substituting k first bs =
     either-line OfListing (eqb first (letter "s")) _ _
     (either-line OfListing (ltb (length (k .swaps)) mostSwaps) _ _ (swapped-by substituting k (swapFields (k .nodes) first bs)) two)
@@ -159,7 +145,7 @@ rooted-by [] swaps store = one
 rooted-by (t ∷ ts) swaps store = tt
 
 whole-by : (w : Whole Known Refusal) → WholeBy OfListing w → ListingBy (whole w)
-unfolding whole WholeBy ListingBy
+unfolding whole WholeHas ListingBy
 whole-by (Lines.read k) x = rooted-by (k .nodes) (k .swaps) (k .store)
 whole-by (Lines.refused why) x = x
 
@@ -170,16 +156,16 @@ listing-numbers substituting bs store = whole-by _ (text-by OfListing (listingLi
 -- ---- a sheet: 3, 4
 
 row-by : {A : Type 0} (s : Rows) (inOrder : A → Bool) (with : A → Rows) (r : Read A) → LineBy OfSheet (Rows.formed s inOrder with r)
-unfolding Rows.formed LineBy
+unfolding Rows.formed LineHas
 row-by s inOrder with bad = three
 row-by s inOrder with (is x rest) = either-line OfSheet (inOrder x) _ _ tt three
 
 counted-by : {A : Type 0} (s : Rows) (most : ℕ) (before : List A) (l : Line Rows Refusal) → LineBy OfSheet l → LineBy OfSheet (Rows.counted s most before l)
-unfolding Rows.counted LineBy
+unfolding Rows.counted LineHas
 counted-by s most before l x = either-line OfSheet (ltb (length before) most) _ _ x four
 
 sheet-line-by : (s : Rows) (first : ℕ) (bs : List ℕ) → LineBy OfSheet (sheetLine s first bs)
-unfolding sheetLine variableLine cellLine functionLine LineBy
+unfolding sheetLine variableLine cellLine functionLine LineHas
 sheet-line-by s first bs =
     either-line OfSheet (eqb first (letter "v")) _ _ (counted-by s _ (s .variables) _ (row-by s _ _ _))
     (either-line OfSheet (eqb first (letter "m")) _ _ (counted-by s _ (s .cells) _ (row-by s _ _ _))
@@ -196,7 +182,7 @@ JobBy (ready root store rows) = Unit {0}
 JobBy (Calls.refused why) = OfJob (numberOf why)
 
 sheet-job : (root : Tree) (store : State) (w : Whole Rows Refusal) → WholeBy OfSheet w → JobBy (withSheet root store w)
-unfolding withSheet WholeBy JobBy
+unfolding withSheet WholeHas JobBy
 sheet-job root store (Lines.read rows) x = tt
 sheet-job root store (Lines.refused why) x = of-sheet x
 
