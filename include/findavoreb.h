@@ -49,9 +49,9 @@
  *
  * How many rows: evaluate, to_real and compile store no more nodes than the listing has node lines, of which there are at most 1024. So
  * 1024 rows are always enough for them: with more the answer is the same, word for word, and compile's bytes too (proved:
- * crates/exports/proofs/Capacity.antt). substitute and simplify store new nodes besides. All rows that are lent are cleared, whether or not
- * they were used, so that fewer rows make a short call faster: evaluating (theta - phi) / 2 takes less than half of the time with 1024
- * rows of what it takes with 4096.
+ * crates/exports/proofs/Capacity.antt); for a shorter listing as many as it has lines are enough (tried by tests/c). substitute and
+ * simplify store new nodes besides. All rows that are lent are cleared, whether or not they were used, so that fewer rows make a short
+ * call faster: evaluating (theta - phi) / 2 takes less than half as long with 1024 rows as with 4096.
  *
  * Memory that was never written: a function reads rows before it writes them, tests what it finds there, and answers the same whatever
  * it was. So a memory checker (valgrind) that watches rows fresh from malloc reports jumps that depend on uninitialised values, in

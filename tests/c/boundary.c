@@ -183,9 +183,11 @@ static void numbers(unsigned count)
         length += (size_t)snprintf(text + length, TEXT - length, "n\t%016X\t" ZERO "\n", i);
 }
 
-static void in_rows(size_t rows, uint64_t number, uint64_t detail)
+/* The value is the last number, whose bits are the number of the lines. */
+static void in_rows(unsigned lines, size_t rows, uint64_t number, uint64_t detail)
 {
-    uint64_t re = number == FINDAVOREB_DONE ? ROWS : 0, bytes = number == FINDAVOREB_DONE ? 24 : detail;
+    uint64_t re = number == FINDAVOREB_DONE ? lines : 0, bytes = number == FINDAVOREB_DONE ? 24 : detail;
+    numbers(lines);
     uint64_t returned = findavoreb_evaluate(BYTES(text), FINDAVOREB_NO_BYTES, 0, store, rows, desk, table, answer);
     expect_answer("evaluate in so many rows", returned, number, detail, re);
     returned = findavoreb_to_real(BYTES(text), store, rows, desk, table, answer);
@@ -194,16 +196,16 @@ static void in_rows(size_t rows, uint64_t number, uint64_t detail)
     expect_answer("compile in so many rows", returned, number, bytes, 0);
 }
 
-/* 1024 are enough for the longest listing and for one that is too long; 1023 are not. */
+/* As many rows as lines are enough, and where all lines differ one less is not; 1024 are for each listing, and for one that is too long. */
 static void rows(void)
 {
-    numbers(ROWS);
-    in_rows(ROWS, FINDAVOREB_DONE, 0);
-    in_rows(FINDAVOREB_MOST_ROWS, FINDAVOREB_DONE, 0);
-    in_rows(ROWS - 1, FINDAVOREB_ROOM, 0);
-    numbers(ROWS + 1);
-    in_rows(ROWS, FINDAVOREB_LONG_LIST, ROWS);
-    in_rows(FINDAVOREB_MOST_ROWS, FINDAVOREB_LONG_LIST, ROWS);
+    for (unsigned lines = 1; lines <= ROWS; lines = lines < 8 ? lines + 1 : lines * 2) {
+        in_rows(lines, lines, FINDAVOREB_DONE, 0);
+        in_rows(lines, lines - 1, FINDAVOREB_ROOM, 0);
+    }
+    in_rows(ROWS, FINDAVOREB_MOST_ROWS, FINDAVOREB_DONE, 0);
+    in_rows(ROWS + 1, ROWS, FINDAVOREB_LONG_LIST, ROWS);
+    in_rows(ROWS + 1, FINDAVOREB_MOST_ROWS, FINDAVOREB_LONG_LIST, ROWS);
 }
 
 /* ---- memory fresh from the C library */
