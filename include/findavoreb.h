@@ -72,7 +72,8 @@ extern "C" {
  *
  *   major   a program that was right with the one before has to be changed, or at least compiled anew: a parameter, a size, the meaning of
  *           an answer or what a call asks is another one. It is FINDAVOREB_INTERFACE.
- *   minor   something was added: a function, a refusal for inputs that had none, a macro. What was there answers as before.
+ *   minor   something was added: a function, a macro, the number of a refusal that only an added function gives. What was there answers as
+ *           before.
  *   patch   no declaration changed and no answer: speed, stack, words.
  *
  * In 1 the store was four slices of words, tag, first, second and link, each with a length of its own; in 2 it is rows, with a desk beside
@@ -83,7 +84,7 @@ extern "C" {
 #define FINDAVOREB_VERSION "2.0.0"
 #define FINDAVOREB_VERSION_NUMBER 20000
 
-/* The number of the archive that was linked; of another one than this header's if it is not FINDAVOREB_VERSION_NUMBER. */
+/* The version of the archive that was linked, as a number: FINDAVOREB_VERSION_NUMBER, unless this header is that of another version. */
 uint64_t findavoreb_version(void);
 
 /* answer[0], which is also what each function returns: 0 for a success, else why the job is refused. The numbers and the names are
@@ -146,8 +147,8 @@ struct findavoreb_work {
     uint64_t table[FINDAVOREB_TABLE_WORDS];
 };
 
-/* Work memory with these rows, which stay as they are, and with 0 in each word of the desk and of the table, though no function asks for
- * that. */
+/* Work memory with these rows, which stay as they are (at the top, "Memory that was never written"), and with 0 in each word of the desk and
+ * of the table, though no function asks for that. */
 static inline void findavoreb_init_work(struct findavoreb_work *work, uint64_t (*store)[4], size_t rows)
 {
     size_t i;
