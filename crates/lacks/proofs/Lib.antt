@@ -1,0 +1,2 @@
+-- The laws that the proofs of this crate cite, and the theorems about what is named.
+mod Naming

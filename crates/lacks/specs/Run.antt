@@ -1,0 +1,20 @@
+-- What the functions on nodes and steps ensure where the rows hold a store and the table a sheet. Only connecting.
+use mathlib.Core.Path.{_≡_}
+use Prim.Native.Nat.{ℕ, _<_}
+use mathlib.Core.List.{List}
+use Rattle.expression.specs.Trees.{Leaf}
+use Rattle.store.specs.Memory.{Memory, treeAt}
+use Rattle.store.specs.Held.{Holds}
+use Rattle.sheet.specs.declared.Counts.{Counts}
+use Rattle.sheet.specs.Table.{rowsOf, Held}
+use Rattle.lacks.specs.declared.Missing.{Missing}
+use Rattle.lacks.specs.Lacking.{missingLeaf, firstMissing}
+
+-- a leaf's name, unless the table binds it
+abbrev pub NamesLeaf : (table : List ℕ) → Counts → Leaf → Missing → Type 0
+NamesLeaf table rows l r = Held table rows → r ≡ missingLeaf (rowsOf table rows) l
+
+-- the first that the tree of a node lacks
+abbrev pub Names : (m : Memory) (table : List ℕ) → Counts → (node below : ℕ) → Missing → Type 0
+Names m table rows node below r =
+    (n : ℕ) → Holds m n → node < n → node < below → Held table rows → r ≡ firstMissing (rowsOf table rows) (treeAt m node)
