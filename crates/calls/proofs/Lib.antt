@@ -1,5 +1,5 @@
--- The laws that the proofs of this crate cite, and the theorems about its public calls.
-mod Framing
+-- The laws that the proofs of this crate, and where `pub` of its callers, cite, and the theorems about its public calls.
+pub mod Framing
 mod Taping
 mod Lining
 pub mod Refusing

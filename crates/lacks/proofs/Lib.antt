@@ -1,2 +1,3 @@
 -- The laws that the proofs of this crate cite, and the theorems about what is named.
 mod Naming
+mod Jobs

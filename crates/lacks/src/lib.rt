@@ -1,12 +1,24 @@
 // The first variable or memory cell that a sheet does not bind, in the order of evaluation: what explains a refusal 10.
+ghost use mathlib.Core.Path.{_≡_};
+ghost use Prim.Native.Nat.{_≤_};
+ghost use lib.ListN.{length};
+ghost use Rattle.memory.specs.Layout.{tableWords};
 ghost use Rattle.expression.specs.Trees as Trees;
 ghost use Rattle.store.specs.Memory.{memory};
+ghost use Rattle.calls.specs.Lent.{work, capacity};
+ghost use Rattle.lacks.specs.Lacking.{missingInJob, NamesInJob};
 ghost use Rattle.lacks.specs.Run.{NamesLeaf, Names};
+use calls::Job;
+use calls::frame::clear_work;
+use calls::frame::read_job;
 use expression::node::Expression;
+use memory::layout::DESK_WORDS;
+use memory::layout::TABLE_WORDS;
 use sheet::Counts;
 use sheet::Found;
 use sheet::cell;
 use sheet::variable;
+use store::desk::standing;
 use store::reading::expression_at;
 
 pub enum Missing {
@@ -64,4 +76,39 @@ pub fn first_missing(
         Expression::PiConstant => Missing::Nothing,
         Expression::Number(_) => Missing::Nothing,
     }
+}
+
+fn missing_in_texts(
+    list: &[u8],
+    values: &[u8],
+    store: &mut [[u64; 4]],
+    desk: &mut [u64; DESK_WORDS],
+    table: &mut [u64],
+) -> Missing
+    requires { ⌜ tableWords ≤ length (now table) ⌝ }
+    ensures { λ r. ⌜ r ≡ missingInJob (capacity (work (now (store .entry)) (now (desk .entry)) (now (table .entry)))) (now (list .entry)) (now (values .entry)) ⌝ }
+{
+    let job = read_job(list, values, store, desk, table);
+    match job {
+        Job::Ready { root, counts } => {
+            let nodes = standing(desk);
+            first_missing(store, table, counts, root, nodes)
+        }
+        Job::Refused(_) => Missing::Nothing,
+    }
+}
+
+// Of an expression under a sheet, as texts; nothing where one of them is refused.
+pub fn missing_in_job(
+    list: &[u8],
+    values: &[u8],
+    store: &mut [[u64; 4]],
+    desk: &mut [u64; DESK_WORDS],
+    table: &mut [u64; TABLE_WORDS],
+) -> Missing
+    ensures { λ r. ⌜ NamesInJob (now (list .entry)) (now (values .entry)) (work (now (store .entry)) (now (desk .entry)) (now (table .entry))) r (work (now (store .exit)) (now (desk .exit)) (now (table .exit))) ⌝ }
+{
+    let answer = missing_in_texts(list, values, store, desk, table);
+    clear_work(store, desk, table);
+    answer
 }

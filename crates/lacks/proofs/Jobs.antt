@@ -1,0 +1,24 @@
+-- What is named of a job, from what reading it gives: the returns of `missing_in_texts`. Assumes nothing.
+use mathlib.Core.Path.{_≡_, ap, _∙_}
+use Prim.Native.Nat.{ℕ, min}
+use mathlib.Core.List.{List}
+use lib.ListN.{length}
+use Rattle.expression.specs.declared.refusal.Refusal.{Refusal}
+use Rattle.store.specs.Held.{Lent, lent, treeIn}
+use Rattle.sheet.specs.declared.Counts.{Counts}
+use Rattle.sheet.specs.Table.{rowsOf}
+use Rattle.calls.specs.declared.Job.{Job}
+use Rattle.calls.specs.Frame.{ReadsJob}
+use Rattle.calls.proofs.Framing.{in-room}
+use Rattle.lacks.specs.declared.Missing.{Missing}
+use Rattle.lacks.specs.Lacking.{firstMissing, missingOf, missingInJob}
+
+module _ (store : List (List ℕ)) {desk list values : List ℕ} {j : Job} {l₁ : Lent} {table : List ℕ} (p : ReadsJob list values j (lent store desk) l₁ table) where
+  pub job-names : {root : ℕ} {rows : Counts} {r : Missing} → j ≡ Job.Ready root rows → r ≡ firstMissing (rowsOf table rows) (treeIn l₁ root)
+      → r ≡ missingInJob (min (length store) 4096) list values
+  unfolding missingOf
+  job-names told q = in-room store (λ n. missingInJob n list values) (q ∙ ap missingOf (rw told at (p .answer)))
+
+  pub refused-names : {why : Refusal} → j ≡ Job.Refused why → Missing.Nothing ≡ missingInJob (min (length store) 4096) list values
+  unfolding missingOf
+  refused-names told = in-room store (λ n. missingInJob n list values) (ap missingOf (rw told at (p .answer)))
