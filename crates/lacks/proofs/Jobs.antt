@@ -19,6 +19,6 @@ module _ (store : List (List ℕ)) {desk list values : List ℕ} {j : Job} {l₁
   unfolding missingOf
   job-names told q = in-room store (λ n. missingInJob n list values) (q ∙ ap missingOf (rw told at (p .answer)))
 
-  pub refused-names : {why : Refusal} → j ≡ Job.Refused why → Missing.Nothing ≡ missingInJob (min (length store) 4096) list values
+  pub refused-nothing : {why : Refusal} → j ≡ Job.Refused why → Missing.Nothing ≡ missingInJob (min (length store) 4096) list values
   unfolding missingOf
-  refused-names told = in-room store (λ n. missingInJob n list values) (ap missingOf (rw told at (p .answer)))
+  refused-nothing told = in-room store (λ n. missingInJob n list values) (ap missingOf (rw told at (p .answer)))

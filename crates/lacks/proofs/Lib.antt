@@ -1,3 +1,4 @@
 -- The laws that the proofs of this crate cite, and the theorems about what is named.
 mod Naming
 mod Jobs
+pub mod Incomplete

@@ -17,7 +17,7 @@ use Rattle.store.specs.Memory.{Memory, expressionAt, treeAt, treeOf}
 use Rattle.store.specs.Held.{Holds}
 use Rattle.store.proofs.Stored.{tree-of-node}
 use Rattle.sheet.specs.declared.Found.{Found}
-use Rattle.sheet.specs.Rows.{Rows, Lookup, valueOf, cellValue}
+use Rattle.sheet.specs.Rows.{Rows, Lookup}
 use Rattle.sheet.specs.Table.{seenFound}
 use Rattle.lacks.proofs.Missing.{the-type}
 use Rattle.lacks.specs.declared.Missing.{Missing}
