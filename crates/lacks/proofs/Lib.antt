@@ -1,4 +1,5 @@
 -- The laws that the proofs of this crate cite, and the theorems about what is named.
 mod Naming
 mod Jobs
+mod Stepping
 pub mod Incomplete

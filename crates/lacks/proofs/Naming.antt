@@ -40,7 +40,7 @@ module _ (name : Missing) {found : Found} {l : Lookup} (p : seenFound found ≡ 
 abbrev pub Named : Missing → Type 0
 Named w = OneOf (1 ∷ 2 ∷ []) (tagOf the-type w)
 
-naming : (w next : Missing) → Named w → w ≡ orElse w next
+pub naming : (w next : Missing) → Named w → w ≡ orElse w next
 unfolding orElse
 naming Missing.Nothing next k = absurd (⊎-elim (λ e. omega (arith, e)) (λ e. omega (arith, e)) k)
 naming (Missing.Variable v) next k = refl

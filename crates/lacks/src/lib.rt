@@ -21,6 +21,8 @@ use sheet::variable;
 use store::desk::standing;
 use store::reading::expression_at;
 
+pub mod tapes;
+
 pub enum Missing {
     Nothing,
     Variable(u16),
