@@ -250,7 +250,7 @@ pub record JobMeets (room : ℕ) (list values : List ℕ) : Type 0 where
   pub read : job room list values ≡ ready root store rows
   pub meets : Meets rows root (missingInJob room list values)
 
-refused-ten : {why : Refusal} → Evaluated.Refused why ≡ Evaluated.Refused Refusal.Incomplete → numberOf why ≡ 10
+pub refused-ten : {why : Refusal} → Evaluated.Refused why ≡ Evaluated.Refused Refusal.Incomplete → numberOf why ≡ 10
 refused-ten p = ap number-in p
   where
     number-in : Evaluated → ℕ
@@ -261,7 +261,7 @@ HasNone : Evaluated → Type 0
 HasNone (Evaluated.Value z) = ⊥
 HasNone (Evaluated.Refused why) = Unit {0}
 
-refused-valued : {why : Refusal} {z : Complex} → Evaluated.Refused why ≡ Evaluated.Value z → ⊥
+pub refused-valued : {why : Refusal} {z : Complex} → Evaluated.Refused why ≡ Evaluated.Value z → ⊥
 unfolding HasNone
 refused-valued p = subst HasNone p tt
 

@@ -3,3 +3,5 @@ mod Naming
 mod Jobs
 mod Stepping
 pub mod Incomplete
+pub mod OnTapes
+pub mod OneAnswer

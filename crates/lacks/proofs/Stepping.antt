@@ -1,7 +1,7 @@
 -- What is named of a tape, step by step: each return of the functions of src/tapes. Assumes nothing.
 use mathlib.Core.Path.{_≡_, sym, ap, _∙_}
 use Prim.Native.Nat.{ℕ, _+_, _*_, _<_, _≤_}
-use mathlib.Core.List.{List, [], _∷_, map}
+use mathlib.Core.List.{List, map}
 use lib.ListN.{drop, replicate}
 use Rattle.expression.specs.declared.refusal.Refusal.{Refusal}
 use Rattle.text.specs.Lines as Lines
@@ -18,9 +18,6 @@ use Rattle.tape.proofs.Stacks.{leftSteps}
 use Rattle.lacks.specs.declared.Missing.{Missing}
 use Rattle.lacks.specs.Lacking.{orElse, missingStep, missingInSteps, missingUnder, missingChecked, missingOnTape}
 use Rattle.lacks.proofs.Naming.{Named, naming}
-
-pub on-step : (rows : Rows) {s s′ : Step} {r : Missing} → s ≡ s′ → r ≡ missingStep rows s′ → r ≡ missingStep rows s
-on-step rows told p = p ∙ ap (missingStep rows) (sym told)
 
 -- ---- the steps that are left name what the whole tape names
 

@@ -1,5 +1,4 @@
 -- `missing_in_texts` meets its contract. Assumes nothing.
-use Rattle.calls.proofs.Framing.{job-holds}
 use Rattle.lacks.proofs.Jobs.{job-names, refused-nothing}
 use borrow.Author.Needs.{needs}
 use Rattle.lacks.proofs.missing_in_texts.Statement.{statement}
@@ -16,7 +15,7 @@ missing-in-texts-spec =
     (λ c. search needs)
     (λ c. search needs)
     (λ c. search needs)
-    (λ c. let j = job-holds (c .before .before .before .before .before .before .before .before .before .before .before .read-job .ensures) (c .before .before .before .before .before .before .job .given .1) in job-names (c .before .before .before .before .before .before .before .before .before .before .before .before .before .before .before .before .before .before .args .store .now) (c .before .before .before .before .before .before .before .before .before .before .before .read-job .ensures) (c .before .before .before .before .before .before .job .given .1) (c .first-missing .ensures _ (j .1 .holds) (j .0) (rw (c .before .before .before .standing .ensures) (j .0)) (j .2)))
+    (λ c. job-names (c .before .before .before .before .before .before .before .before .before .before .before .before .before .before .before .before .before .before .args .store .now) (c .before .before .before .before .before .before .before .before .before .before .before .read-job .ensures) (c .before .before .before .before .before .before .job .given .1) (c .before .before .before .standing .ensures) (c .first-missing .ensures))
     (λ c. search needs)
     (λ c. search needs)
     (λ c. refused-nothing (c .before .before .before .before .before .before .before .before .before .before .before .before .args .store .now) (c .before .before .before .before .before .read-job .ensures) (c .enum-told .given .1)))
