@@ -1,4 +1,4 @@
--- What is named at a leaf and at a node, by its kind: each return of `missing_variable`, `missing_cell` and `first_missing`. Assumes nothing.
+-- What is named at a node, by its kind: each return of `first_missing`. Assumes nothing.
 use mathlib.Core.Path.{_≡_, refl, sym, ap, _∙_}
 use mathlib.Core.List.{[], _∷_}
 use mathlib.Core.Logic.{⊎-elim}
@@ -12,27 +12,15 @@ use Rattle.expression.specs.declared.PrefixOperator.{PrefixOperator}
 use Rattle.expression.specs.declared.ExpressionFunction.{ExpressionFunction}
 use Rattle.expression.specs.declared.node.Expression.{Expression}
 use Rattle.expression.specs.Nodes.{grown}
-use Rattle.expression.specs.Trees as Trees
 use Rattle.store.specs.Memory.{Memory, expressionAt, treeAt, treeOf}
 use Rattle.store.specs.Held.{Holds}
 use Rattle.store.proofs.Stored.{tree-of-node}
 use Rattle.sheet.specs.declared.Found.{Found}
-use Rattle.sheet.specs.Rows.{Rows, Lookup}
+use Rattle.sheet.specs.Rows.{Rows, valueOf, cellValue}
 use Rattle.sheet.specs.Table.{seenFound}
 use Rattle.lacks.proofs.Missing.{the-type}
 use Rattle.lacks.specs.declared.Missing.{Missing}
 use Rattle.lacks.specs.Lacking.{unlessBound, orElse, missingLeaf, firstMissing}
-
--- ---- a leaf
-
-module _ (name : Missing) {found : Found} {l : Lookup} (p : seenFound found ≡ l) where
-  pub is-bound : {z : Complex} → found ≡ Found.Value z → Missing.Nothing ≡ unlessBound name l
-  unfolding unlessBound
-  is-bound told = ap (λ f. unlessBound name (seenFound f)) (sym told) ∙ ap (unlessBound name) p
-
-  pub is-unbound : found ≡ Found.Nothing → name ≡ unlessBound name l
-  unfolding unlessBound
-  is-unbound told = ap (λ f. unlessBound name (seenFound f)) (sym told) ∙ ap (unlessBound name) p
 
 -- ---- one after the other
 
@@ -77,13 +65,15 @@ module _ {m : Memory} {n node : ℕ} (h : Holds m n) (l : node < n) {e : Express
     unfolding firstMissing grown
     of-right e q = of-node told (is-second p e q)
 
-  pub of-variable : {r : Missing} {v : ℕ} → e ≡ Expression.Variable v → r ≡ missingLeaf rows (Trees.variable v) → r ≡ firstMissing rows (treeAt m node)
-  unfolding firstMissing grown
-  of-variable told p = of-node told p
+  pub of-variable : {v : ℕ} {r : Missing} (found : Found) → e ≡ Expression.Variable v → seenFound found ≡ valueOf v (rows .variables)
+      → r ≡ unlessBound (Missing.Variable v) (seenFound found) → r ≡ firstMissing rows (treeAt m node)
+  unfolding firstMissing grown missingLeaf
+  of-variable {v} found told q p = of-node told (p ∙ ap (unlessBound (Missing.Variable v)) q)
 
-  pub of-cell : {r : Missing} {region index : ℕ} → e ≡ Expression.Address region index → r ≡ missingLeaf rows (Trees.cell region index) → r ≡ firstMissing rows (treeAt m node)
-  unfolding firstMissing grown
-  of-cell told p = of-node told p
+  pub of-cell : {region index : ℕ} {r : Missing} (found : Found) → e ≡ Expression.Address region index → seenFound found ≡ cellValue region index (rows .cells)
+      → r ≡ unlessBound (Missing.Cell region index) (seenFound found) → r ≡ firstMissing rows (treeAt m node)
+  unfolding firstMissing grown missingLeaf
+  of-cell {region} {index} found told q p = of-node told (p ∙ ap (unlessBound (Missing.Cell region index)) q)
 
   pub of-pi : {r : Missing} → e ≡ Expression.PiConstant → r ≡ Missing.Nothing → r ≡ firstMissing rows (treeAt m node)
   unfolding firstMissing grown missingLeaf

@@ -2,7 +2,6 @@
 use mathlib.Core.Path.{_≡_}
 use Prim.Native.Nat.{ℕ, _<_}
 use mathlib.Core.List.{List}
-use Rattle.expression.specs.Trees.{Leaf}
 use Rattle.store.specs.Memory.{Memory, treeAt}
 use Rattle.store.specs.Held.{Holds}
 use Rattle.sheet.specs.declared.Counts.{Counts}
@@ -10,11 +9,7 @@ use Rattle.sheet.specs.Table.{rowsOf, Held}
 use Rattle.steps.specs.declared.Step.{Step}
 use Rattle.tape.specs.Tapes.{stepsIn}
 use Rattle.lacks.specs.declared.Missing.{Missing}
-use Rattle.lacks.specs.Lacking.{missingLeaf, firstMissing, missingStep, missingInSteps}
-
--- a leaf's name, unless the table binds it
-abbrev pub NamesLeaf : (table : List ℕ) → Counts → Leaf → Missing → Type 0
-NamesLeaf table rows l r = Held table rows → r ≡ missingLeaf (rowsOf table rows) l
+use Rattle.lacks.specs.Lacking.{firstMissing, missingStep, missingInSteps}
 
 -- the first that the tree of a node lacks
 abbrev pub Names : (m : Memory) (table : List ℕ) → Counts → (node below : ℕ) → Missing → Type 0

@@ -3,11 +3,11 @@ ghost use mathlib.Core.Path.{_≡_};
 ghost use Prim.Native.Nat.{_≤_};
 ghost use lib.ListN.{length};
 ghost use Rattle.memory.specs.Layout.{tableWords};
-ghost use Rattle.expression.specs.Trees as Trees;
 ghost use Rattle.store.specs.Memory.{memory};
+ghost use Rattle.sheet.specs.Table.{seenFound};
 ghost use Rattle.calls.specs.Lent.{work, capacity};
-ghost use Rattle.lacks.specs.Lacking.{missingInJob, NamesInJob};
-ghost use Rattle.lacks.specs.Run.{NamesLeaf, Names};
+ghost use Rattle.lacks.specs.Lacking.{unlessBound, missingInJob, NamesInJob};
+ghost use Rattle.lacks.specs.Run.{Names};
 use calls::Job;
 use calls::frame::clear_work;
 use calls::frame::read_job;
@@ -29,23 +29,13 @@ pub enum Missing {
     Cell(u16, u32),
 }
 
-fn missing_variable(table: &[u64], counts: Counts, number: u16) -> Missing
-    ensures { λ r. ⌜ NamesLeaf (now (table .entry)) counts (Trees.variable number) r ⌝ }
+// A name, where nothing was found under it.
+fn unless_bound(name: Missing, found: Found) -> Missing
+    ensures { λ r. ⌜ r ≡ unlessBound name (seenFound found) ⌝ }
 {
-    let found = variable(table, counts, number);
     match found {
         Found::Value(_) => Missing::Nothing,
-        Found::Nothing => Missing::Variable(number),
-    }
-}
-
-fn missing_cell(table: &[u64], counts: Counts, region: u16, index: u32) -> Missing
-    ensures { λ r. ⌜ NamesLeaf (now (table .entry)) counts (Trees.cell region index) r ⌝ }
-{
-    let found = cell(table, counts, region, index);
-    match found {
-        Found::Value(_) => Missing::Nothing,
-        Found::Nothing => Missing::Cell(region, index),
+        Found::Nothing => name,
     }
 }
 
@@ -73,8 +63,13 @@ pub fn first_missing(
             };
             first_missing(store, table, counts, right, node)
         }
-        Expression::Variable(number) => missing_variable(table, counts, number),
-        Expression::Address(region, index) => missing_cell(table, counts, region, index),
+        Expression::Variable(number) => {
+            unless_bound(Missing::Variable(number), variable(table, counts, number))
+        }
+        Expression::Address(region, index) => unless_bound(
+            Missing::Cell(region, index),
+            cell(table, counts, region, index),
+        ),
         Expression::PiConstant => Missing::Nothing,
         Expression::Number(_) => Missing::Nothing,
     }

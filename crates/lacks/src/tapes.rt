@@ -6,13 +6,14 @@ ghost use Rattle.memory.specs.Layout.{tableWords};
 ghost use Rattle.lacks.specs.Lacking.{missingOnTape, NamesOnTape};
 ghost use Rattle.lacks.specs.Run.{NamesStep, NamesSteps};
 use super::Missing;
-use super::missing_cell;
-use super::missing_variable;
+use super::unless_bound;
 use memory::layout::TABLE_WORDS;
 use memory::zero;
 use sheet::Counts;
 use sheet::Sheet;
+use sheet::cell;
 use sheet::read_sheet;
+use sheet::variable;
 use steps::Step;
 use steps::bytes::fields_at;
 use steps::step_of;
@@ -23,8 +24,13 @@ fn missing_step(table: &[u64], counts: Counts, s: Step) -> Missing
     ensures { λ r. ⌜ NamesStep (now (table .entry)) counts s r ⌝ }
 {
     match s {
-        Step::Variable(number) => missing_variable(table, counts, number),
-        Step::Memory(region, index) => missing_cell(table, counts, region, index),
+        Step::Variable(number) => {
+            unless_bound(Missing::Variable(number), variable(table, counts, number))
+        }
+        Step::Memory(region, index) => unless_bound(
+            Missing::Cell(region, index),
+            cell(table, counts, region, index),
+        ),
         Step::Number(_) => Missing::Nothing,
         Step::Pi => Missing::Nothing,
         Step::Function(_) => Missing::Nothing,

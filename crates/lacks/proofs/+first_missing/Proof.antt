@@ -9,9 +9,10 @@ use borrow.Fn.Kinds.{In}
 use borrow.Fn.PlainCycle.{Measures, is, falls, and}
 use Rattle.lacks.proofs.first_missing.Reads as first-missing
 use Rattle.lacks.proofs.first_missing.Kinds as first-missing-kinds
+use Rattle.sheet.proofs.variable.Reads as variable-reads
+use Rattle.lacks.proofs.unless_bound.Reads as unless-bound-reads
+use Rattle.sheet.proofs.cell.Reads as cell-reads
 use Rattle.lacks.proofs.+first_missing.Lts-first_missing as first-missing-lts
-use Rattle.lacks.proofs.missing_cell.Reads as missing-cell-reads
-use Rattle.lacks.proofs.missing_variable.Reads as missing-variable-reads
 use Rattle.store.proofs.reading.expression_at.Reads as expression-at-reads
 use Rattle.lacks.proofs.+first_missing.{statement}
 use Rattle.lacks.proofs.+first_missing.Tie.{close}
@@ -33,7 +34,7 @@ first-missing-below t =
 
 -- what each callee asks and tells; `first_missing` itself is asked below t
 abbrev claims : ℕ → first-missing-lts.Claims
-claims t = (expression-at-reads.Asked, expression-at-reads.Learnt, first-missing-below t, first-missing.Post, missing-variable-reads.Asked, missing-variable-reads.Learnt, missing-cell-reads.Asked, missing-cell-reads.Learnt)
+claims t = (expression-at-reads.Asked, expression-at-reads.Learnt, first-missing-below t, first-missing.Post, variable-reads.Asked, variable-reads.Learnt, unless-bound-reads.Asked, unless-bound-reads.Learnt, cell-reads.Asked, cell-reads.Learnt)
 
 first-missing-returns : (t : ℕ) → first-missing-lts.Need-returns (claims t) (first-missing-at t) first-missing.Post
 first-missing-returns t c = λ n h l b s. absurd (omega (arith, b, c .if1 .taken))
@@ -71,14 +72,8 @@ first-missing-first-missing-requires-4 t c κs = (omega (arith, c .before .befor
 first-missing-enum-known-e-4 : (t : ℕ) → first-missing-lts.Need-enum-known-e-4 (claims t) (first-missing-at t) first-missing.Post
 first-missing-enum-known-e-4 t c = search needs
 
-first-missing-missing-variable-requires : (t : ℕ) → first-missing-lts.Need-missing-variable-requires (claims t) (first-missing-at t) first-missing.Post
-first-missing-missing-variable-requires t c κs = search needs
-
 first-missing-enum-known-e-5 : (t : ℕ) → first-missing-lts.Need-enum-known-e-5 (claims t) (first-missing-at t) first-missing.Post
 first-missing-enum-known-e-5 t c = search needs
-
-first-missing-missing-cell-requires : (t : ℕ) → first-missing-lts.Need-missing-cell-requires (claims t) (first-missing-at t) first-missing.Post
-first-missing-missing-cell-requires t c κs = search needs
 
 first-missing-enum-told-2 : (t : ℕ) → first-missing-lts.Need-enum-told-2 (claims t) (first-missing-at t) first-missing.Post
 first-missing-enum-told-2 t c = search needs
@@ -96,10 +91,10 @@ first-missing-returns-5 : (t : ℕ) → first-missing-lts.Need-returns-5 (claims
 first-missing-returns-5 t c = λ n h l b s. let w = within-node h l (c .before .before .before .before .before .before .before .expression-at .ensures) (c .before .before .before .before .before .e3 .given .1) in of-right h l (c .before .before .before .before .before .before .before .expression-at .ensures) _ (c .before .before .before .before .before .e3 .given .1) (c .before .before .before .first-missing3 .ensures n h (omega (arith, w .0, l)) (w .0) s) (c .before .enum-told .given .1) (c .first-missing4 .ensures n h (omega (arith, w .1, l)) (w .1) s)
 
 first-missing-returns-6 : (t : ℕ) → first-missing-lts.Need-returns-6 (claims t) (first-missing-at t) first-missing.Post
-first-missing-returns-6 t c = λ n h l b s. of-variable h l (c .before .before .before .before .expression-at .ensures) _ (c .before .before .e4 .given .1) (c .missing-variable .ensures s)
+first-missing-returns-6 t c = λ n h l b s. of-variable h l (c .before .before .before .before .before .expression-at .ensures) _ (c .before .variable .result) (c .before .before .before .e4 .given .1) (c .before .variable .ensures s) (c .unless-bound .ensures)
 
 first-missing-returns-7 : (t : ℕ) → first-missing-lts.Need-returns-7 (claims t) (first-missing-at t) first-missing.Post
-first-missing-returns-7 t c = λ n h l b s. of-cell h l (c .before .before .before .before .expression-at .ensures) _ (c .before .before .e5 .given .1) (c .missing-cell .ensures s)
+first-missing-returns-7 t c = λ n h l b s. of-cell h l (c .before .before .before .before .before .expression-at .ensures) _ (c .before .cell .result) (c .before .before .before .e5 .given .1) (c .before .cell .ensures s) (c .unless-bound2 .ensures)
 
 first-missing-returns-8 : (t : ℕ) → first-missing-lts.Need-returns-8 (claims t) (first-missing-at t) first-missing.Post
 first-missing-returns-8 t c = λ n h l b s. of-pi h l (c .before .before .expression-at .ensures) _ (c .enum-told2 .given .1) refl
@@ -123,9 +118,11 @@ pub +first-missing-spec : {M : Type 1} → statement M
     (first-missing-returns-2 t)
     (first-missing-first-missing-requires-4 t)
     (first-missing-enum-known-e-4 t)
-    (first-missing-missing-variable-requires t)
+    (λ c κs. search needs)
+    (λ c κs. search needs)
     (first-missing-enum-known-e-5 t)
-    (first-missing-missing-cell-requires t)
+    (λ c κs. search needs)
+    (λ c κs. search needs)
     (first-missing-enum-told-2 t)
     (first-missing-enum-told-3 t)
     (first-missing-returns-3 t)
