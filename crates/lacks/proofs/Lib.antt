@@ -2,6 +2,7 @@
 mod Naming
 mod Jobs
 mod Stepping
+mod Examples
 pub mod Incomplete
 pub mod OnTapes
 pub mod OneAnswer
