@@ -1,0 +1,38 @@
+-- `fields_fault` meets its contract. The invariant is `Fielding`; the measure is what is left of the form. Assumes nothing.
+use mathlib.Core.Path.{refl, _∙_}
+use Prim.Native.Nat.{_-_}
+use native.Mathlib.Omega.{arith}
+use lib.ListN.{length}
+use Rattle.text.proofs.Fields.{ends}
+use Rattle.faults.proofs.Telling.{stop-positive, Fielding, fields-done, field-read, field-bad}
+use borrow.Author.Needs.{needs}
+use Rattle.faults.proofs.fields_fault.Statement.{statement}
+use Rattle.faults.proofs.fields_fault.Tie as tie
+
+abbrev Inv-loop : tie.InvT-loop
+Inv-loop text at form i₀ k₀ i k = Fielding text form at i k
+
+abbrev μ-loop : tie.MeasureT-loop
+μ-loop text at form i₀ k₀ i k = length form - k
+
+pub fields-fault-spec : {M : Type 1} → statement M
+fields-fault-spec =
+    tie.close
+    (tie.spec
+    Inv-loop
+    μ-loop
+    (λ c. record { few = omega arith; rest = refl })
+    (λ c. omega arith)
+    (λ c. omega arith)
+    (λ c. omega arith)
+    (λ c κs. search needs)
+    (λ c κs. search needs)
+    (λ c κs. rw (c .stop-of .ensures) (stop-positive _))
+    (λ c. search needs)
+    (λ c. search needs)
+    (λ c κs. omega (arith, c .before .before .before .before .before .before .before .before .before .before .pre))
+    (λ c. c .field-fault .ensures ∙ field-bad (c .before .before .before .before .before .before .before .before .loop .inv) (c .before .before .before .before .before .before .before .loop-test .taken) refl (c .before .before .before .before .stop-of .ensures) refl (ends _ (c .before .before .before .end-field .ensures) (c .before .before .before .before .before .field-at .ensures)) (c .before .enum-told .given .1))
+    (λ c. omega arith)
+    (λ c. omega arith)
+    (λ c. field-read (c .before .before .before .before .before .before .before .before .loop .inv) (c .before .before .before .before .before .before .before .loop-test .taken) refl (c .before .before .before .before .stop-of .ensures) refl (ends _ (c .before .before .before .end-field .ensures) (c .before .before .before .before .before .field-at .ensures)) (c .before .n .given .1))
+    (λ c. fields-done (c .before .loop .inv) (c .loop-test .left)))

@@ -1,0 +1,2 @@
+-- The definitions that the contracts of `faults` cite. To believe: Faulting.
+pub mod Faulting
