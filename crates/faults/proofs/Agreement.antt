@@ -38,7 +38,7 @@ unfolding then
 then-only (is x mid) next e k = k x mid refl e
 then-only bad next e k = never e
 
-ended-again : (stop v : ℕ) (rest : List ℕ) → ended stop (is v (stop ∷ rest)) ≡ is v rest
+pub ended-again : (stop v : ℕ) (rest : List ℕ) → ended stop (is v (stop ∷ rest)) ≡ is v rest
 unfolding ended
 ended-again stop v rest = rw (eq-eqb stop stop refl)
 
@@ -52,18 +52,18 @@ spelt-wider limit limit′ (d ∷ ds) bs h e = elim (decLt (value 0 (d ∷ ds)) 
   | yes lt ↦ rw (lt-ltb (value 0 (d ∷ ds)) limit′ (omega arith)) (rw (lt-ltb (value 0 (d ∷ ds)) limit lt) at e)
 ]
 
-wider : (stop limit limit′ : ℕ) (bs : List ℕ) {v : ℕ} {rest : List ℕ} → limit ≤ limit′ → decimalField stop limit bs ≡ is v rest → decimalField stop limit′ bs ≡ is v rest
+pub wider : (stop limit limit′ : ℕ) (bs : List ℕ) {v : ℕ} {rest : List ℕ} → limit ≤ limit′ → decimalField stop limit bs ≡ is v rest → decimalField stop limit′ bs ≡ is v rest
 unfolding decimal
 wider stop limit limit′ bs {v} {rest} h e =
     let w = spelt-wider limit limit′ (run bs) (drop (length (run bs)) bs) h (ended-only stop (decimal limit bs) v rest e) in
     ap (ended stop) w ∙ ended-again stop v rest
 
-apart : {A : Type 0} → false ≡ true → A
+pub apart : {A : Type 0} → false ≡ true → A
 apart e = let z : _≡_ {A = ℕ} 0 1 = cc in absurd (omega arith)
 
 -- ---- a field is passed
 
-all-read : (bs : List ℕ) → faultIn [] bs ≡ Fault.Order
+pub all-read : (bs : List ℕ) → faultIn [] bs ≡ Fault.Order
 unfolding faultIn
 all-read bs = refl
 
@@ -187,7 +187,7 @@ swap-line nodes bs few e =
     (reads-on 115 (bytes "NI") (115 ∷ 9 ∷ mid) 1 mid (ended-again tab 1 mid) ∙ reads-on 78 (bytes "I") mid v node p ∙ reads-on 73 [] node i last c ∙ all-read last)
 
 -- what goes on was read
-no-stop : {A S R : Type 0} {why : R} {s : S} {rest : List ℕ} → stops why ≡ goes s rest → A
+pub no-stop : {A S R : Type 0} {why : R} {s : S} {rest : List ℕ} → stops why ≡ goes s rest → A
 no-stop e = let z : _≡_ {A = ℕ} 0 1 = cc in absurd (omega arith)
 
 goes-if : {S R : Type 0} (b : Bool) (l : Line S R) (why : R) {s : S} {rest : List ℕ} → cond b l (stops why) ≡ goes s rest → l ≡ goes s rest
@@ -224,7 +224,7 @@ listing-line substituting known first bs few e = elim (ℕ-discrete first 115) [
 
 -- ---- a line of a sheet
 
-stop-more : (n : ℕ) → stopOf (suc n) ≡ tab
+pub stop-more : (n : ℕ) → stopOf (suc n) ≡ tab
 unfolding stopOf
 stop-more n = rw (ne-eqb (suc n) 0 (λ q. omega arith))
 

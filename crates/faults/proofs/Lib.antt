@@ -1,3 +1,4 @@
 -- The laws that the proofs of this crate cite.
 mod Telling
 pub mod Agreement
+pub mod Converse
