@@ -1,4 +1,8 @@
--- The laws that the proofs of this crate cite.
+-- The laws that the proofs of this crate cite, and what the faults say of the readers: ListingLines, SheetLines, Agreement.
 mod Telling
+pub mod Passing
+pub mod ListingLines
+pub mod SheetLines
+mod Places
 pub mod Agreement
-pub mod Converse
+mod Examples

@@ -11,10 +11,9 @@ use lib.Dec.{eqb}
 use lib.ListN.{length, getD, drop, drop-of-length-le, length-drop}
 use borrow.Author.Tests.{lt-ltb, le-ltb, eq-eqb, ne-eqb}
 use Rattle.text.specs.declared.reading.Number.{Number}
-use Rattle.text.specs.Reading.{Read, is, bad, ended, digitOf}
+use Rattle.text.specs.Reading.{is, bad, ended, digitOf}
 use Rattle.text.specs.Seen.{seen, Reads}
 use Rattle.text.proofs.Running.{here, within}
-use Rattle.text.proofs.Fields.{told, told-bad, ends}
 use Rattle.faults.specs.declared.Fault.{Fault}
 use Rattle.faults.specs.Faulting as Spec
 use Rattle.faults.specs.Faulting.{read, baseOf, noDigit, fieldFault, stopOf, orElse, faultIn, lineFault, afterLine, fromLine}
