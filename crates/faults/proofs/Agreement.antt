@@ -1,6 +1,6 @@
 -- What the faults say of a text that is refused: the line that the refusal names is there, the reader that has taken the lines before it does not take it,
 -- and the fault is told of that line. Assumes nothing.
-use mathlib.Core.Path.{_≡_, refl, ap, _∙_}
+use mathlib.Core.Path.{_≡_, refl, sym, ap, _∙_}
 use mathlib.Core.List.{List, [], _∷_, _++_}
 use mathlib.Core.Bool.{Bool, true, false, cond, _&&_}
 use Prim.Native.Nat.{ℕ, zero, suc, _≤_, _<_}
@@ -11,12 +11,13 @@ use lib.Dec.{ltb}
 use borrow.Author.Tests.{eq-eqb, ne-eqb}
 use Rattle.expression.specs.declared.refusal.Refusal.{Refusal}
 use Rattle.expression.specs.Trees.{Tree, size, depth}
-use Rattle.expression.specs.Limits.{largest, deepest}
+use Rattle.expression.specs.Limits.{largest, deepest, indices}
 use Rattle.store.specs.Storing as Storing
 use Rattle.store.specs.Storing.{State, state, among, intern}
 use Rattle.node_lines.specs.NodeLines.{nodeFields}
 use Rattle.listing.specs.Listings as Listings
 use Rattle.listing.specs.Listings.{Known, known, Swap, aboveVariable, stored, formed, swapFields, swapped, swapLine, nodeLine, listingLine, mostNodes, mostSwaps, lineNumber, rooted, whole, listing}
+use Rattle.text.specs.Letters.{letter}
 use Rattle.text.specs.Reading.{Read, is, bad}
 use Rattle.text.specs.Lines as Lines
 use Rattle.text.specs.Lines.{Line, goes, stops, Whole, atLine, linesBy, lines, none, aboveLast}
@@ -26,8 +27,9 @@ use Rattle.faults.specs.declared.Fault.{Fault}
 use Rattle.faults.specs.Faulting.{listingForm, sheetForm, faultIn, lineFault, fromLine, listingFault, sheetFault}
 use Rattle.faults.proofs.Places.{Next, refused-at, ends-at, listing-feedless, sheet-feedless}
 use Rattle.faults.proofs.Telling.{nothing-left}
-use Rattle.faults.proofs.ListingLines.{listing-took}
-use Rattle.faults.proofs.SheetLines.{sheet-took}
+use Rattle.faults.proofs.Passing.{Taken, Stops}
+use Rattle.faults.proofs.ListingLines.{listing-took, listing-refused, node-taken}
+use Rattle.faults.proofs.SheetLines.{Goes, sheet-took, sheet-refused, sheet-goes}
 
 -- two lines that differ in kind, and a line that is named
 differ : {A S R : Type 0} {s : S} {rest : List ℕ} {why : R} → goes s rest ≡ stops why → A
@@ -232,3 +234,20 @@ listing-explained substituting (b ∷ bs) k store e = go (lines (listingLine sub
     go (Lines.refused why) q e =
         let y : why ≡ Refusal.BadList k = cc in
         at-line (listing-fault-of substituting (b ∷ bs) k store (q ∙ ap Lines.refused y))
+
+-- ---- what a fault says of the line that is there
+
+module _ (text : List ℕ) (k first : ℕ) (rest : List ℕ) (there : fromLine k text ≡ first ∷ rest) where
+  -- any but Order: the line is taken nowhere
+  pub never-in-a-listing : (listingFault text k ≡ Fault.Order → ⊥) → (substituting : Bool) (before : Known) → length (before .nodes) ≤ mostNodes → Stops (listingLine substituting before first rest)
+  never-in-a-listing n substituting before few = listing-refused substituting before first rest few λ e. n (listing-told text k first rest there ∙ e)
+
+  pub never-in-a-sheet : (sheetFault text k ≡ Fault.Order → ⊥) → (before : Rows.Rows) → Stops (sheetLine before first rest)
+  never-in-a-sheet n before = sheet-refused before first rest λ e. n (sheet-told text k first rest there ∙ e)
+
+  -- Order: the line is taken elsewhere, that of a node after enough others, that of a sheet as the first
+  pub elsewhere-in-a-listing : listingFault text k ≡ Fault.Order → (first ≡ letter "s" → ⊥) → (earlier : List Tree) → indices ≤ length earlier → Taken (nodeFields earlier first rest)
+  elsewhere-in-a-listing e n earlier enough = node-taken earlier enough first rest n (sym (listing-told text k first rest there) ∙ e)
+
+  pub elsewhere-in-a-sheet : sheetFault text k ≡ Fault.Order → Goes (sheetLine (rows [] [] []) first rest)
+  elsewhere-in-a-sheet e = sheet-goes first rest (sym (sheet-told text k first rest there) ∙ e)

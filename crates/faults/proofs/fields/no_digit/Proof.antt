@@ -6,8 +6,8 @@ use lib.ListN.{length, drop}
 use Rattle.faults.specs.Faulting.{noDigit}
 use Rattle.faults.proofs.Telling.{digit-inside, digit-passed, digit-none}
 use borrow.Author.Needs.{needs}
-use Rattle.faults.proofs.no_digit.Statement.{statement}
-use Rattle.faults.proofs.no_digit.Tie as tie
+use Rattle.faults.proofs.fields.no_digit.Statement.{statement}
+use Rattle.faults.proofs.fields.no_digit.Tie as tie
 
 abbrev Inv-loop : tie.InvT-loop
 Inv-loop text at base i₀ i = noDigit base (drop i text) ≡ noDigit base (drop at text)

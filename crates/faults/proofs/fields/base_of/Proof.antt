@@ -2,8 +2,8 @@
 use mathlib.Core.Path.{sym}
 use borrow.Author.Tests.{eq-eqb, ne-eqb}
 use Rattle.faults.specs.Faulting.{baseOf}
-use Rattle.faults.proofs.base_of.Statement.{statement}
-use Rattle.faults.proofs.base_of.Tie as tie
+use Rattle.faults.proofs.fields.base_of.Statement.{statement}
+use Rattle.faults.proofs.fields.base_of.Tie as tie
 
 pub base-of-spec : {M : Type 1} → statement M
 unfolding baseOf

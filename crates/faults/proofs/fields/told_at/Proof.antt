@@ -5,8 +5,8 @@ use borrow.Author.Tests.{eq-eqb, ne-eqb}
 use Rattle.text.proofs.Running.{here}
 use Rattle.faults.specs.Faulting.{told}
 use borrow.Author.Needs.{needs}
-use Rattle.faults.proofs.told_at.Statement.{statement}
-use Rattle.faults.proofs.told_at.Tie as tie
+use Rattle.faults.proofs.fields.told_at.Statement.{statement}
+use Rattle.faults.proofs.fields.told_at.Tie as tie
 
 pub told-at-spec : {M : Type 1} → statement M
 unfolding told

@@ -6,8 +6,8 @@ use lib.ListN.{length}
 use Rattle.text.proofs.Fields.{ends}
 use Rattle.faults.proofs.Telling.{stop-positive, Fielding, fields-done, field-read, field-bad}
 use borrow.Author.Needs.{needs}
-use Rattle.faults.proofs.fields_fault.Statement.{statement}
-use Rattle.faults.proofs.fields_fault.Tie as tie
+use Rattle.faults.proofs.fields.fields_fault.Statement.{statement}
+use Rattle.faults.proofs.fields.fields_fault.Tie as tie
 
 abbrev Inv-loop : tie.InvT-loop
 Inv-loop text at form i₀ k₀ i k = Fielding text form at i k

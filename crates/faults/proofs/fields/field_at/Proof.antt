@@ -2,8 +2,8 @@
 use borrow.Author.Tests.{eq-eqb, ne-eqb}
 use Rattle.faults.specs.Faulting.{read}
 use borrow.Author.Needs.{needs}
-use Rattle.faults.proofs.field_at.Statement.{statement}
-use Rattle.faults.proofs.field_at.Tie as tie
+use Rattle.faults.proofs.fields.field_at.Statement.{statement}
+use Rattle.faults.proofs.fields.field_at.Tie as tie
 
 pub field-at-spec : {M : Type 1} → statement M
 unfolding read

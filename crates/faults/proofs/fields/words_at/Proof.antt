@@ -2,8 +2,8 @@
 use borrow.Author.Tests.{eq-eqb, ne-eqb}
 use Rattle.faults.specs.Faulting.{wordsOf}
 use borrow.Author.Needs.{needs}
-use Rattle.faults.proofs.words_at.Statement.{statement}
-use Rattle.faults.proofs.words_at.Tie as tie
+use Rattle.faults.proofs.fields.words_at.Statement.{statement}
+use Rattle.faults.proofs.fields.words_at.Tie as tie
 
 pub words-at-spec : {M : Type 1} → statement M
 unfolding wordsOf

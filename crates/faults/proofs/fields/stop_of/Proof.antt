@@ -2,8 +2,8 @@
 use mathlib.Core.Path.{sym}
 use borrow.Author.Tests.{eq-eqb, ne-eqb}
 use Rattle.faults.specs.Faulting.{stopOf}
-use Rattle.faults.proofs.stop_of.Statement.{statement}
-use Rattle.faults.proofs.stop_of.Tie as tie
+use Rattle.faults.proofs.fields.stop_of.Statement.{statement}
+use Rattle.faults.proofs.fields.stop_of.Tie as tie
 
 pub stop-of-spec : {M : Type 1} → statement M
 unfolding stopOf

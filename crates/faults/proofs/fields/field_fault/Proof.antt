@@ -5,8 +5,8 @@ use Rattle.text.proofs.Fields.{told, told-bad}
 use Rattle.faults.specs.Faulting.{fieldFault}
 use Rattle.faults.proofs.Telling.{base-small, field-stuck}
 use borrow.Author.Needs.{needs}
-use Rattle.faults.proofs.field_fault.Statement.{statement}
-use Rattle.faults.proofs.field_fault.Tie as tie
+use Rattle.faults.proofs.fields.field_fault.Statement.{statement}
+use Rattle.faults.proofs.fields.field_fault.Tie as tie
 
 pub field-fault-spec : {M : Type 1} → statement M
 unfolding fieldFault
