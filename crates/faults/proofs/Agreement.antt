@@ -28,6 +28,7 @@ use Rattle.faults.specs.Faulting.{listingForm, sheetForm, faultIn, lineF
 use Rattle.faults.proofs.Places.{Next, refused-at, ends-at, listing-feedless, sheet-feedless}
 use Rattle.faults.proofs.Telling.{nothing-left}
 use Rattle.faults.proofs.Passing.{Taken, Stops}
+use Rattle.faults.proofs.Feeding.{line-fed}
 use Rattle.faults.proofs.ListingLines.{listing-took, listing-refused, node-taken}
 use Rattle.faults.proofs.SheetLines.{Goes, sheet-took, sheet-refused, sheet-goes}
 
@@ -251,3 +252,10 @@ module _ (text : List ℕ) (k first : ℕ) (rest : List ℕ) (there : fromLine k
 
   pub elsewhere-in-a-sheet : sheetFault text k ≡ Fault.Order → Goes (sheetLine (rows [] [] []) first rest)
   elsewhere-in-a-sheet e = sheet-goes first rest (sym (sheet-told text k first rest there) ∙ e)
+
+  -- NoLineFeed: with a line feed after it all its fields read
+  pub fed-in-a-listing : listingFault text k ≡ Fault.NoLineFeed → faultIn (listingForm first) (first ∷ (rest ++ (10 ∷ []))) ≡ Fault.Order
+  fed-in-a-listing e = line-fed (listingForm first) (first ∷ rest) (listing-feedless first .0) (sym (listing-told text k first rest there) ∙ e)
+
+  pub fed-in-a-sheet : sheetFault text k ≡ Fault.NoLineFeed → faultIn (sheetForm first (first ∷ rest)) (first ∷ (rest ++ (10 ∷ []))) ≡ Fault.Order
+  fed-in-a-sheet e = line-fed (sheetForm first (first ∷ rest)) (first ∷ rest) (sheet-feedless first (first ∷ rest) .0) (sym (sheet-told text k first rest there) ∙ e)

@@ -4,5 +4,6 @@ pub mod Passing
 pub mod ListingLines
 pub mod SheetLines
 mod Places
+pub mod Feeding
 pub mod Agreement
 mod Examples

@@ -18,12 +18,13 @@ use Rattle.store.specs.Storing.{Answer, intern}
 use Rattle.text.specs.Letters.{letter, bytes}
 use Rattle.text.specs.Reading.{Read, is, bad, then, tab, lf, ended, starts, nameFrom, decimal, decimalField, hexField, nameField}
 use Rattle.text.specs.Lines.{goes, none, aboveLast}
+use Rattle.text.proofs.RoundTrip.{ended-here}
 use Rattle.text.proofs.Only.{never, ended-only, decimal-only}
 use Rattle.node_lines.specs.NodeLines.{childField, numberFields, variableFields, cellFields, functionFields, prefixFields, infixFields, fieldsOf, nodeFields}
 use Rattle.listing.specs.Listings.{Known, known, Swap, aboveVariable, stored, formed, swapFields, swapped, swapLine, nodeLine, listingLine, mostNodes, mostSwaps, lineNumber}
 use Rattle.faults.specs.declared.Fault.{Fault}
 use Rattle.faults.specs.Faulting.{wordsOf, read, listingForm, stopOf, faultIn}
-use Rattle.faults.proofs.Passing.{Passes, done, field, Taken, taken, Stops, stopped, unread, below, then-only, same-rest, is-if, no-stop, goes-if, wider, ended-again, in-order, order-reads}
+use Rattle.faults.proofs.Passing.{Passes, done, field, Taken, taken, Stops, stopped, unread, below, then-only, same-rest, is-if, no-stop, goes-if, wider, in-order, order-reads}
 
 child-on : {P : Type 0} (stop : ℕ) (earlier : List Tree) (bs : List ℕ) {t : Tree} {rest : List ℕ} → length earlier ≤ indices → childField stop earlier bs ≡ is t rest
     → ((i : ℕ) → decimalField stop indices bs ≡ is i rest → P) → P
@@ -140,7 +141,7 @@ swap-line nodes bs few e =
     child-on lf nodes node few q λ i c.
     let s = ended-only tab (is 115 bs) x mid o in
     let z : bs ≡ 9 ∷ mid = cc in
-    rw z (field (ended-again tab 1 mid) (field p (field c (done (same-rest e)))))
+    rw z (field (ended-here tab 1 mid) (field p (field c (done (same-rest e)))))
 
 -- it names the line of a node, so there is one
 swap-some : (nodes : List Tree) (bs : List ℕ) {s : Swap} {rest : List ℕ} → swapFields nodes 115 bs ≡ is s rest → 0 < length nodes
@@ -248,7 +249,7 @@ module _ (earlier : List Tree) (enough : indices ≤ length earlier) where
       order-reads 72 (bytes "H") mid e λ re next p e.
       order-reads 72 [] next e λ im last q e.
       letter-reads 110 bs l λ z.
-      rw (z, ended-again tab 110 mid, p, q) taken
+      rw (z, ended-here {A = ℕ} tab 110 mid, p, q) taken
 
   variable-taken : (bs : List ℕ) → faultIn (bytes "vN") (118 ∷ bs) ≡ Fault.Order → Taken (nodeFields earlier 118 bs)
   unfolding nodeFields fieldsOf variableFields then read wordsOf nameFrom starts stopOf
@@ -256,7 +257,7 @@ module _ (earlier : List Tree) (enough : indices ≤ length earlier) where
       order-reads 118 (bytes "N") (118 ∷ bs) e λ o mid l e.
       order-reads 78 [] mid e λ v last p e.
       letter-reads 118 bs l λ z.
-      rw (z, ended-again tab 118 mid, p) taken
+      rw (z, ended-here {A = ℕ} tab 118 mid, p) taken
 
   cell-taken : (bs : List ℕ) → faultIn (bytes "mNI") (109 ∷ bs) ≡ Fault.Order → Taken (nodeFields earlier 109 bs)
   unfolding nodeFields fieldsOf cellFields then read wordsOf nameFrom starts stopOf
@@ -265,7 +266,7 @@ module _ (earlier : List Tree) (enough : indices ≤ length earlier) where
       order-reads 78 (bytes "I") mid e λ region next p e.
       order-reads 73 [] next e λ index last q e.
       letter-reads 109 bs l λ z.
-      rw (z, ended-again tab 109 mid, p, q) taken
+      rw (z, ended-here {A = ℕ} tab 109 mid, p, q) taken
 
   function-taken : (bs : List ℕ) → faultIn (bytes "fFI") (102 ∷ bs) ≡ Fault.Order → Taken (nodeFields earlier 102 bs)
   unfolding nodeFields fieldsOf functionFields then read wordsOf nameFrom starts stopOf
@@ -274,7 +275,7 @@ module _ (earlier : List Tree) (enough : indices ≤ length earlier) where
       order-reads 70 (bytes "I") mid e λ f next p e.
       order-reads 73 [] next e λ i last q e.
       letter-reads 102 bs l λ z.
-      rw (z, ended-again tab 102 mid, p, child lf next q) taken
+      rw (z, ended-here {A = ℕ} tab 102 mid, p, child lf next q) taken
 
   prefix-taken : (bs : List ℕ) → faultIn (bytes "uUI") (117 ∷ bs) ≡ Fault.Order → Taken (nodeFields earlier 117 bs)
   unfolding nodeFields fieldsOf prefixFields then read wordsOf nameFrom starts stopOf
@@ -283,7 +284,7 @@ module _ (earlier : List Tree) (enough : indices ≤ length earlier) where
       order-reads 85 (bytes "I") mid e λ f next p e.
       order-reads 73 [] next e λ i last q e.
       letter-reads 117 bs l λ z.
-      rw (z, ended-again tab 117 mid, p, child lf next q) taken
+      rw (z, ended-here {A = ℕ} tab 117 mid, p, child lf next q) taken
 
   infix-taken : (bs : List ℕ) → faultIn (bytes "bBII") (98 ∷ bs) ≡ Fault.Order → Taken (nodeFields earlier 98 bs)
   unfolding nodeFields fieldsOf infixFields then read wordsOf nameFrom starts stopOf
@@ -293,7 +294,7 @@ module _ (earlier : List Tree) (enough : indices ≤ length earlier) where
       order-reads 73 (bytes "I") left e λ i right q e.
       order-reads 73 [] right e λ j last r e.
       letter-reads 98 bs l λ z.
-      rw (z, ended-again tab 98 mid, p, child tab left q, child lf right r) taken
+      rw (z, ended-here {A = ℕ} tab 98 mid, p, child tab left q, child lf right r) taken
 
   pi-taken : (bs : List ℕ) → faultIn (bytes "p") (112 ∷ bs) ≡ Fault.Order → Taken (nodeFields earlier 112 bs)
   unfolding nodeFields read wordsOf nameFrom starts ended stopOf

@@ -8,11 +8,12 @@ use native.Mathlib.Omega.{arith}
 use native.Mathlib.Decide.{decLt}
 use lib.ListN.{length, drop}
 use lib.Dec.{ltb, eqb}
-use borrow.Author.Tests.{lt-ltb, le-ltb, eq-eqb, ne-eqb}
+use borrow.Author.Tests.{lt-ltb, le-ltb, ne-eqb}
 use Rattle.text.specs.Letters.{letter}
 use Rattle.text.specs.Reading.{Read, is, bad, then, tab, lf, ended, isFrom, run, value, spelt, decimal, decimalField}
 use Rattle.text.specs.Lines.{Line, goes, stops}
 use Rattle.text.proofs.Running.{too-large}
+use Rattle.text.proofs.RoundTrip.{ended-here}
 use Rattle.text.proofs.Only.{never, ended-only}
 use Rattle.faults.specs.declared.Fault.{Fault}
 use Rattle.faults.specs.Faulting.{read, told, noDigit, baseOf, fieldFault, stopOf, orElse, faultIn}
@@ -33,16 +34,15 @@ pub is-if : {A : Type 0} (b : Bool) (r : Read A) {x : A} {rest : List ℕ} → c
 is-if true r e = e
 is-if false r e = never e
 
+pub apart : {A : Type 0} → false ≡ true → A
+apart e = let z : _≡_ {A = ℕ} 0 1 = cc in absurd (omega arith)
+
 pub no-stop : {A S R : Type 0} {why : R} {s : S} {rest : List ℕ} → stops why ≡ goes s rest → A
 no-stop e = let z : _≡_ {A = ℕ} 0 1 = cc in absurd (omega arith)
 
 pub goes-if : {S R : Type 0} (b : Bool) (l : Line S R) (why : R) {s : S} {rest : List ℕ} → cond b l (stops why) ≡ goes s rest → l ≡ goes s rest
 goes-if true l why e = e
 goes-if false l why e = no-stop e
-
-pub ended-again : (stop v : ℕ) (rest : List ℕ) → ended stop (is v (stop ∷ rest)) ≡ is v rest
-unfolding ended
-ended-again stop v rest = rw (eq-eqb stop stop refl)
 
 -- what is not read, and what does not go on
 pub unread : {A : Type 0} (r : Read A) → ((x : A) (rest : List ℕ) → r ≡ is x rest → ⊥) → r ≡ bad
@@ -86,7 +86,7 @@ pub wider : (stop limit limit′ : ℕ) (bs : List ℕ) {v : ℕ} {rest : List �
 unfolding decimal
 wider stop limit limit′ bs {v} {rest} h e =
     let w = spelt-wider limit limit′ (run bs) (drop (length (run bs)) bs) h (ended-only stop (decimal limit bs) v rest e) in
-    ap (ended stop) w ∙ ended-again stop v rest
+    ap (ended stop) w ∙ ended-here stop v rest
 
 -- ---- a line whose fields all read, and what follows on it
 

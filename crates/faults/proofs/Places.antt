@@ -18,7 +18,7 @@ use Rattle.text.specs.Lines as Lines
 use Rattle.text.specs.Lines.{Line, goes, stops, linesBy, lines, atLine}
 use Rattle.text.proofs.Only.{ended-only, decimal-only, hex-only, name-only}
 use Rattle.faults.specs.Faulting.{wordsOf, read, listingForm, sheetForm, stopOf, afterLine, fromLine}
-use Rattle.faults.proofs.Passing.{Passes, done, field, stop-more}
+use Rattle.faults.proofs.Passing.{apart, Passes, done, field, stop-more}
 
 -- ---- bytes with no LF among them
 
@@ -26,10 +26,7 @@ unfoldable pub feedless : List ℕ → Bool
 feedless [] = true
 feedless (b ∷ bs) = cond (eqb b lf) false (feedless bs)
 
-apart : {A : Type 0} → false ≡ true → A
-apart e = let z : _≡_ {A = ℕ} 0 1 = cc in absurd (omega arith)
-
-no-feed : (b : ℕ) (bs : List ℕ) → feedless (b ∷ bs) ≡ true → (b ≡ 10 → ⊥) × (feedless bs ≡ true)
+pub no-feed : (b : ℕ) (bs : List ℕ) → feedless (b ∷ bs) ≡ true → (b ≡ 10 → ⊥) × (feedless bs ≡ true)
 unfolding feedless
 no-feed b bs e = elim (ℕ-discrete b 10) [
   | yes q ↦ apart (rw (eq-eqb b 10 q) at e)
@@ -73,11 +70,11 @@ unfolding lastHex feedless
 hex-feedless zero n = refl
 hex-feedless (suc k) n = feedless-append (lastHex k (n / 16)) (byteOf (n % 16) ∷ []) (hex-feedless k (n / 16)) (feedless-more (byteOf (n % 16)) [] (byte-no-feed (n % 16)) refl)
 
-unfoldable allFeedless : List (List ℕ) → Bool
+unfoldable pub allFeedless : List (List ℕ) → Bool
 allFeedless [] = true
 allFeedless (w ∷ ws) = cond (feedless w) (allFeedless ws) false
 
-both : (b c : Bool) → cond b c false ≡ true → (b ≡ true) × (c ≡ true)
+pub both : (b c : Bool) → cond b c false ≡ true → (b ≡ true) × (c ≡ true)
 both true c e = (refl, e)
 both false c e = apart e
 
@@ -88,7 +85,7 @@ among [] (suc k) e = refl
 among (w ∷ ws) zero e = both (feedless w) (allFeedless ws) e .0
 among (w ∷ ws) (suc k) e = among ws k (both (feedless w) (allFeedless ws) e .1)
 
-words-feedless : (kind : ℕ) → (kind ≡ 10 → ⊥) → allFeedless (wordsOf kind) ≡ true
+pub words-feedless : (kind : ℕ) → (kind ≡ 10 → ⊥) → allFeedless (wordsOf kind) ≡ true
 unfolding wordsOf allFeedless feedless
 words-feedless kind n =
     if-all (eqb kind 70) functionNames _ refl

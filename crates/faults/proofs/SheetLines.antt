@@ -19,12 +19,13 @@ use Rattle.text.specs.Reading.{Read, is, bad, then, tab, lf, ended, digitOf, he
 use Rattle.text.specs.Writing.{byteOf, lastHex, inHex}
 use Rattle.text.specs.Lines.{Line, goes, none, aboveLast}
 use Rattle.text.proofs.Running.{ended-bad}
+use Rattle.text.proofs.RoundTrip.{ended-here}
 use Rattle.text.proofs.Only.{never, ended-only, hex-only, name-only, starts-only}
 use Rattle.sheet.specs.Rows as Rows
 use Rattle.sheet.specs.Rows.{rows, lineNumber, power, complexField, secondOperand, rowFields, sheetLine, counted, formed, fieldsAfter}
 use Rattle.faults.specs.declared.Fault.{Fault}
 use Rattle.faults.specs.Faulting.{wordsOf, read, sheetForm, stopOf, faultIn}
-use Rattle.faults.proofs.Passing.{Passes, done, field, Stops, stopped, then-only, same-rest, is-if, no-stop, goes-if, ended-again, in-order, order-reads, stop-more}
+use Rattle.faults.proofs.Passing.{apart, Passes, done, field, Stops, stopped, then-only, same-rest, is-if, no-stop, goes-if, in-order, order-reads, stop-more}
 
 hex-on : (kinds : List ℕ) (stop : ℕ) (bs : List ℕ) {v : ℕ} {mid rest : List ℕ} → stopOf (length kinds) ≡ stop → hexField stop bs ≡ is v mid → Passes kinds mid rest → Passes (72 ∷ kinds) bs rest
 unfolding read
@@ -58,7 +59,7 @@ zero-on : (kinds bs : List ℕ) {v : ℕ} {mid rest : List ℕ} → v ≡ 0 → 
 unfolding read wordsOf nameFrom starts inHex lastHex byteOf
 zero-on kinds bs {v} {mid} z e s p =
     let h : bs ≡ inHex 0 ++ (9 ∷ mid) = hex-only 0 bs (9 ∷ mid) (rw z at (ended-only tab (hex bs) v mid e)) .1 in
-    let f : ended {A = ℕ} (stopOf (length kinds)) (is 1 (9 ∷ mid)) ≡ is 1 mid = rw s (ended-again tab 1 mid) in
+    let f : ended {A = ℕ} (stopOf (length kinds)) (is 1 (9 ∷ mid)) ≡ is 1 mid = rw s (ended-here tab 1 mid) in
     rw h (field f p)
 
 -- a test that holds for the name pow alone, unless both are 0
@@ -93,9 +94,6 @@ named-pow name bs {rest} q e =
     let n = name-only 1 5 operationNames bs (9 ∷ rest) (rw q at (ended-only tab (nameFrom 1 operationNames bs) name rest e)) in
     let w : bs ≡ bytes "pow" ++ (9 ∷ rest) = n .word in
     rw w
-
-apart : {A : Type 0} → false ≡ true → A
-apart e = let z : _≡_ {A = ℕ} 0 1 = cc in absurd (omega arith)
 
 module _ (bs : List ℕ) {r : Rows.Row} {rest : List ℕ} (e : rowFields bs ≡ is r rest) where
   pow-row : Passes (bytes "tOHHHHHH") (116 ∷ 9 ∷ bs) rest
@@ -228,7 +226,7 @@ variable-goes bs e =
     order-reads 72 (bytes "H") value e λ re next q e.
     order-reads 72 [] next e λ im last r e.
     letter-reads 118 bs l λ z.
-    rw (z, ended-again tab 118 mid, p, q, r) on
+    rw (z, ended-here {A = ℕ} tab 118 mid, p, q, r) on
 
 cell-goes : (bs : List ℕ) → faultIn (bytes "mNIH") (109 ∷ bs) ≡ Fault.Order → Goes (sheetLine empty 109 bs)
 unfolding sheetLine Rows.cellLine counted formed Rows.cellFields then read wordsOf nameFrom starts stopOf none aboveLast
@@ -238,7 +236,7 @@ cell-goes bs e =
     order-reads 73 (bytes "H") next e λ index value q e.
     order-reads 72 [] value e λ real last r e.
     letter-reads 109 bs l λ z.
-    rw (z, ended-again tab 109 mid, p, q, r) on
+    rw (z, ended-here {A = ℕ} tab 109 mid, p, q, r) on
 
 zero-reads : (stop : ℕ) (bs : List ℕ) {v : ℕ} {rest : List ℕ} → nameField stop (bytes "0000000000000000" ∷ []) bs ≡ is v rest → hexField stop bs ≡ is 0 rest
 unfolding hex hexFrom digitOf
@@ -246,7 +244,7 @@ zero-reads stop bs {v} {rest} e =
     let n = name-only 1 v (bytes "0000000000000000" ∷ []) bs (stop ∷ rest) (ended-only stop _ v rest e) in
     let i : Prim.Native.Nat._-_ v 1 ≡ 0 = omega (arith, n .among) in
     let w : bs ≡ bytes "0000000000000000" ++ (stop ∷ rest) = rw i at (n .word) in
-    rw w (ended-again stop 0 rest)
+    rw w (ended-here stop 0 rest)
 
 pow-name : (bs : List ℕ) {name : ℕ} {rest : List ℕ} → starts (bytes "pow") bs ≡ true → nameField tab operationNames bs ≡ is name rest → name ≡ 5
 unfolding nameFrom starts
@@ -273,7 +271,7 @@ module _ (bs : List ℕ) where
       order-reads 72 (bytes "HH") f e λ g third t e.
       order-reads 72 (bytes "H") third e λ h i u e.
       order-reads 72 [] i e λ j last v e.
-      rw (ended-again tab 116 bs, n, p, q, r, t, eq-eqb name 5 (pow-name bs s n), u, v) on
+      rw (ended-here {A = ℕ} tab 116 bs, n, p, q, r, t, eq-eqb name 5 (pow-name bs s n), u, v) on
 
   other-goes : faultIn (bytes "tOHHZZHH") (116 ∷ 9 ∷ bs) ≡ Fault.Order → Goes (sheetLine empty 116 (9 ∷ bs))
   unfolding sheetLine Rows.functionLine counted formed rowFields complexField secondOperand then read wordsOf nameFrom starts stopOf
@@ -288,7 +286,7 @@ module _ (bs : List ℕ) where
       order-reads 90 (bytes "HH") f e λ g third t e.
       order-reads 72 (bytes "H") third e λ h i u e.
       order-reads 72 [] i e λ j last v e.
-      rw (ended-again tab 116 bs, n, p, q, zero-reads tab second r, zero-reads tab f t, or-true (eqb name 5), u, v) on
+      rw (ended-here {A = ℕ} tab 116 bs, n, p, q, zero-reads tab second r, zero-reads tab f t, or-true (eqb name 5), u, v) on
 
   row-goes : (b : Bool) → starts (bytes "pow") bs ≡ b → faultIn (cond b (bytes "tOHHHHHH") (bytes "tOHHZZHH")) (116 ∷ 9 ∷ bs) ≡ Fault.Order → Goes (sheetLine empty 116 (9 ∷ bs))
   row-goes true q e = pow-goes q e
