@@ -160,7 +160,7 @@ fn told_at(text: &[u8], at: usize, base: u64, left: usize) -> Fault
 
 // A field that has no end.
 fn field_fault(text: &[u8], at: usize, kind: u8, left: usize) -> Fault
-    requires { ⌜ left ≤ 16 ⌝ }
+    requires { ⌜ left < 18446744073709551615 ⌝ }
     ensures { λ r. ⌜ r ≡ fieldFault kind left (drop at (now (text .entry))) (read kind (drop at (now (text .entry)))) ⌝ }
 {
     let n = field_at(text, at, kind);
@@ -174,7 +174,6 @@ fn field_fault(text: &[u8], at: usize, kind: u8, left: usize) -> Fault
 
 // The fields of a line, by its form.
 pub fn fields_fault(text: &[u8], at: usize, form: &[u8]) -> Fault
-    requires { ⌜ length (now form) ≤ 16 ⌝ }
     ensures { λ r. ⌜ r ≡ faultIn (now (form .entry)) (drop at (now (text .entry))) ⌝ }
 {
     let mut i = at;

@@ -1,6 +1,6 @@
 -- `listing_line` meets its contract: the tests on the first byte pick the form. Assumes nothing.
 use mathlib.Core.Path.{sym, _∙_}
-use borrow.Author.Tests.{eq-eqb, ne-eqb}
+use borrow.Author.Tests.{ne-eqb}
 use Rattle.faults.specs.Faulting.{listingForm}
 use borrow.Author.Needs.{needs}
 use Rattle.faults.proofs.listing_line.Statement.{statement}
@@ -13,28 +13,28 @@ listing-line-spec =
     (tie.spec
     (λ c. search needs)
     (λ c κs. search needs)
-    (λ c. c .fields-fault .ensures ∙ sym (rw (eq-eqb _ _ (c .before .before .if1 .taken))))
+    (λ c. c .fields-fault .ensures ∙ sym (rw (c .before .before .if1 .taken)))
     (λ c. search needs)
     (λ c κs. search needs)
-    (λ c. c .fields-fault2 .ensures ∙ sym (rw (ne-eqb _ _ (c .before .before .before .if1 .left), eq-eqb _ _ (c .before .before .if2 .taken))))
+    (λ c. c .fields-fault2 .ensures ∙ sym (rw (c .before .before .if2 .taken)))
     (λ c. search needs)
     (λ c κs. search needs)
-    (λ c. c .fields-fault3 .ensures ∙ sym (rw (ne-eqb _ _ (c .before .before .before .before .if1 .left), ne-eqb _ _ (c .before .before .before .if2 .left), eq-eqb _ _ (c .before .before .if3 .taken))))
+    (λ c. c .fields-fault3 .ensures ∙ sym (rw (c .before .before .if3 .taken)))
     (λ c. search needs)
     (λ c κs. search needs)
-    (λ c. c .fields-fault4 .ensures ∙ sym (rw (ne-eqb _ _ (c .before .before .before .before .before .if1 .left), ne-eqb _ _ (c .before .before .before .before .if2 .left), ne-eqb _ _ (c .before .before .before .if3 .left), eq-eqb _ _ (c .before .before .if4 .taken))))
+    (λ c. c .fields-fault4 .ensures ∙ sym (rw (c .before .before .if4 .taken)))
     (λ c. search needs)
     (λ c κs. search needs)
-    (λ c. c .fields-fault5 .ensures ∙ sym (rw (ne-eqb _ _ (c .before .before .before .before .before .before .if1 .left), ne-eqb _ _ (c .before .before .before .before .before .if2 .left), ne-eqb _ _ (c .before .before .before .before .if3 .left), ne-eqb _ _ (c .before .before .before .if4 .left), eq-eqb _ _ (c .before .before .if5 .taken))))
+    (λ c. c .fields-fault5 .ensures ∙ sym (rw (c .before .before .if5 .taken)))
     (λ c. search needs)
     (λ c κs. search needs)
-    (λ c. c .fields-fault6 .ensures ∙ sym (rw (ne-eqb _ _ (c .before .before .before .before .before .before .before .if1 .left), ne-eqb _ _ (c .before .before .before .before .before .before .if2 .left), ne-eqb _ _ (c .before .before .before .before .before .if3 .left), ne-eqb _ _ (c .before .before .before .before .if4 .left), ne-eqb _ _ (c .before .before .before .if5 .left), eq-eqb _ _ (c .before .before .if6 .taken))))
+    (λ c. c .fields-fault6 .ensures ∙ sym (rw (c .before .before .if6 .taken)))
     (λ c. search needs)
     (λ c κs. search needs)
-    (λ c. c .fields-fault7 .ensures ∙ sym (rw (ne-eqb _ _ (c .before .before .before .before .before .before .before .before .if1 .left), ne-eqb _ _ (c .before .before .before .before .before .before .before .if2 .left), ne-eqb _ _ (c .before .before .before .before .before .before .if3 .left), ne-eqb _ _ (c .before .before .before .before .before .if4 .left), ne-eqb _ _ (c .before .before .before .before .if5 .left), ne-eqb _ _ (c .before .before .before .if6 .left), eq-eqb _ _ (c .before .before .if7 .taken))))
+    (λ c. c .fields-fault7 .ensures ∙ sym (rw (c .before .before .if7 .taken)))
     (λ c. search needs)
     (λ c κs. search needs)
-    (λ c. c .fields-fault8 .ensures ∙ sym (rw (ne-eqb _ _ (c .before .before .before .before .before .before .before .before .before .if1 .left), ne-eqb _ _ (c .before .before .before .before .before .before .before .before .if2 .left), ne-eqb _ _ (c .before .before .before .before .before .before .before .if3 .left), ne-eqb _ _ (c .before .before .before .before .before .before .if4 .left), ne-eqb _ _ (c .before .before .before .before .before .if5 .left), ne-eqb _ _ (c .before .before .before .before .if6 .left), ne-eqb _ _ (c .before .before .before .if7 .left), eq-eqb _ _ (c .before .before .if8 .taken))))
+    (λ c. c .fields-fault8 .ensures ∙ sym (rw (c .before .before .if8 .taken)))
     (λ c. search needs)
     (λ c κs. search needs)
     (λ c. c .fields-fault9 .ensures ∙ sym (rw (ne-eqb _ _ (c .before .before .before .before .before .before .before .before .before .if1 .left), ne-eqb _ _ (c .before .before .before .before .before .before .before .before .if2 .left), ne-eqb _ _ (c .before .before .before .before .before .before .before .if3 .left), ne-eqb _ _ (c .before .before .before .before .before .before .if4 .left), ne-eqb _ _ (c .before .before .before .before .before .if5 .left), ne-eqb _ _ (c .before .before .before .before .if6 .left), ne-eqb _ _ (c .before .before .before .if7 .left), ne-eqb _ _ (c .before .before .if8 .left)))))

@@ -1,6 +1,6 @@
 -- `sheet_line` meets its contract: the tests on the first byte and the name pick the form. Assumes nothing.
 use mathlib.Core.Path.{sym, _∙_}
-use borrow.Author.Tests.{eq-eqb, ne-eqb}
+use borrow.Author.Tests.{ne-eqb}
 use Rattle.faults.specs.Faulting.{sheetForm}
 use borrow.Author.Needs.{needs}
 use Rattle.faults.proofs.sheet_line.Statement.{statement}
@@ -13,10 +13,10 @@ sheet-line-spec =
     (tie.spec
     (λ c. search needs)
     (λ c κs. search needs)
-    (λ c. c .fields-fault .ensures ∙ sym (rw (eq-eqb _ _ (c .before .before .if1 .taken))))
+    (λ c. c .fields-fault .ensures ∙ sym (rw (c .before .before .if1 .taken)))
     (λ c. search needs)
     (λ c κs. search needs)
-    (λ c. c .fields-fault2 .ensures ∙ sym (rw (ne-eqb _ _ (c .before .before .before .if1 .left), eq-eqb _ _ (c .before .before .if2 .taken))))
+    (λ c. c .fields-fault2 .ensures ∙ sym (rw (c .before .before .if2 .taken)))
     (λ c. search needs)
     (λ c κs. search needs)
     (λ c. search needs)

@@ -30,7 +30,7 @@ fields-fault-spec =
     (λ c κs. rw (c .stop-of .ensures) (stop-positive _))
     (λ c. search needs)
     (λ c. search needs)
-    (λ c κs. omega (arith, c .before .before .before .before .before .before .before .before .before .before .pre))
+    (λ c κs. omega arith)
     (λ c. c .field-fault .ensures ∙ field-bad (c .before .before .before .before .before .before .before .before .loop .inv) (c .before .before .before .before .before .before .before .loop-test .taken) refl (c .before .before .before .before .stop-of .ensures) refl (ends _ (c .before .before .before .end-field .ensures) (c .before .before .before .before .before .field-at .ensures)) (c .before .enum-told .given .1))
     (λ c. omega arith)
     (λ c. omega arith)
