@@ -1,5 +1,6 @@
 // What the programs share that read a job from standard input and print an answer: reading and parting the input, the
-// lines of the answers, and tapes as text.
+// lines of the answers, tapes as text, and writing the answer.
 pub mod input;
 pub mod line;
+pub mod output;
 pub mod tape;

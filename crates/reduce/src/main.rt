@@ -2,7 +2,7 @@
 // none.
 use console::input;
 use console::input::Input;
-use libc::STDOUT_FILENO;
+use console::output;
 use reduction::reduce;
 
 mod reduction;
@@ -14,7 +14,7 @@ fn run(text: &[u8]) {
     // More than 1024 lines of the longest form take.
     let mut out = io::large_buffer();
     let n = reduce(text, &mut out);
-    io::write_all(STDOUT_FILENO, &out[..n]);
+    output::put(&out[..n]);
 }
 
 fn main() {
