@@ -22,7 +22,7 @@ holds() {
         passed=$((passed + 1))
     else
         failed=$((failed + 1))
-        echo "FAILED $1: $wrong. It said:"
+        printf 'FAILED %s: %s. It said:\n' "$1" "$wrong"
         cat "$scratch/said"
     fi
 }
@@ -108,7 +108,7 @@ reads_only() { [ "$left" -gt 0 ] || try "$@"; }
 reads_only 'not built, and not to be written' 2 1 'cannot be written' guest ./run copy <"$scratch/hello"
 
 # Two at once: one proves, the other waits.
-started() { while kill -0 "$1" && ! grep -q 'built first' "$scratch/other_said"; do sleep 0.1; done; }
+started() { while kill -0 "$1" 2>/dev/null && ! grep -qs 'built first' "$scratch/other_said"; do sleep 0.1; done; }
 ./run copy <"$scratch/hello" >"$scratch/other" 2>"$scratch/other_said" &
 other=$!
 started $other
