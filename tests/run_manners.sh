@@ -64,6 +64,9 @@ try 'an input that cannot be read' 2 1 'could not be read' sh -c './run reduce <
 try 'a full disk' 3 1 "$unwritten" sh -c './run rack evaluate <"$1" >/dev/full' sh "$job"
 try 'a closed output' 3 1 "$unwritten" sh -c './run rack evaluate <"$1" >&-' sh "$job"
 try 'a full disk, and no answer' 3 - "$unwritten" sh -c './run reduce </dev/null >/dev/full'
+try 'a full disk, and nowhere to say it' 3 0 '' sh -c './run rack evaluate <"$1" >/dev/full 2>&-' sh "$job"
+try 'an unknown program, and nowhere to say it' 2 0 '' sh -c './run crates 2>/dev/full'
+try 'a reader that leaves' 0 0 '' sh -c './run rack evaluate <"$1" | true' sh "$job"
 try 'a full disk for the list of programs' 3 1 "$unwritten" sh -c './run --help >/dev/full'
 ./run --help >"$scratch/list"
 wanted=$scratch/list
