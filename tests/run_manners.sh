@@ -168,6 +168,7 @@ try 'another run was killed' 0 - '' ./run copy <"$scratch/hello"
 wanted=$nothing
 echo 'pub fn seven() -> u64 { 1 - 2 }' >crates/small/src/lib.rt
 try 'not proved' 2 - 'run: copy is not proved' ./run copy <"$scratch/hello"
+holds 'not proved: what rt said is shown' 2 - 'rt: small NOT PROVED'
 
 echo "$passed manners of run hold, $failed failed, $left not run"
 [ "$failed" -eq 0 ]
