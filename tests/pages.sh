@@ -4,7 +4,7 @@
 # it where the block goes on after it. The last line counts; the exit status is 0 if all agree.
 set -eu
 cd "$(dirname "$0")/.."
-[ $# -gt 0 ] || set -- docs/FORMATS.md README.md examples/README.md
+[ $# -gt 0 ] || set -- docs/FORMATS.md docs/TRUST.md README.md examples/README.md
 scratch=$(mktemp -d)
 trap 'rm -rf "$scratch"' EXIT
 
@@ -17,6 +17,7 @@ trap 'rm -rf "$scratch"' EXIT
 awk -v scratch="$scratch" '
     FNR == 1 { open = 0 }
     /^    \$ / {
+        if (open) close(at ".wanted")
         n++
         at = sprintf("%s/%04d", scratch, n)
         print FILENAME ":" FNR > (at ".place")
@@ -37,8 +38,12 @@ awk -v scratch="$scratch" '
 ran=0 failed=0
 for command in "$scratch"/*.command; do
     [ -f "$command" ] || break
-    ran=$((ran + 1))
     at=${command%.command}
+    if grep -q python3 "$command" && ! command -v python3 >/dev/null; then
+        echo "not run, since there is no python3: $(cat "$at.place")"
+        continue
+    fi
+    ran=$((ran + 1))
     sh "$command" </dev/null >"$at.printed" 2>"$at.said" || :
     if ! cmp -s "$at.printed" "$at.wanted"; then
         failed=$((failed + 1))
