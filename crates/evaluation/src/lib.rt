@@ -38,8 +38,8 @@ pub fn bound_value(found: Found) -> Evaluation
     }
 }
 
-// The value of a node, depth first, left before right, up to the first lack. A node is above its operands, so
-// `below` falls; one that is not below it is none of a store's.
+// The value of a node, depth first, left before right, up to the first lack. A node's number is above those of its
+// operands, so `below` falls; a number that is not below it is no node of the store.
 pub fn evaluate(
     store: &[[u64; 4]],
     table: &[u64],

@@ -70,7 +70,7 @@ fn result(op: u8, x: Complex, y: Complex) -> Complex {
     }
 }
 
-// What the port answers to a line. An operation that is none is answered wrong.
+// What the port answers to a line. Where a letter stands for no operation, the answer is made to be wrong.
 fn answered(line: Line) -> [u64; 6] {
     let op = line.kind;
     let x = number(line.fields[1], line.fields[2]);

@@ -59,7 +59,7 @@ fn enter(store: &mut [[u64; 4]], table: &mut [u64], node: usize, count: usize) -
     count + 1
 }
 
-// The nodes below `node` and then itself, as far as they are not in the table; a node that is not below `below` is none.
+// The nodes below `node` and then itself, as far as they are not in the table; a number that is not below `below` is no node.
 pub fn visit(
     store: &mut [[u64; 4]],
     table: &mut [u64],
