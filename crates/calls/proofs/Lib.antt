@@ -1,7 +1,7 @@
 -- The laws that the proofs of this crate, and where `pub` of its callers, cite, and the theorems about its public calls.
 pub mod Framing
 mod Taping
-mod Lining
+pub mod Lining
 pub mod Refusing
 pub mod OneAnswer
 pub mod Results

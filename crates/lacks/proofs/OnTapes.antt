@@ -28,6 +28,7 @@ use Rattle.tape.proofs.Demand.{steps-proper, steps-back}
 use Rattle.calls.specs.declared.Evaluated.{Evaluated}
 use Rattle.calls.specs.Calls as Calls
 use Rattle.calls.specs.Calls.{afterListing, withSheet, job, compileCall, playCall}
+use Rattle.calls.proofs.Lining.{WholeHas}
 use Rattle.calls.proofs.Refusing.{OfSheet, WholeBy, sheet-most, sheet-numbers}
 use Rattle.calls.proofs.Accepted.{accepted-good}
 use Rattle.calls.proofs.Rooms.{same-root}
@@ -203,7 +204,7 @@ module _ (tape values : List ℕ) where
   sound-names sound = ap (λ c. missingChecked c tape values) sound
 
   sheet-small : {why : Refusal} → sheet values ≡ Lines.refused why → numberOf why ≤ 4
-  unfolding WholeBy
+  unfolding WholeHas
   sheet-small e = sheet-most (subst (WholeBy OfSheet) e (sheet-numbers values))
 
   answered : Evaluated.Refused Refusal.Incomplete ≡ playCall tape values → check tape ≡ Checked.Sound → Answered tape values → TapeStops tape values
