@@ -1,6 +1,6 @@
 #!/bin/sh
 # tests/trust.sh: whether docs/TRUST.md is true of the files: each statement that its first table names stands on the page that it says, and each page to
-# believe has as many lines as it says, 43 of them together as many as it says. The last line counts; the exit status is 0 if all agree.
+# believe has as many lines as it says, and all of them together as many as it says. The last line counts; the exit status is 0 if all agree.
 set -eu
 cd "$(dirname "$0")/.."
 trust=docs/TRUST.md
