@@ -1,14 +1,17 @@
 -- A text parts at one place, and at one only; and the sheet's part of it is one, with the place where it begins. Assumes nothing.
-use mathlib.Core.Path.{_≡_, sym, subst, _∙_}
-use Prim.Native.Nat.{ℕ, zero, suc, _+_, _<_}
+use mathlib.Core.Path.{_≡_, refl, sym, ap, subst, _∙_}
+use Prim.Native.Nat.{ℕ, zero, suc, _+_, _<_, _≤_}
 use native.Mathlib.Omega.{arith}
 use native.Mathlib.Decide.{decLt, ℕ-discrete}
-use mathlib.Core.List.{List, _∷_}
-use lib.ListN.{length, getD}
+use mathlib.Core.List.{List, [], _∷_}
+use mathlib.Core.Bool.{Bool, true, false, cond, _&&_}
+use lib.Dec.{eqb}
+use borrow.Author.Tests.{eq-eqb, ne-eqb}
+use lib.ListN.{length, getD, take, drop}
 use lib.Seq.{length-take-le}
 use denote.Ref.{RefT}
 use Rattle.text.specs.Reading.{lf}
-use Rattle.console.specs.Parting.{EmptyLine, Parted}
+use Rattle.console.specs.Parting.{EmptyLine, Parted, listingAfter, sheetAfter, listingIn, sheetIn}
 use Rattle.console.specs.Slices.{SheetPart}
 
 -- a place before another one at which the text parts has an empty line, which the other has passed
@@ -69,3 +72,31 @@ every-text text = parts-from text (length text) 0 (omega arith) λ place h x. om
 
 pub one-sheet-part : {rest r r′ : RefT (List ℕ)} → SheetPart rest r → SheetPart rest r′ → (r .now ≡ r′ .now) × (r .ptr ≡ r′ .ptr)
 one-sheet-part p q = let b = p .block ∙ sym (q .block) in let a = p .place ∙ sym (q .place) in (p .bytes ∙ sym (q .bytes), λ i. (b i, a i))
+
+-- ---- the parts are the bytes on either side of the place
+
+-- what `Parted` says of the bytes from a place on, after the byte before it
+record PartedAfter (before : ℕ) (bs : List ℕ) (n : ℕ) : Type 0 where
+  without : (k : ℕ) → k < n → (getD (before ∷ bs) k 0 ≡ lf) × (getD bs k 0 ≡ lf) → ⊥
+  followed : n < length bs → (getD (before ∷ bs) n 0 ≡ lf) × (getD bs n 0 ≡ lf)
+
+not-both : (before b : ℕ) → ((before ≡ lf) × (b ≡ lf) → ⊥) → (eqb before lf && eqb b lf) ≡ false
+not-both before b n = elim (ℕ-discrete before lf) [
+  | yes e ↦ elim (ℕ-discrete b lf) [ yes o ↦ absurd (n (e, o)) | no o ↦ rw (eq-eqb before lf e, ne-eqb b lf o) ]
+  | no e ↦ rw (ne-eqb before lf e)
+]
+
+parts-after : (before : ℕ) (bs : List ℕ) (n : ℕ) → n ≤ length bs → PartedAfter before bs n
+    → (take n bs ≡ listingAfter before bs) × (drop 1 (drop n bs) ≡ sheetAfter before bs)
+unfolding listingAfter sheetAfter
+parts-after before [] zero h p = (refl, refl)
+parts-after before [] (suc n) h p = absurd (omega (arith, h))
+parts-after before (b ∷ bs) zero h p =
+    let e = p .followed (omega arith) in
+    rw (eq-eqb before lf (e .0), eq-eqb b lf (e .1)) (refl, refl)
+parts-after before (b ∷ bs) (suc n) h p =
+    let rest = parts-after b bs n (omega (arith, h)) (record { without = λ k l. p .without (suc k) (omega (arith, l)); followed = λ l. p .followed (omega (arith, l)) }) in
+    rw (not-both before b (p .without 0 (omega arith))) (ap (λ l. b ∷ l) (rest .0), rest .1)
+
+pub parted-in : {text : List ℕ} {n : ℕ} → Parted text n → (take n text ≡ listingIn text) × (drop 1 (drop n text) ≡ sheetIn text)
+parted-in {text} {n} p = parts-after lf text n (p .counts .0) (record { without = p .without; followed = p .followed })

@@ -1,4 +1,4 @@
-// The job on standard input: reading it to its end, and where its listing and its sheet part.
+// The job that is read: to its end, and where its listing and its sheet part.
 ghost use mathlib.Core.Path.{_≡_};
 ghost use Prim.Native.Nat.{min};
 ghost use lib.ListN.{length};
@@ -6,7 +6,6 @@ ghost use Rattle.io.specs.Counts.{Counts};
 ghost use Rattle.console.specs.Parting.{Parted};
 ghost use Rattle.console.specs.Slices.{SheetPart};
 use libc::STDERR_FILENO;
-use libc::STDIN_FILENO;
 
 const LF: u8 = b'\n';
 
@@ -16,11 +15,11 @@ pub enum Input {
     Failed,
 }
 
-// Reads up to the end of the input. One that fills the slice is too long.
-pub fn read(text: &mut [u8]) -> Input {
+// Reads a file up to its end. One that fills the slice is too long.
+pub fn read(file: i32, text: &mut [u8]) -> Input {
     let mut done: usize = 0;
     while done < text.len() {
-        let got = libc::read(STDIN_FILENO, &mut text[done..]);
+        let got = libc::read(file, &mut text[done..]);
         if got < 0 {
             return Input::Failed;
         }
@@ -74,6 +73,6 @@ pub fn sheet_of(rest: &[u8]) -> &[u8]
 pub fn say_unread() {
     io::write_all(
         STDERR_FILENO,
-        b"The standard input could not be read to its end.\n",
+        b"The input could not be read to its end.\n",
     );
 }

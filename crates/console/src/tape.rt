@@ -98,7 +98,7 @@ fn read_step(s: &[u8], at: usize) -> [u8; 24]
 }
 
 // The place after the line feed that comes next, or the end.
-fn next_line(s: &[u8], at: usize) -> usize
+pub fn next_line(s: &[u8], at: usize) -> usize
     requires { ⌜ at < length (now s) ⌝ }
     ensures { λ r. ⌜ (at < r) × (r ≤ length (now (s .entry))) × (drop r (now (s .entry)) ≡ nextLine (drop at (now (s .entry)))) ⌝ }
 {

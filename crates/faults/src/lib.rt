@@ -24,7 +24,7 @@ pub enum Fault {
 }
 
 // The place where a line begins, or the end of the text.
-fn line_start(text: &[u8], line: u64) -> usize
+pub fn line_start(text: &[u8], line: u64) -> usize
     ensures { λ r. ⌜ (r ≤ length (now (text .entry))) × (drop r (now (text .entry)) ≡ fromLine line (now (text .entry))) ⌝ }
 {
     let mut left = line;

@@ -1,68 +1,90 @@
-// One tool for the bench: its command word says what is to be done with the job on standard input. Each command has
-// a file of its own; another one takes such a file, its word in command.rt, a line in `obey` and one in help.rt.
-use command::Command;
-use command::Given;
-use command::given_command;
+// One tool for the bench: its words say what is to be done with the job in a file or on standard input. What is printed is
+// made by `commands::answer`; here it is read and written.
+ghost use Prim.Native.Nat.{_≤_};
+ghost use lib.ListN.{length};
+use commands::answer;
+use commands::words::Asked;
+use commands::words::read_words;
 use console::input;
 use console::input::Input;
-use memory::layout::DESK_WORDS;
-use memory::layout::TABLE_WORDS;
+use console::output;
+use libc::STDERR_FILENO;
+use libc::STDIN_FILENO;
+use line::gather;
 
-mod command;
-mod compile;
-mod evaluate;
-mod explain;
-mod help;
-mod limit;
-mod play;
-mod real;
-mod say;
-mod show;
-mod simplify;
-mod substitute;
+mod line;
 
 // A byte more than an input may have, so that a longer one shows.
 const ROOM: usize = 262_145;
 
-fn obey(
-    command: Command,
-    text: &[u8],
-    store: &mut [[u64; 4]],
-    desk: &mut [u64; DESK_WORDS],
-    table: &mut [u64; TABLE_WORDS],
-) {
-    match command {
-        Command::Evaluate => evaluate::run(text, store, desk, table),
-        Command::Substitute => substitute::run(text, store, desk, table),
-        Command::Real => real::run(text, store, desk, table),
-        Command::Simplify(limit) => simplify::run(text, limit, store, desk, table),
-        Command::Compile => compile::run(text, store, desk, table),
-        Command::Play => play::run(text, table),
-        Command::Show => show::run(text),
-    }
+// Room for a sentence that names a word.
+const SAID: usize = 90_112;
+
+fn finish(words: &[u8], input: &[u8])
+    requires { ⌜ length (now words) ≤ 8192 ⌝ }
+{
+    let mut out = io::large_buffer();
+    let mut said = [0u8; SAID];
+    let printed = answer(words, input, &mut out, &mut said);
+    let n = printed.out;
+    let m = printed.said;
+    output::put(&out[..n]);
+    io::write_all(STDERR_FILENO, &said[..m]);
 }
 
-fn run(command: Command, text: &[u8]) {
-    let mut store = [[0; 4]; 4096];
-    let mut desk = [0; DESK_WORDS];
-    let mut table = [0; TABLE_WORDS];
-    obey(command, text, &mut store, &mut desk, &mut table);
-}
-
-fn main() {
-    let given = given_command();
-    let Given::Known(command) = given else {
-        help::print();
-        return;
-    };
+fn with_file(words: &[u8], file: i32)
+    requires { ⌜ length (now words) ≤ 8192 ⌝ }
+{
     let mut space = [0u8; ROOM];
-    let read = input::read(&mut space);
+    let read = input::read(file, &mut space);
     match read {
         Input::Whole(length) => {
             let n = input::part(&space, length);
-            run(command, &space[..n]);
+            finish(words, &space[..n]);
         }
-        Input::TooLong => say::too_long(),
+        Input::TooLong => finish(words, &space),
         Input::Failed => input::say_unread(),
     }
+}
+
+// The job stands in the file that the last word names, or on standard input.
+fn with_input(words: &[u8], at: usize)
+    requires { ⌜ length (now words) ≤ 8192 ⌝ }
+{
+    if words.len() <= at {
+        with_file(words, STDIN_FILENO);
+        return;
+    }
+    let name = &words[at..words.len() - 1];
+    let file = os::open_read(name);
+    if file < 0 {
+        os::fail(name);
+        return;
+    }
+    with_file(words, file);
+    libc::close(file);
+}
+
+fn obey(words: &[u8])
+    requires { ⌜ length (now words) ≤ 8192 ⌝ }
+{
+    let asked = read_words(words);
+    match asked {
+        Asked::Job(_, at) => with_input(words, at),
+        _ => finish(words, b""),
+    }
+}
+
+fn main() {
+    let mut space = [0u8; 8192];
+    let length = gather(&mut space);
+    if space.len() <= length {
+        io::write_all(
+            STDERR_FILENO,
+            b"The words are too long: they may have 8191 bytes.\n",
+        );
+        return;
+    }
+    let n = input::part(&space, length);
+    obey(&space[..n]);
 }

@@ -3,6 +3,7 @@
 use console::input;
 use console::input::Input;
 use console::output;
+use libc::STDIN_FILENO;
 use reduction::reduce;
 
 mod reduction;
@@ -19,7 +20,7 @@ fn run(text: &[u8]) {
 
 fn main() {
     let mut space = [0u8; ROOM];
-    let read = input::read(&mut space);
+    let read = input::read(STDIN_FILENO, &mut space);
     match read {
         Input::Whole(length) => {
             let n = input::part(&space, length);

@@ -7,10 +7,10 @@ use Rattle.console.proofs.input.read.Statement.{statement}
 use Rattle.console.proofs.input.read.Tie as tie
 
 abbrev Inv-loop : tie.InvT-loop
-Inv-loop text₀ done₀ text done = (done ≤ length text) × (length text ≡ length text₀)
+Inv-loop file text₀ done₀ text done = (done ≤ length text) × (length text ≡ length text₀)
 
 abbrev μ-loop : tie.MeasureT-loop
-μ-loop text₀ done₀ text done = length text₀ - done
+μ-loop file text₀ done₀ text done = length text₀ - done
 
 pub read-spec : {M : Type 1} → statement M
 read-spec =

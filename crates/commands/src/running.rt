@@ -1,0 +1,101 @@
+// A command and its input: the texts that it takes, and the memory that its calls are lent.
+ghost use mathlib.Core.Path.{_≡_};
+ghost use Prim.Native.Nat.{_≤_};
+ghost use lib.ListN.{length};
+ghost use Rattle.calls.specs.Lent.{work, capacity};
+ghost use Rattle.commands.specs.Results as Results;
+ghost use Rattle.commands.specs.Results.{resultIn, result};
+ghost use Rattle.commands.specs.Coming.{Comes};
+use super::jobs;
+use super::outcome::Outcome;
+use super::tapes;
+use super::words::Command;
+use super::words::Parted;
+use super::words::Whole;
+use console::input::listing_length;
+use console::input::sheet_of;
+use memory::layout::DESK_WORDS;
+use memory::layout::TABLE_WORDS;
+
+// The longest input.
+const MOST: usize = 262_144;
+
+fn run_whole(
+    command: Whole,
+    text: &[u8],
+    store: &mut [[u64; 4]],
+    desk: &mut [u64; DESK_WORDS],
+    table: &mut [u64; TABLE_WORDS],
+    out: &mut [u8],
+) -> Outcome
+    requires { ⌜ 65536 ≤ length (now out) ⌝ }
+    ensures { λ r. ⌜ Comes (Results.whole (capacity (work (now (store .entry)) (now (desk .entry)) (now (table .entry)))) command (now (text .entry)) (now (out .entry))) r (now (out .exit)) ⌝ }
+{
+    match command {
+        Whole::Substitute => jobs::substitute(text, store, desk, table, out),
+        Whole::Real => jobs::real(text, store, desk, table, out),
+        Whole::Compile => tapes::compile(text, store, desk, table, out),
+        Whole::Show => tapes::show(text, out),
+        Whole::Check => tapes::check(text, out),
+    }
+}
+
+fn run_parted(
+    command: Parted,
+    list: &[u8],
+    values: &[u8],
+    store: &mut [[u64; 4]],
+    desk: &mut [u64; DESK_WORDS],
+    table: &mut [u64; TABLE_WORDS],
+    out: &mut [u8],
+) -> Outcome
+    requires { ⌜ 65536 ≤ length (now out) ⌝ }
+    ensures { λ r. ⌜ Comes (Results.parted (capacity (work (now (store .entry)) (now (desk .entry)) (now (table .entry)))) command (now (list .entry)) (now (values .entry)) (now (out .entry))) r (now (out .exit)) ⌝ }
+{
+    match command {
+        Parted::Evaluate => jobs::evaluate(list, values, store, desk, table, out),
+        Parted::Simplify(limit) => jobs::simplify(list, values, limit, store, desk, table, out),
+        Parted::Played => jobs::played(list, values, store, desk, table, out),
+        Parted::Play => tapes::play(list, values, table, out),
+    }
+}
+
+fn run_lent(
+    command: Command,
+    input: &[u8],
+    store: &mut [[u64; 4]],
+    desk: &mut [u64; DESK_WORDS],
+    table: &mut [u64; TABLE_WORDS],
+    out: &mut [u8],
+) -> Outcome
+    requires { ⌜ 65536 ≤ length (now out) ⌝ }
+    ensures { λ r. ⌜ Comes (resultIn (capacity (work (now (store .entry)) (now (desk .entry)) (now (table .entry)))) command (now (input .entry)) (now (out .entry))) r (now (out .exit)) ⌝ }
+{
+    match command {
+        Command::Whole(whole) => run_whole(whole, input, store, desk, table, out),
+        Command::Parted(parted) => {
+            let n = listing_length(input);
+            let values = sheet_of(&input[n..]);
+            run_parted(parted, &input[..n], values, store, desk, table, out)
+        }
+    }
+}
+
+fn rows_of_the_store() -> [[u64; 4]; 4096]
+    ensures { λ r. ⌜ 4096 ≡ length r ⌝ }
+{
+    [[0; 4]; 4096]
+}
+
+pub fn run(command: Command, input: &[u8], out: &mut [u8]) -> Outcome
+    requires { ⌜ 65536 ≤ length (now out) ⌝ }
+    ensures { λ r. ⌜ Comes (result command (now (input .entry)) (now (out .entry))) r (now (out .exit)) ⌝ }
+{
+    if MOST < input.len() {
+        return Outcome::TooLong;
+    }
+    let mut store = rows_of_the_store();
+    let mut desk = [0; DESK_WORDS];
+    let mut table = [0; TABLE_WORDS];
+    run_lent(command, input, &mut store, &mut desk, &mut table, out)
+}
