@@ -1,4 +1,4 @@
--- From outcomes to what is printed and said. Assumes nothing.
+-- From words and results to what is printed and said. Assumes nothing.
 use mathlib.Core.Path.{_≡_, refl, sym, ap, subst, _∙_}
 use mathlib.Core.List.{List, [], _∷_, _++_}
 use Prim.Native.Nat.{ℕ, _≤_, _<_}
@@ -14,54 +14,21 @@ use Rattle.console.specs.Answers.{refusedLine, refusalLine}
 use Rattle.console.proofs.Lines.{Line, stands}
 use Rattle.sentences.specs.declared.Detail.{Detail}
 use Rattle.commands.specs.declared.Printed.{Printed}
-use Rattle.commands.specs.declared.outcome.Outcome.{Outcome}
+use Rattle.outcomes.specs.declared.Outcome.{Outcome}
 use Rattle.commands.specs.declared.words.Asked.{Asked}
 use Rattle.commands.specs.declared.words.Command.{Command}
 use Rattle.commands.specs.Words.{firstOf, request}
 use Rattle.commands.specs.Asking as Asking
 use Rattle.commands.specs.Help as Help
 use Rattle.commands.specs.Results.{result}
-use Rattle.commands.specs.Printing.{refusedText, output, said, outputOf, Answers}
+use Rattle.outcomes.specs.Outcomes.{output, said}
+use Rattle.commands.specs.Printing.{outputOf, Answers}
 use Rattle.commands.specs.Printing as Printing
-use Rattle.commands.specs.Coming.{seen, Inside, Comes, Prints, saidOf, PrintsJob}
+use Rattle.outcomes.specs.Coming.{seen, Comes, Prints, saidOf}
+use Rattle.commands.specs.Coming.{PrintsJob}
 use Rattle.commands.proofs.Choosing.{chosen, passed}
 
--- ---- a refusal
-
-module _ (why : Refusal) {n : ℕ} (a : n ≡ numberOf why) {out out′ : List ℕ} {r : ℕ} where
-  pub incomplete : n ≡ 10 → Line out (bytes "incomplete\n") r out′ → Line out (refusedText why) r out′
-  unfolding refusedText
-  incomplete e l = subst (λ t. Line out t r out′) (chosen refl (eq-eqb _ _ (sym a ∙ e)) _ _) l
-
-  pub other-refusal : (n ≡ 10 → ⊥) → Line out (refusalLine why) r out′ → Line out (refusedText why) r out′
-  unfolding refusedText
-  other-refusal o l = subst (λ t. Line out t r out′) (passed refl (ne-eqb _ _ (λ e. o (a ∙ e))) _ _ refl) l
-
--- ---- an outcome
-
-module _ {outcome : Outcome} {out : List ℕ} where
-  pub prints-bytes : {n : ℕ} → outcome ≡ Outcome.Printed n → Inside out outcome → Prints out outcome n out
-  unfolding output
-  prints-bytes e i = record { bytes = ap (λ o. output (seen out o)) (sym e); within = subst (λ o. Inside out o) e i }
-
-  pub prints-listing : {n calls : ℕ} → outcome ≡ Outcome.Simplified n calls → Inside out outcome → Prints out outcome n out
-  unfolding output
-  prints-listing e i = record { bytes = ap (λ o. output (seen out o)) (sym e); within = subst (λ o. Inside out o) e i }
-
-  pub prints-refusal : {why : Refusal} {detail : Detail} {n : ℕ} {out′ : List ℕ} → outcome ≡ Outcome.Refused why detail → Line out (refusedText why) n out′
-      → Prints out outcome n out′
-  unfolding output
-  prints-refusal e l = record { bytes = stands l ∙ ap (λ o. output (seen out o)) (sym e); within = l .1 }
-
-  pub prints-too-long : {n : ℕ} {out′ : List ℕ} → outcome ≡ Outcome.TooLong → Line out (refusedLine 0 0) n out′ → Prints out outcome n out′
-  unfolding output
-  prints-too-long e l = record { bytes = stands l ∙ ap (λ o. output (seen out o)) (sym e); within = l .1 }
-
-pub nothing-said : (out : List ℕ) → Line out [] 0 out
-nothing-said out = (put-none out 0, (omega arith, refl))
-
-pub says-of : {outcome : Outcome} (o : Outcome) {out out′ : List ℕ} {n : ℕ} → outcome ≡ o → Line out (saidOf o) n out′ → Line out (saidOf outcome) n out′
-says-of o {out} {out′} {n} e l = subst (λ k. Line out (saidOf k) n out′) (sym e) l
+-- ---- what is said goes by no byte of the output
 
 said-alike : (out : List ℕ) (o : Outcome) → saidOf o ≡ said (seen out o)
 unfolding said

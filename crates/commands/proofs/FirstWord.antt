@@ -24,12 +24,12 @@ module _ {words : List ℕ} {i : ℕ} (w : Within words i) (h : i < length words
   goes-on n =
       let z : suc i ≡ i + 1 = omega arith in
       record {
-    inside = omega (arith, h);
-    whole =
-        w .whole ∙ ap (λ l. take i words ++ firstOf l) (here words i h)
-        ∙ rw (ne-eqb (getD words i 0) 10 n) (sym (append-assoc (take i words) (getD words i 0 ∷ []) (firstOf (drop (i + 1) words))))
-        ∙ ap (λ l. l ++ firstOf (drop (i + 1) words)) (sym (take-suc words i 0 h) ∙ ap (λ k. take k words) z);
-  }
+        inside = omega (arith, h);
+        whole =
+            w .whole ∙ ap (λ l. take i words ++ firstOf l) (here words i h)
+            ∙ rw (ne-eqb (getD words i 0) 10 n) (sym (append-assoc (take i words) (getD words i 0 ∷ []) (firstOf (drop (i + 1) words))))
+            ∙ ap (λ l. l ++ firstOf (drop (i + 1) words)) (sym (take-suc words i 0 h) ∙ ap (λ k. take k words) z);
+      }
 
   pub ends : getD words i 0 ≡ 10 → (take i words ≡ firstOf words) × Counts i words
   unfolding firstOf

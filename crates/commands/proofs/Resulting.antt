@@ -33,12 +33,13 @@ use Rattle.faults.specs.Faulting.{fromLine, listingFault, sheetFault}
 use Rattle.lacks.specs.declared.Missing.{Missing}
 use Rattle.lacks.specs.Lacking.{missingInJob}
 use Rattle.sentences.specs.declared.Detail.{Detail}
-use Rattle.commands.specs.declared.outcome.Outcome.{Outcome}
+use Rattle.outcomes.specs.declared.Outcome.{Outcome}
 use Rattle.commands.specs.declared.words.Command.{Command}
 use Rattle.commands.specs.declared.words.Parted.{Parted}
 use Rattle.commands.specs.declared.words.Whole.{Whole}
-use Rattle.commands.specs.Results.{Result, printed, withCalls, refused, faultOf, emptyAt, aloneOf, lackOf, ofEvaluated, evaluated, ofSimplified, simplified, playedOf, played, ofWritten, substituted, ofReal, real, ofTape, emptyTape, compiled, ofChecked, whole, parted, resultIn, result}
-use Rattle.commands.specs.Coming.{seen, Comes}
+use Rattle.commands.specs.Results.{faultOf, emptyAt, aloneOf, lackOf, ofEvaluated, evaluated, ofSimplified, simplified, playedOf, played, ofWritten, substituted, ofReal, real, ofTape, emptyTape, compiled, ofChecked, whole, parted, resultIn, result}
+use Rattle.outcomes.specs.Outcomes.{Result, printed, withCalls, refused}
+use Rattle.outcomes.specs.Coming.{seen, Comes}
 use Rattle.commands.proofs.Choosing.{chosen, passed}
 
 -- ---- what is known of a refusal besides
@@ -216,7 +217,7 @@ module _ (list : List ℕ) (why : Refusal) {n : ℕ} (a : n ≡ numberOf why) wh
   unfolding emptyAt
   by-byte at e q s o =
       let z : getD (fromLine (placeOf why) list) 0 0 ≡ getD list at 0 =
-          ap (λ k. getD (fromLine k list) 0 0) (sym q) ∙ ap (λ l. getD l 0 0) (sym s) ∙ getD-drop at list 0 0 ∙ ap (λ k. getD list k 0) (omega arith) in
+      ap (λ k. getD (fromLine k list) 0 0) (sym q) ∙ ap (λ l. getD l 0 0) (sym s) ∙ getD-drop at list 0 0 ∙ ap (λ k. getD list k 0) (omega arith) in
       rw (eq-eqb (numberOf why) 1 (sym a ∙ e), z) (ap (λ k. eqb k 10) o)
 
 module _ (list : List ℕ) (why : Refusal) {t : Bool} (a : t ≡ emptyAt list why) where

@@ -1,44 +1,13 @@
--- What the code's outcome says, as a result. Only connecting.
+-- What a job prints and says, whatever its words. Only connecting.
 use mathlib.Core.Path.{_≡_}
 use Prim.Native.Nat.{ℕ}
-use mathlib.Core.List.{List, []}
+use mathlib.Core.List.{List}
 use lib.ListN.{take}
 use Rattle.io.specs.Counts.{Counts}
-use Rattle.commands.specs.declared.outcome.Outcome.{Outcome}
+use Rattle.outcomes.specs.Outcomes.{output, said}
 use Rattle.commands.specs.declared.Printed.{Printed}
 use Rattle.commands.specs.declared.words.Command.{Command}
-use Rattle.sentences.specs.Sentences.{sentence, callsSentence, tooLongSentence}
-use Rattle.commands.specs.Printing.{output, said}
-use Rattle.commands.specs.Results.{Result, printed, withCalls, refused, tooLong, result}
-
--- a count of bytes as the bytes at the start of the output
-abbrev pub seen : (out : List ℕ) → Outcome → Result
-seen out (Outcome.Printed n) = printed (take n out)
-seen out (Outcome.Simplified n calls) = withCalls (take n out) calls
-seen out (Outcome.Refused why detail) = refused why detail
-seen out Outcome.TooLong = tooLong
-
-abbrev pub Inside : (out : List ℕ) → Outcome → Type 0
-Inside out (Outcome.Printed n) = Counts n out
-Inside out (Outcome.Simplified n calls) = Counts n out
-Inside out (Outcome.Refused why detail) = Unit {0}
-Inside out Outcome.TooLong = Unit {0}
-
-pub record Comes (want : Result) (r : Outcome) (out : List ℕ) : Type 0 where
-  pub answer : seen out r ≡ want
-  pub inside : Inside out r
-
--- what is printed of an outcome, whose bytes stand at the start of the output
-pub record Prints (out : List ℕ) (r : Outcome) (n : ℕ) (out′ : List ℕ) : Type 0 where
-  pub bytes : take n out′ ≡ output (seen out r)
-  pub within : Counts n out′
-
--- what is said of it goes by no byte of the output
-abbrev pub saidOf : Outcome → List ℕ
-saidOf (Outcome.Printed n) = []
-saidOf (Outcome.Simplified n calls) = callsSentence calls
-saidOf (Outcome.Refused why detail) = sentence why detail
-saidOf Outcome.TooLong = tooLongSentence
+use Rattle.commands.specs.Results.{result}
 
 pub record PrintsJob (command : Command) (input out : List ℕ) (r : Printed) (out′ said′ : List ℕ) : Type 0 where
   pub prints : take (r .out) out′ ≡ output (result command input out)

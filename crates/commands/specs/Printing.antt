@@ -2,38 +2,13 @@
 use mathlib.Core.Path.{_≡_}
 use Prim.Native.Nat.{ℕ}
 use mathlib.Core.List.{List, []}
-use mathlib.Core.Bool.{cond}
-use lib.Dec.{eqb}
 use lib.ListN.{take}
 use Rattle.io.specs.Counts.{Counts}
-use Rattle.expression.specs.declared.refusal.Refusal.{Refusal}
-use Rattle.expression.specs.Refusals.{numberOf}
-use Rattle.text.specs.Letters.{bytes}
-use Rattle.console.specs.Answers.{refusedLine, refusalLine}
-use Rattle.sentences.specs.Sentences.{sentence, callsSentence, tooLongSentence}
 use Rattle.commands.specs.declared.Printed.{Printed}
 use Rattle.commands.specs.Words.{Request, job, help, version, nothing, unknown, tooMany, firstOf, request}
-use Rattle.commands.specs.Results as Results
-use Rattle.commands.specs.Results.{Result, printed, withCalls, refused, result}
+use Rattle.outcomes.specs.Outcomes.{output, said}
+use Rattle.commands.specs.Results.{result}
 use Rattle.commands.specs.Help as Help
-
--- ---- a result
-
--- a job without an answer: INCOMPLETE has a word of its own
-unfoldable pub refusedText : Refusal → List ℕ
-refusedText why = cond (eqb (numberOf why) 10) (bytes "incomplete\n") (refusalLine why)
-
-unfoldable pub output : Result → List ℕ
-output (printed text) = text
-output (withCalls text calls) = text
-output (refused why detail) = refusedText why
-output Results.tooLong = refusedLine 0 0
-
-unfoldable pub said : Result → List ℕ
-said (printed text) = []
-said (withCalls text calls) = callsSentence calls
-said (refused why detail) = sentence why detail
-said Results.tooLong = tooLongSentence
 
 -- ---- the words and the input
 

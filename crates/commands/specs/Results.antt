@@ -23,15 +23,10 @@ use Rattle.faults.specs.Faulting.{fromLine, listingFault, sheetFault}
 use Rattle.lacks.specs.declared.Missing.{Missing}
 use Rattle.lacks.specs.Lacking.{missingInJob, missingOnTape}
 use Rattle.sentences.specs.declared.Detail.{Detail}
+use Rattle.outcomes.specs.Outcomes.{Result, printed, withCalls, refused, tooLong}
 use Rattle.commands.specs.declared.words.Command.{Command}
 use Rattle.commands.specs.declared.words.Parted.{Parted}
 use Rattle.commands.specs.declared.words.Whole.{Whole}
-
-pub data Result : Type 0 where
-  printed : List ℕ → Result
-  withCalls : List ℕ → (calls : ℕ) → Result
-  refused : Refusal → Detail → Result
-  tooLong : Result
 
 -- ---- what is known of a refusal besides
 

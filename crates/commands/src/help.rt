@@ -47,7 +47,11 @@ pub fn write_usage(out: &mut [u8]) -> usize
     ensures { λ r. ⌜ Put (now (out .entry)) 0 usage r (now (out .exit)) ⌝ }
     ensures within { λ r. ⌜ Counts r (now (out .exit)) ⌝ }
 {
-    write_bytes(out, 0, b"use: ./run rack COMMAND [LIMIT] [FILE]; ./run rack help names the commands.\n")
+    write_bytes(
+        out,
+        0,
+        b"use: ./run rack COMMAND [LIMIT] [FILE]; ./run rack help names the commands.\n",
+    )
 }
 
 pub fn write_too_many(out: &mut [u8]) -> usize
@@ -55,7 +59,11 @@ pub fn write_too_many(out: &mut [u8]) -> usize
     ensures { λ r. ⌜ Put (now (out .entry)) 0 tooMany r (now (out .exit)) ⌝ }
     ensures within { λ r. ⌜ Counts r (now (out .exit)) ⌝ }
 {
-    write_bytes(out, 0, b"There are too many words: at most a file follows on a command, and on simplify a limit before it.\n")
+    write_bytes(
+        out,
+        0,
+        b"There are too many words: at most a file follows on a command, and on simplify a limit before it.\n",
+    )
 }
 
 // The word is named.

@@ -4,11 +4,10 @@ ghost use lib.ListN.{length, take};
 ghost use Rattle.io.specs.Counts.{Counts};
 ghost use Rattle.calls.specs.Lent.{work, capacity};
 ghost use Rattle.commands.specs.Results.{evaluated, simplified, played, substituted, real};
-ghost use Rattle.commands.specs.Coming.{Comes};
-use super::outcome::Outcome;
-use super::outcome::fault_alone;
-use super::outcome::fault_of;
-use super::outcome::lack_of;
+ghost use Rattle.outcomes.specs.Coming.{Comes};
+use super::details::fault_alone;
+use super::details::fault_of;
+use super::details::lack_of;
 use calls::Evaluated;
 use calls::Simplified;
 use console::input::part;
@@ -17,6 +16,7 @@ use console::line::write_value;
 use evaluation::real::Real;
 use memory::layout::DESK_WORDS;
 use memory::layout::TABLE_WORDS;
+use outcomes::Outcome;
 use writing::Written;
 
 // At which limit a job is played.

@@ -5,9 +5,8 @@ ghost use lib.ListN.{length};
 ghost use Rattle.calls.specs.Lent.{work, capacity};
 ghost use Rattle.commands.specs.Results as Results;
 ghost use Rattle.commands.specs.Results.{resultIn, result};
-ghost use Rattle.commands.specs.Coming.{Comes};
+ghost use Rattle.outcomes.specs.Coming.{Comes};
 use super::jobs;
-use super::outcome::Outcome;
 use super::tapes;
 use super::words::Command;
 use super::words::Parted;
@@ -16,6 +15,7 @@ use console::input::listing_length;
 use console::input::sheet_of;
 use memory::layout::DESK_WORDS;
 use memory::layout::TABLE_WORDS;
+use outcomes::Outcome;
 
 // The longest input.
 const MOST: usize = 262_144;

@@ -5,10 +5,9 @@ ghost use lib.ListN.{length};
 ghost use Rattle.calls.specs.Lent.{work, capacity};
 ghost use Rattle.lacks.specs.Lacking.{missingOnTape};
 ghost use Rattle.commands.specs.Results.{lackOf, emptyTape, compiled, playingTape, playing, checked, shownText};
-ghost use Rattle.commands.specs.Coming.{Comes};
-use super::outcome::Outcome;
-use super::outcome::fault_alone;
-use super::outcome::fault_of;
+ghost use Rattle.outcomes.specs.Coming.{Comes};
+use super::details::fault_alone;
+use super::details::fault_of;
 use calls::Evaluated;
 use console::input::part;
 use console::line::write_value;
@@ -19,6 +18,7 @@ use expression::refusal::Refusal;
 use lacks::tapes::missing_on_tape;
 use memory::layout::DESK_WORDS;
 use memory::layout::TABLE_WORDS;
+use outcomes::Outcome;
 use sentences::Detail;
 use shown::write_steps;
 use tape::Checked;
@@ -88,12 +88,7 @@ fn play_tape(
     }
 }
 
-pub fn play(
-    text: &[u8],
-    values: &[u8],
-    table: &mut [u64; TABLE_WORDS],
-    out: &mut [u8],
-) -> Outcome
+pub fn play(text: &[u8], values: &[u8], table: &mut [u64; TABLE_WORDS], out: &mut [u8]) -> Outcome
     requires { ⌜ 96 ≤ length (now out) ⌝ }
     ensures { λ r. ⌜ Comes (playing (now (text .entry)) (now (values .entry))) r (now (out .exit)) ⌝ }
 {

@@ -71,8 +71,5 @@ pub fn sheet_of(rest: &[u8]) -> &[u8]
 
 // The sentence on standard error for an input that failed.
 pub fn say_unread() {
-    io::write_all(
-        STDERR_FILENO,
-        b"The input could not be read to its end.\n",
-    );
+    io::write_all(STDERR_FILENO, b"The input could not be read to its end.\n");
 }

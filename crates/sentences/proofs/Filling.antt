@@ -41,8 +41,8 @@ module _ {out₀ table : List ℕ} {from first second : ℕ} {out : List ℕ} {i
   unfolding filled
   ends e o =
       let w : filled first second (drop from table) ≡ f .done ++ piece first second (getD table i 0) =
-          f .whole ∙ ap (λ l. f .done ++ filled first second l) (here table i h)
-          ∙ rw (eq-eqb (getD table i 0) 10 e, append-nil) in
+      f .whole ∙ ap (λ l. f .done ++ filled first second l) (here table i h)
+      ∙ rw (eq-eqb (getD table i 0) 10 e, append-nil) in
       let q : Put out₀ 0 (filled first second (drop from table)) next out′ = subst (λ l. Put out₀ 0 l next out′) (sym w) (put-then (f .put) (p .0)) in
       (q, put-counts q (omega (arith, q .place, f .room, p .1, h, o)))
 

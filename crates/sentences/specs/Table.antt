@@ -126,4 +126,3 @@ callsEntry calls = of (cond (eqb calls 1) 45 44) calls 0
 -- what a row says
 abbrev pub says : Entry → List ℕ
 says r = filled (r .first) (r .second) (fromLine (r .line) table)
-

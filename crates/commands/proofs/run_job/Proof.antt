@@ -5,8 +5,8 @@ use Rattle.commands.proofs.run_job.Statement.{statement}
 use Rattle.commands.proofs.run_job.Tie as tie
 use Rattle.commands.proofs.run_job.Reads as reads
 use Rattle.commands.proofs.run_job.Lts as lts
-use Rattle.commands.proofs.printing.print.Reads as print-reads
-use Rattle.commands.proofs.printing.say.Reads as say-reads
+use Rattle.outcomes.proofs.print.Reads as print-reads
+use Rattle.outcomes.proofs.say.Reads as say-reads
 use Rattle.commands.proofs.running.run.Reads as run-reads
 
 -- src/lib.rt:38:9

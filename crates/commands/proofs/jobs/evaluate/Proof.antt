@@ -7,7 +7,7 @@ use Rattle.commands.proofs.jobs.evaluate.Tie as tie
 use Rattle.commands.proofs.jobs.evaluate.Reads as reads
 use Rattle.commands.proofs.jobs.evaluate.Lts as lts
 use Rattle.calls.proofs.evaluate.Reads as evaluate-reads
-use Rattle.commands.proofs.outcome.lack_of.Reads as lack-of-reads
+use Rattle.commands.proofs.details.lack_of.Reads as lack-of-reads
 use Rattle.console.proofs.line.write_value.Reads as write-value-reads
 
 -- src/jobs.rt:35:9

@@ -8,7 +8,7 @@ use Rattle.commands.proofs.jobs.played.Reads as reads
 use Rattle.commands.proofs.jobs.played.Lts as lts
 use Rattle.calls.proofs.simplify.Reads as simplify-reads
 use Rattle.commands.proofs.jobs.evaluate_written.Reads as evaluate-written-reads
-use Rattle.commands.proofs.outcome.fault_of.Reads as fault-of-reads
+use Rattle.commands.proofs.details.fault_of.Reads as fault-of-reads
 use Rattle.console.proofs.input.part.Reads as part-reads
 
 -- src/jobs.rt:95:9

@@ -7,7 +7,7 @@ use Rattle.commands.proofs.jobs.real.Tie as tie
 use Rattle.commands.proofs.jobs.real.Reads as reads
 use Rattle.commands.proofs.jobs.real.Lts as lts
 use Rattle.calls.proofs.to_real.Reads as to-real-reads
-use Rattle.commands.proofs.outcome.fault_alone.Reads as fault-alone-reads
+use Rattle.commands.proofs.details.fault_alone.Reads as fault-alone-reads
 use Rattle.console.proofs.line.write_real.Reads as write-real-reads
 
 -- src/jobs.rt:132:9

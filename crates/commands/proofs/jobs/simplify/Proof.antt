@@ -7,7 +7,7 @@ use Rattle.commands.proofs.jobs.simplify.Tie as tie
 use Rattle.commands.proofs.jobs.simplify.Reads as reads
 use Rattle.commands.proofs.jobs.simplify.Lts as lts
 use Rattle.calls.proofs.simplify.Reads as simplify-reads
-use Rattle.commands.proofs.outcome.fault_of.Reads as fault-of-reads
+use Rattle.commands.proofs.details.fault_of.Reads as fault-of-reads
 use Rattle.console.proofs.input.part.Reads as part-reads
 
 -- src/jobs.rt:55:9

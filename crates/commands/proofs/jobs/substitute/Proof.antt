@@ -7,7 +7,7 @@ use Rattle.commands.proofs.jobs.substitute.Tie as tie
 use Rattle.commands.proofs.jobs.substitute.Reads as reads
 use Rattle.commands.proofs.jobs.substitute.Lts as lts
 use Rattle.calls.proofs.substitute.Reads as substitute-reads
-use Rattle.commands.proofs.outcome.fault_alone.Reads as fault-alone-reads
+use Rattle.commands.proofs.details.fault_alone.Reads as fault-alone-reads
 use Rattle.console.proofs.input.part.Reads as part-reads
 
 -- src/jobs.rt:115:9

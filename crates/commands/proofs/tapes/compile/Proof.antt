@@ -7,7 +7,7 @@ use Rattle.commands.proofs.tapes.compile.Tie as tie
 use Rattle.commands.proofs.tapes.compile.Reads as reads
 use Rattle.commands.proofs.tapes.compile.Lts as lts
 use Rattle.calls.proofs.tapes.compile.Reads as compile-reads
-use Rattle.commands.proofs.outcome.fault_alone.Reads as fault-alone-reads
+use Rattle.commands.proofs.details.fault_alone.Reads as fault-alone-reads
 use Rattle.commands.proofs.tapes.empty_tape.Reads as empty-tape-reads
 use Rattle.console.proofs.input.part.Reads as part-reads
 use Rattle.console.proofs.tape.write_tape.Reads as write-tape-reads

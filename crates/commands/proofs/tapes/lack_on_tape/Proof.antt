@@ -6,7 +6,7 @@ use Rattle.commands.proofs.tapes.lack_on_tape.Statement.{statement}
 use Rattle.commands.proofs.tapes.lack_on_tape.Tie as tie
 use Rattle.commands.proofs.tapes.lack_on_tape.Reads as reads
 use Rattle.commands.proofs.tapes.lack_on_tape.Lts as lts
-use Rattle.commands.proofs.outcome.fault_of.Reads as fault-of-reads
+use Rattle.commands.proofs.details.fault_of.Reads as fault-of-reads
 use Rattle.expression.proofs.refusal.Refusal.number.Reads as number-reads
 use Rattle.lacks.proofs.tapes.missing_on_tape.Reads as missing-on-tape-reads
 

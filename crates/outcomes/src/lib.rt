@@ -1,18 +1,28 @@
-// What is printed of an outcome, and what is said of it.
+// What a command has come to, what is printed of it and what is said of it: bytes that stand at the start of the output
+// already, or a refusal.
 ghost use Prim.Native.Nat.{_≤_};
 ghost use lib.ListN.{length};
 ghost use Rattle.io.specs.Counts.{Counts};
 ghost use Rattle.text.specs.Put.{Put};
-ghost use Rattle.commands.specs.Coming.{Prints, saidOf, Inside};
-ghost use Rattle.commands.specs.Printing.{refusedText};
-use super::outcome::Outcome;
+ghost use Rattle.outcomes.specs.Outcomes.{refusedText};
+ghost use Rattle.outcomes.specs.Coming.{Prints, saidOf, Inside};
 use console::line::write_refusal;
 use console::line::write_refused;
 use expression::refusal::Refusal;
+use sentences::Detail;
 use sentences::write_calls;
 use sentences::write_sentence;
 use sentences::write_too_long;
 use text::writing::write_bytes;
+
+// So many bytes of the output, alone or with the number of simplify calls; a refusal and what is known of it besides; or an
+// input that is too long.
+pub enum Outcome {
+    Printed(usize),
+    Simplified(usize, u64),
+    Refused(Refusal, Detail),
+    TooLong,
+}
 
 fn print_refusal(out: &mut [u8], why: Refusal) -> usize
     requires { ⌜ 96 ≤ length (now out) ⌝ }

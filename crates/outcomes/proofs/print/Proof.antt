@@ -1,11 +1,11 @@
 -- `print` meets its contract. Assumes nothing.
-use Rattle.commands.proofs.Answering.{prints-bytes, prints-listing, prints-refusal, prints-too-long}
+use Rattle.outcomes.proofs.Telling.{prints-bytes, prints-listing, prints-refusal, prints-too-long}
 use borrow.Author.Needs.{needs}
-use Rattle.commands.proofs.printing.print.Statement.{statement}
-use Rattle.commands.proofs.printing.print.Tie as tie
-use Rattle.commands.proofs.printing.print.Reads as reads
-use Rattle.commands.proofs.printing.print.Lts as lts
-use Rattle.commands.proofs.printing.print_refusal.Reads as print-refusal-reads
+use Rattle.outcomes.proofs.print.Statement.{statement}
+use Rattle.outcomes.proofs.print.Tie as tie
+use Rattle.outcomes.proofs.print.Reads as reads
+use Rattle.outcomes.proofs.print.Lts as lts
+use Rattle.outcomes.proofs.print_refusal.Reads as print-refusal-reads
 use Rattle.console.proofs.line.write_refused.Reads as write-refused-reads
 
 -- src/printing.rt:34:26

@@ -1,11 +1,11 @@
 -- `say` meets its contract. Assumes nothing.
-use Rattle.commands.specs.declared.outcome.Outcome.{Outcome}
-use Rattle.commands.proofs.Answering.{nothing-said, says-of}
+use Rattle.outcomes.specs.declared.Outcome.{Outcome}
+use Rattle.outcomes.proofs.Telling.{nothing-said, says-of}
 use borrow.Author.Needs.{needs}
-use Rattle.commands.proofs.printing.say.Statement.{statement}
-use Rattle.commands.proofs.printing.say.Tie as tie
-use Rattle.commands.proofs.printing.say.Reads as reads
-use Rattle.commands.proofs.printing.say.Lts as lts
+use Rattle.outcomes.proofs.say.Statement.{statement}
+use Rattle.outcomes.proofs.say.Tie as tie
+use Rattle.outcomes.proofs.say.Reads as reads
+use Rattle.outcomes.proofs.say.Lts as lts
 use Rattle.sentences.proofs.write_calls.Reads as write-calls-reads
 use Rattle.sentences.proofs.write_sentence.Reads as write-sentence-reads
 use Rattle.sentences.proofs.write_too_long.Reads as write-too-long-reads

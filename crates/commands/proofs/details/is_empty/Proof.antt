@@ -1,10 +1,10 @@
 -- `is_empty` meets its contract. Assumes nothing.
 use Rattle.commands.proofs.Resulting.{another-number, by-byte}
 use borrow.Author.Needs.{needs}
-use Rattle.commands.proofs.outcome.is_empty.Statement.{statement}
-use Rattle.commands.proofs.outcome.is_empty.Tie as tie
-use Rattle.commands.proofs.outcome.is_empty.Reads as reads
-use Rattle.commands.proofs.outcome.is_empty.Lts as lts
+use Rattle.commands.proofs.details.is_empty.Statement.{statement}
+use Rattle.commands.proofs.details.is_empty.Tie as tie
+use Rattle.commands.proofs.details.is_empty.Reads as reads
+use Rattle.commands.proofs.details.is_empty.Lts as lts
 use Rattle.expression.proofs.refusal.Refusal.number.Reads as number-reads
 use Rattle.expression.proofs.refusal.Refusal.place.Reads as place-reads
 use Rattle.faults.proofs.line_start.Reads as line-start-reads

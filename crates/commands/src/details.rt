@@ -1,4 +1,4 @@
-// What a command has come to: bytes at the start of the output, or a refusal and what can be said of it besides.
+// What is known of a refusal beside its number and its place.
 ghost use mathlib.Core.Path.{_≡_};
 ghost use Rattle.calls.specs.Lent.{work, capacity};
 ghost use Rattle.lacks.specs.Lacking.{missingInJob};
@@ -14,13 +14,6 @@ use sentences::Detail;
 use text::reading::byte_at;
 
 const LF: u8 = b'\n';
-
-pub enum Outcome {
-    Printed(usize),
-    Simplified(usize, u64),
-    Refused(Refusal, Detail),
-    TooLong,
-}
 
 // For 1 and 3, what is wrong with the line.
 pub fn fault_of(why: Refusal, list: &[u8], values: &[u8]) -> Detail

@@ -2,11 +2,11 @@
 use mathlib.Core.Path.{ap}
 use Rattle.commands.proofs.Resulting.{of-10, not-10}
 use borrow.Author.Needs.{needs}
-use Rattle.commands.proofs.outcome.lack_of.Statement.{statement}
-use Rattle.commands.proofs.outcome.lack_of.Tie as tie
-use Rattle.commands.proofs.outcome.lack_of.Reads as reads
-use Rattle.commands.proofs.outcome.lack_of.Lts as lts
-use Rattle.commands.proofs.outcome.fault_of.Reads as fault-of-reads
+use Rattle.commands.proofs.details.lack_of.Statement.{statement}
+use Rattle.commands.proofs.details.lack_of.Tie as tie
+use Rattle.commands.proofs.details.lack_of.Reads as reads
+use Rattle.commands.proofs.details.lack_of.Lts as lts
+use Rattle.commands.proofs.details.fault_of.Reads as fault-of-reads
 use Rattle.expression.proofs.refusal.Refusal.number.Reads as number-reads
 use Rattle.lacks.proofs.missing_in_job.Reads as missing-in-job-reads
 

@@ -1,10 +1,10 @@
 -- `fault_of` meets its contract. Assumes nothing.
 use Rattle.commands.proofs.Resulting.{of-1, of-3, of-others}
 use borrow.Author.Needs.{needs}
-use Rattle.commands.proofs.outcome.fault_of.Statement.{statement}
-use Rattle.commands.proofs.outcome.fault_of.Tie as tie
-use Rattle.commands.proofs.outcome.fault_of.Reads as reads
-use Rattle.commands.proofs.outcome.fault_of.Lts as lts
+use Rattle.commands.proofs.details.fault_of.Statement.{statement}
+use Rattle.commands.proofs.details.fault_of.Tie as tie
+use Rattle.commands.proofs.details.fault_of.Reads as reads
+use Rattle.commands.proofs.details.fault_of.Lts as lts
 use Rattle.expression.proofs.refusal.Refusal.number.Reads as number-reads
 use Rattle.expression.proofs.refusal.Refusal.place.Reads as place-reads
 use Rattle.faults.proofs.listing_fault.Reads as listing-fault-reads

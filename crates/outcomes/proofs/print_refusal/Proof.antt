@@ -1,12 +1,12 @@
 -- `print_refusal` meets its contract. Assumes nothing.
 use native.Mathlib.Omega.{arith}
 use Rattle.console.proofs.Lines.{put-counts}
-use Rattle.commands.proofs.Answering.{incomplete, other-refusal}
+use Rattle.outcomes.proofs.Telling.{incomplete, other-refusal}
 use borrow.Author.Needs.{needs}
-use Rattle.commands.proofs.printing.print_refusal.Statement.{statement}
-use Rattle.commands.proofs.printing.print_refusal.Tie as tie
-use Rattle.commands.proofs.printing.print_refusal.Reads as reads
-use Rattle.commands.proofs.printing.print_refusal.Lts as lts
+use Rattle.outcomes.proofs.print_refusal.Statement.{statement}
+use Rattle.outcomes.proofs.print_refusal.Tie as tie
+use Rattle.outcomes.proofs.print_refusal.Reads as reads
+use Rattle.outcomes.proofs.print_refusal.Lts as lts
 use Rattle.console.proofs.line.write_refusal.Reads as write-refusal-reads
 use Rattle.expression.proofs.refusal.Refusal.number.Reads as number-reads
 use Rattle.text.proofs.writing.write_bytes.Reads as write-bytes-reads

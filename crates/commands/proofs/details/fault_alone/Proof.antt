@@ -1,12 +1,12 @@
 -- `fault_alone` meets its contract. Assumes nothing.
 use Rattle.commands.proofs.Resulting.{sheet-follows, no-sheet-follows}
 use borrow.Author.Needs.{needs}
-use Rattle.commands.proofs.outcome.fault_alone.Statement.{statement}
-use Rattle.commands.proofs.outcome.fault_alone.Tie as tie
-use Rattle.commands.proofs.outcome.fault_alone.Reads as reads
-use Rattle.commands.proofs.outcome.fault_alone.Lts as lts
-use Rattle.commands.proofs.outcome.fault_of.Reads as fault-of-reads
-use Rattle.commands.proofs.outcome.is_empty.Reads as is-empty-reads
+use Rattle.commands.proofs.details.fault_alone.Statement.{statement}
+use Rattle.commands.proofs.details.fault_alone.Tie as tie
+use Rattle.commands.proofs.details.fault_alone.Reads as reads
+use Rattle.commands.proofs.details.fault_alone.Lts as lts
+use Rattle.commands.proofs.details.fault_of.Reads as fault-of-reads
+use Rattle.commands.proofs.details.is_empty.Reads as is-empty-reads
 
 -- src/outcome.rt:54:8
 is-empty-requires : tie.Need-is-empty-requires
