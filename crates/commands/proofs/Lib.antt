@@ -1,4 +1,4 @@
--- The laws that the proofs of this crate cite, and that what is printed is determined.
+-- The laws that the proofs of this crate cite; that what is printed is determined; and what `rack evaluate` prints, by the public call.
 pub mod Choosing
 pub mod Requests
 pub mod Resulting
@@ -6,3 +6,4 @@ pub mod Answering
 pub mod FirstWord
 pub mod Accepted
 pub mod OneAnswer
+pub mod Evaluates
