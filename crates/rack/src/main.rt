@@ -1,5 +1,6 @@
 // One tool for the bench: its words say what is to be done with the job in a file or on standard input. What is printed is
 // made by `commands::answer`; here it is read and written.
+ghost use mathlib.Core.Path.{_≡_};
 ghost use Prim.Native.Nat.{_≤_};
 ghost use lib.ListN.{length};
 use commands::answer;
@@ -14,28 +15,41 @@ use line::gather;
 
 mod line;
 
-// A byte more than an input may have, so that a longer one shows.
-const ROOM: usize = 262_145;
+// Room for an input, and for a byte more than it may have, so that a longer one shows.
+fn input_room() -> [u8; 262_145]
+    ensures { λ r. ⌜ 262145 ≡ length r ⌝ }
+{
+    [0; 262_145]
+}
 
 // Room for a sentence that names a word.
-const SAID: usize = 90_112;
+fn saying_room() -> [u8; 90_112]
+    ensures { λ r. ⌜ 90112 ≡ length r ⌝ }
+{
+    [0; 90_112]
+}
+
+// The first bytes of the two outputs.
+fn write(out: &[u8], printed: usize, said: &[u8], spoken: usize) {
+    let n = input::part(out, printed);
+    let m = input::part(said, spoken);
+    output::put(&out[..n]);
+    io::write_all(STDERR_FILENO, &said[..m]);
+}
 
 fn finish(words: &[u8], input: &[u8])
     requires { ⌜ length (now words) ≤ 8192 ⌝ }
 {
     let mut out = io::large_buffer();
-    let mut said = [0u8; SAID];
+    let mut said = saying_room();
     let printed = answer(words, input, &mut out, &mut said);
-    let n = printed.out;
-    let m = printed.said;
-    output::put(&out[..n]);
-    io::write_all(STDERR_FILENO, &said[..m]);
+    write(&out, printed.out, &said, printed.said);
 }
 
 fn with_file(words: &[u8], file: i32)
     requires { ⌜ length (now words) ≤ 8192 ⌝ }
 {
-    let mut space = [0u8; ROOM];
+    let mut space = input_room();
     let read = input::read(file, &mut space);
     match read {
         Input::Whole(length) => {
@@ -81,7 +95,7 @@ fn main() {
     if space.len() <= length {
         io::write_all(
             STDERR_FILENO,
-            b"The words are too long: they may have 8191 bytes.\n",
+            b"The words are too long: one may have 4096 bytes, and all of them 8191.\n",
         );
         return;
     }
