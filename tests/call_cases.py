@@ -8,8 +8,9 @@ Both also play, by the model, the evaluations in the list `rust`, which tests/ru
 many tapes the program has to play.
 
 A list of cases is a file of data: `sound` and `damaged` tapes, `picks` between two of them, `listings` to compile, `plays` of a tape with
-a sheet. A case is a line and then its texts and tapes. The line is a letter, a 1 and eleven fields of 16 hex digits, each after a tab:
-    k       check a tape; p pick one of two tapes; c compile a listing; y play a tape with a sheet
+a sheet, and `examples`, the jobs under examples/, of which example_cases.py says more. A case is a line and then its texts and tapes. The line
+is a letter, a 1 and eleven fields of 16 hex digits, each after a tab:
+    k       check a tape; p pick one of two tapes; c compile a listing; y play a tape with a sheet; x an example
     1       the word that rows, desk and table are filled with before
     2       how many rows are lent
     3       eight digits each for the lengths of the first and the second text or tape
@@ -24,6 +25,7 @@ import os
 import random
 import sys
 
+from example_cases import example_cases
 from stored import CRATES, hold_program, pass_over
 from tape_model import (
     FUNCTION, FUNCTIONS, INFIX, MEMORY, NUMBER, OPERATORS, PI, PREFIX, SIGNS, STACK, STEP, STEPS, VARIABLE, Need, bad_step, compiled,
@@ -626,6 +628,7 @@ def main():
             unused_fields, unused_bytes, codes, nans, cuts, lengths, heights, pops, counts, several, all_steps, all_numbers, picks,
             small_listings, other_listings, long_listings, refused_listings, arithmetic, functions, lacks, refused_plays, any_plays):
         cases(c)
+    c.lists['examples'] = example_cases()
     said = rust_said() + ''.join('%s: %d cases, 0 wrong\n' % (name, len(cases)) for name, cases in c.lists.items())
     lists = {name: b''.join(cases) for name, cases in c.lists.items()}
     hold_program('call_cases', lists, ['rust', *lists], said.encode())

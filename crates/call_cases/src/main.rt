@@ -1,6 +1,6 @@
-// Replays cases of the public calls. Its arguments name lists: the Rust's answers, which tests/rust/run stores, and tapes,
-// listings and plays, which tests/call_cases.py makes with the right answers. Says which answers of the port differ, and how
-// many there were.
+// Replays cases of the public calls, and the examples of rack. Its arguments name lists: the Rust's answers, which
+// tests/rust/run stores; tapes, listings and plays, which tests/call_cases.py makes with the right answers; and the jobs of the
+// folder examples/. Says which answers of the port differ, and how many there were.
 use case::Case;
 use case::next_case;
 use outcome::Outcome;
@@ -13,6 +13,7 @@ mod ask;
 mod case;
 mod digits;
 mod evaluations;
+mod examples;
 mod listings;
 mod outcome;
 mod tapes;
@@ -23,6 +24,7 @@ fn run_case(list: i32, case: Case) -> Outcome {
         b'k' => tapes::check(list, case),
         b'p' => tapes::pick(list, case),
         b'y' => tapes::play(list, case),
+        b'x' => examples::run(list, case),
         _ => listings::run(list, case),
     }
 }
