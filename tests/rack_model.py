@@ -17,7 +17,8 @@ TAPED = {'play', 'check', 'show'}
 SHEETED = {'evaluate', 'play', 'simplify', 'played'}
 
 
-# ---- three places where the pages leave room. The model's first reading was another each time; these are the program's answers, taken over.
+# ---- three places where the pages left room. The model's first reading was another each time; these are the program's answers, which
+# docs/FORMATS.md says since.
 
 # "More words than these are too many" was read of all commands. help, --help and --version look at no further word.
 WORDS_AFTER_HELP = True
@@ -53,11 +54,11 @@ def helping():
 # ---- sentences
 
 LISTING = {
-    'byte': 'has a byte that does not belong there.',
+    'byte': 'has a byte, a name or a number that does not belong there.',
     'field': 'lacks a field, or has one that is cut short.',
     'case': 'has a hex digit in lower case: a double is 16 digits from 0 to 9 and A to F.',
     'return': 'has a carriage return: a line ends in a line feed alone.',
-    'order': 'is out of order: it names a line that does not come before it, or stands where such a line may not.',
+    'order': 'is out of order: it names a line that does not come before it, or s lines, which only substitute takes, are not last and ascending.',
     'feed': 'is not ended by a line feed.',
     'sheet': 'is empty: this command takes no sheet of values.'}
 SHEET = dict(LISTING, order='is out of order: v lines come first, then m lines, then t lines; v and m lines ascend.')
@@ -65,7 +66,7 @@ PLAIN = {
     5: 'The limit is above 10.',
     6: 'The expression is too big: a part of it has a size above 1,000,000.',
     7: 'The expression is too deep: a part of it has a depth above 64.',
-    8: 'The expression has more parts than the store has room for.',
+    8: 'The store is full: the job makes more nodes than it has room for.',
     11: 'The number is not real: its imaginary part is not below 1e-16 in magnitude.',
     12: 'The expression is neither a number nor pi.',
     14: 'The expression is too long for a tape: its size is above 512.'}

@@ -49,7 +49,7 @@ plainSentence (Refusal.LongSheet line) = placed (bytes "The sheet's line ") line
 plainSentence Refusal.BadLimit = bytes "The limit is above 10.\n"
 plainSentence Refusal.Big = bytes "The expression is too big: a part of it has a size above 1,000,000.\n"
 plainSentence Refusal.Deep = bytes "The expression is too deep: a part of it has a depth above 64.\n"
-plainSentence Refusal.Room = bytes "The expression has more parts than the store has room for.\n"
+plainSentence Refusal.Room = bytes "The store is full: the job makes more nodes than it has room for.\n"
 plainSentence (Refusal.Need operation x y) = needSentence operation
 plainSentence Refusal.Incomplete = bytes "The sheet does not bind every variable and memory cell that the expression has.\n"
 plainSentence Refusal.NotReal = bytes "The number is not real: its imaginary part is not below 1e-16 in magnitude.\n"
@@ -66,16 +66,16 @@ plainSentence Refusal.NoText = bytes "A number is not written as Quil text: it i
 -- ---- of 1 and 3, what is wrong with the line
 
 unfoldable pub listingSentence : (line : ℕ) → Fault → List ℕ
-listingSentence line Fault.WrongByte = placed (bytes "The listing's line ") line (bytes " has a byte that does not belong there.\n")
+listingSentence line Fault.WrongByte = placed (bytes "The listing's line ") line (bytes " has a byte, a name or a number that does not belong there.\n")
 listingSentence line Fault.FieldMissing = placed (bytes "The listing's line ") line (bytes " lacks a field, or has one that is cut short.\n")
 listingSentence line Fault.HexCase = placed (bytes "The listing's line ") line (bytes " has a hex digit in lower case: a double is 16 digits from 0 to 9 and A to F.\n")
 listingSentence line Fault.CarriageReturn = placed (bytes "The listing's line ") line (bytes " has a carriage return: a line ends in a line feed alone.\n")
-listingSentence line Fault.Order = placed (bytes "The listing's line ") line (bytes " is out of order: it names a line that does not come before it, or stands where such a line may not.\n")
+listingSentence line Fault.Order = placed (bytes "The listing's line ") line (bytes " is out of order: it names a line that does not come before it, or s lines, which only substitute takes, are not last and ascending.\n")
 listingSentence line Fault.NoLineFeed = placed (bytes "The listing's line ") line (bytes " is not ended by a line feed.\n")
 listingSentence line Fault.NoLine = bytes "The listing has no node line.\n"
 
 unfoldable pub sheetSentence : (line : ℕ) → Fault → List ℕ
-sheetSentence line Fault.WrongByte = placed (bytes "The sheet's line ") line (bytes ", counted after the empty line, has a byte that does not belong there.\n")
+sheetSentence line Fault.WrongByte = placed (bytes "The sheet's line ") line (bytes ", counted after the empty line, has a byte, a name or a number that does not belong there.\n")
 sheetSentence line Fault.FieldMissing = placed (bytes "The sheet's line ") line (bytes ", counted after the empty line, lacks a field, or has one that is cut short.\n")
 sheetSentence line Fault.HexCase = placed (bytes "The sheet's line ") line (bytes ", counted after the empty line, has a hex digit in lower case: a double is 16 digits from 0 to 9 and A to F.\n")
 sheetSentence line Fault.CarriageReturn = placed (bytes "The sheet's line ") line (bytes ", counted after the empty line, has a carriage return: a line ends in a line feed alone.\n")

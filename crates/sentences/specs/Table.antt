@@ -27,7 +27,7 @@ table =
     (bytes "The limit is above 10.\n" ++
     (bytes "The expression is too big: a part of it has a size above 1,000,000.\n" ++
     (bytes "The expression is too deep: a part of it has a depth above 64.\n" ++
-    (bytes "The expression has more parts than the store has room for.\n" ++
+    (bytes "The store is full: the job makes more nodes than it has room for.\n" ++
     (bytes "The sheet lacks a function value.\n" ++
     (bytes "The sheet does not bind every variable and memory cell that the expression has.\n" ++
     (bytes "The number is not real: its imaginary part is not below 1e-16 in magnitude.\n" ++
@@ -40,14 +40,14 @@ table =
     (bytes "There is no such rule book.\n" ++
     (bytes "There are more than 4096 listings.\n" ++
     (bytes "A number is not written as Quil text: it is NaN, infinite, nonzero and below 1e-4, or not below 1e15.\n" ++
-    (bytes "The listing's line % has a byte that does not belong there.\n" ++
+    (bytes "The listing's line % has a byte, a name or a number that does not belong there.\n" ++
     (bytes "The listing's line % lacks a field, or has one that is cut short.\n" ++
     (bytes "The listing's line % has a hex digit in lower case: a double is 16 digits from 0 to 9 and A to F.\n" ++
     (bytes "The listing's line % has a carriage return: a line ends in a line feed alone.\n" ++
-    (bytes "The listing's line % is out of order: it names a line that does not come before it, or stands where such a line may not.\n" ++
+    (bytes "The listing's line % is out of order: it names a line that does not come before it, or s lines, which only substitute takes, are not last and ascending.\n" ++
     (bytes "The listing's line % is not ended by a line feed.\n" ++
     (bytes "The listing has no node line.\n" ++
-    (bytes "The sheet's line %, counted after the empty line, has a byte that does not belong there.\n" ++
+    (bytes "The sheet's line %, counted after the empty line, has a byte, a name or a number that does not belong there.\n" ++
     (bytes "The sheet's line %, counted after the empty line, lacks a field, or has one that is cut short.\n" ++
     (bytes "The sheet's line %, counted after the empty line, has a hex digit in lower case: a double is 16 digits from 0 to 9 and A to F.\n" ++
     (bytes "The sheet's line %, counted after the empty line, has a carriage return: a line ends in a line feed alone.\n" ++
