@@ -9,7 +9,7 @@
  * hold at entry, a function returns, and its answer is what the rules say. It keeps nothing between calls and allocates
  * nothing, so that calls with memory of their own may run at the same time.
  *
- * What C has a caller see to. Nothing of it can be tested by the functions, and without it nothing is promised:
+ * What a caller must see to. Nothing of it can be tested by the functions, and without it nothing is promised:
  *
  *   Pointers      A pointer is not null and is aligned for what it points to; there are as many elements behind it as its length, or the
  *                 parameter's comment, says; and the lent memory (store, desk, table, out, answer, picked) overlaps neither itself nor a
@@ -77,8 +77,8 @@ extern "C" {
  *   patch   no declaration changed and no answer: speed, stack, words.
  *
  * In 1 the store was four slices of words, tag, first, second and link, each with a length of its own; in 2 it is rows, with a desk beside
- * them. So each of the five functions with a store has three parameters in place of eight: a pointer and a length for four of each, and the
- * desk. The table has 4608 words in place of 8192. All else is as it was: the other parameters and functions, the answers, what is written
+ * them. So each of the five functions with a store has three parameters (the rows, their number, the desk) in place of eight (a pointer and a
+ * length for each of the four slices). The table has 4608 words in place of 8192. All else is as it was: the other parameters and functions, the answers, what is written
  * to out. */
 #define FINDAVOREB_INTERFACE 2
 #define FINDAVOREB_VERSION "2.0.0"
@@ -109,9 +109,9 @@ enum findavoreb_refusal {
     /* No function of this library answers one of those below yet. */
     FINDAVOREB_BAD_NAMES = 16,   /* a line of the name sheet is malformed, repeats a name or a number, or is without its line feed */
     FINDAVOREB_UNKNOWN_NAME = 17, /* a name without a number in the name sheet, or a number without a name */
-    FINDAVOREB_BAD_BOOK = 18,    /* a rule book that there is not */
+    FINDAVOREB_BAD_BOOK = 18,    /* an unknown rule book */
     FINDAVOREB_MANY = 19,        /* the 4097th listing */
-    FINDAVOREB_NO_TEXT = 20      /* a number that is not written as Quil text */
+    FINDAVOREB_NO_TEXT = 20      /* a number with a part that is not written as Quil text */
 };
 
 /* answer[1] after FINDAVOREB_NEED: which function value is lacking. */
