@@ -1,4 +1,4 @@
--- The texts that `play` and `show` take for a tape: one that says a sound tape is, byte for byte, what `compile` prints of that tape. So no line is
+-- The texts that `play`, `show` and `check` take for a tape: one that says a sound tape is, byte for byte, what `compile` prints of that tape. So no line is
 -- taken that is no step in that form. Assumes nothing.
 use mathlib.Core.Path.{_≡_, refl}
 use mathlib.Core.List.{List, [], _∷_}

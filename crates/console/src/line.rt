@@ -10,10 +10,8 @@ ghost use Rattle.text.specs.Put.{Put};
 ghost use Rattle.console.specs.Answers.{valueLine, realLine, refusedLine, needLine, refusalLine};
 use complex::Complex;
 use complex::bits::to_bits;
-use expression::ExpressionFunction;
 use expression::refusal::Operation;
 use expression::refusal::Refusal;
-use spelling::write_function;
 use spelling::write_operation;
 use text::writing::write_byte;
 use text::writing::write_bytes;
@@ -27,20 +25,6 @@ const LF: u8 = b'\n';
 // The room for a line. The longest has 78 bytes.
 pub const ROOM: usize = 96;
 
-// The name alone, on either output. Answers as io::write_all does.
-pub fn print_name(file: i32, operation: Operation) -> bool {
-    let mut name = [0u8; 4];
-    let n = write_operation(&mut name, 0, operation);
-    io::write_all(file, &name[..n])
-}
-
-// The name of a function alone.
-pub fn print_function(file: i32, f: ExpressionFunction) -> bool {
-    let mut name = [0u8; 4];
-    let n = write_function(&mut name, 0, f);
-    io::write_all(file, &name[..n])
-}
-
 // The two parts of a number, as two fields.
 fn write_parts(out: &mut [u8], at: usize, z: Complex, stop: u8) -> usize
     requires { ⌜ at + 34 ≤ length (now out) ⌝ }
@@ -48,13 +32,6 @@ fn write_parts(out: &mut [u8], at: usize, z: Complex, stop: u8) -> usize
 {
     let next = write_hex_field(out, at, to_bits(z.re), TAB);
     write_hex_field(out, next, to_bits(z.im), stop)
-}
-
-// The two parts alone, as the last fields of a line. Answers as io::write_all does.
-pub fn print_parts(file: i32, z: Complex) -> bool {
-    let mut parts = [0u8; 34];
-    let n = write_parts(&mut parts, 0, z, LF);
-    io::write_all(file, &parts[..n])
 }
 
 pub fn write_value(out: &mut [u8], z: Complex) -> usize

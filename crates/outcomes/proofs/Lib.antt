@@ -1,2 +1,3 @@
--- The laws that the proofs of this crate cite.
+-- The laws that the proofs of this crate cite, and that what is printed is determined.
 pub mod Telling
+pub mod OneAnswer
