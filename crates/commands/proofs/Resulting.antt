@@ -26,7 +26,7 @@ use Rattle.console.specs.TapeText.{inLines, tapeIn}
 use Rattle.console.specs.Answers.{valueLine, realLine}
 use Rattle.console.specs.Parting as Parting
 use Rattle.console.specs.Parting.{sheetIn}
-use Rattle.console.proofs.Parts.{parted-in}
+use Rattle.console.proofs.Parts.{parted-in, rest, least-of}
 use Rattle.console.proofs.Lines.{Line, stands}
 use Rattle.faults.specs.declared.Fault.{Fault}
 use Rattle.faults.specs.Faulting.{fromLine, listingFault, sheetFault}
@@ -74,14 +74,6 @@ same-room w e = ap capacity e ∙ rw (length-replicate (length (w .store)))
 
 pub same-missing : (list values : List ℕ) (w : Work) {w′ : Work} → w′ ≡ zeroed w → missingInJob (capacity w′) list values ≡ missingInJob (capacity w) list values
 same-missing list values w e = ap (λ room. missingInJob room list values) (same-room w e)
-
-least-of : (n : ℕ) (out : List ℕ) → take (min n (length out)) out ≡ take n out
-least-of n out = elim (decLt (length out) n) [
-  | yes lt ↦
-      let z : min n (length out) ≡ length out = omega arith in
-      rw z (take-length out ∙ sym (take-all n out (omega arith)))
-  | no ge ↦ let z : min n (length out) ≡ n = omega arith in rw z
-]
 
 pub as-many : {n : ℕ} (bytes : ℕ) (out : List ℕ) → n ≡ min bytes (length out) → take n out ≡ take bytes out
 as-many bytes out e = rw e (least-of bytes out)
@@ -230,10 +222,6 @@ module _ (list : List ℕ) (why : Refusal) {t : Bool} (a : t ≡ emptyAt list wh
   no-sheet-follows o q = passed a o _ _ q
 
 -- ---- by the command
-
--- what follows on the first n bytes, whole
-rest : (text : List ℕ) (n : ℕ) → take (length text - n) (drop n text) ≡ drop n text
-rest text n = let short : length (drop n text) ≤ length text - n = simp length-drop (omega arith) in take-all _ _ short
 
 module _ (room : ℕ) (text out : List ℕ) {r : Outcome} {out′ : List ℕ} where
   pub whole-is : {command : Whole} (c : Whole) → command ≡ c → Comes (whole room c text out) r out′ → Comes (whole room command text out) r out′

@@ -1,14 +1,15 @@
--- A text parts at one place, and at one only; and the sheet's part of it is one, with the place where it begins. Assumes nothing.
+-- A text parts at one place, and at one only; the sheet's part of it is one, with the place where it begins; and the bytes on either side of it.
+-- Assumes nothing.
 use mathlib.Core.Path.{_≡_, refl, sym, ap, subst, _∙_}
-use Prim.Native.Nat.{ℕ, zero, suc, _+_, _<_, _≤_}
+use Prim.Native.Nat.{ℕ, zero, suc, _+_, _-_, _<_, _≤_, min}
 use native.Mathlib.Omega.{arith}
 use native.Mathlib.Decide.{decLt, ℕ-discrete}
 use mathlib.Core.List.{List, [], _∷_}
 use mathlib.Core.Bool.{Bool, true, false, cond, _&&_}
 use lib.Dec.{eqb}
 use borrow.Author.Tests.{eq-eqb, ne-eqb}
-use lib.ListN.{length, getD, take, drop}
-use lib.Seq.{length-take-le}
+use lib.ListN.{length, getD, take, drop, length-drop}
+use lib.Seq.{length-take-le, take-all, take-length}
 use denote.Ref.{RefT}
 use Rattle.text.specs.Reading.{lf}
 use Rattle.console.specs.Parting.{EmptyLine, Parted, listingAfter, sheetAfter, listingIn, sheetIn}
@@ -100,3 +101,18 @@ parts-after before (b ∷ bs) (suc n) h p =
 
 pub parted-in : {text : List ℕ} {n : ℕ} → Parted text n → (take n text ≡ listingIn text) × (drop 1 (drop n text) ≡ sheetIn text)
 parted-in {text} {n} p = parts-after lf text n (p .counts .0) (record { without = p .without; followed = p .followed })
+
+-- ---- as many bytes as a text has
+
+-- what follows on the first n bytes, whole
+pub rest : (text : List ℕ) (n : ℕ) → take (length text - n) (drop n text) ≡ drop n text
+rest text n = let short : length (drop n text) ≤ length text - n = simp length-drop (omega arith) in take-all _ _ short
+
+-- a count that is cut to the length takes the same bytes
+pub least-of : (n : ℕ) (out : List ℕ) → take (min n (length out)) out ≡ take n out
+least-of n out = elim (decLt (length out) n) [
+  | yes lt ↦
+      let z : min n (length out) ≡ length out = omega arith in
+      rw z (take-length out ∙ sym (take-all n out (omega arith)))
+  | no ge ↦ let z : min n (length out) ≡ n = omega arith in rw z
+]

@@ -15,15 +15,11 @@ use Rattle.calls.specs.Promises.{Simplifies}
 use Rattle.expression.specs.declared.refusal.Refusal.{Refusal}
 use Rattle.console.specs.Parting.{Parted}
 use Rattle.console.specs.Answers.{refusedLine, refusalLine}
-use Rattle.console.proofs.Parts.{one-place}
+use Rattle.console.proofs.Parts.{one-place, rest, least-of}
 use Rattle.console.proofs.Lines.{Line, stands}
 use Rattle.reduce.specs.Reducing.{simplifiedText, printed, reduction, SimplifiesText, Reduces}
 
 -- ---- the texts
-
--- what follows on the first m bytes, whole
-rest : (text : List ℕ) (m : ℕ) → take (length text - m) (drop m text) ≡ drop m text
-rest text m = let short : length (drop m text) ≤ length text - m = simp length-drop (omega arith) in take-all _ _ short
 
 pub simplifies : {text values out out′ : List ℕ} {m : ℕ} {w w′ : Work} {r : Simplified} → Parted text m
     → values ≡ drop 1 (take (length text - m) (drop m text)) → Simplifies 10 (take m text) values out w r out′ w′ → SimplifiesText text w out r out′
@@ -34,14 +30,6 @@ simplifies {text} {values} {out} {out′} {m} {w} p q s = record {
 }
 
 -- ---- what is printed
-
-least-of : (n : ℕ) (out : List ℕ) → take (min n (length out)) out ≡ take n out
-least-of n out = elim (decLt (length out) n) [
-  | yes lt ↦
-      let z : min n (length out) ≡ length out = omega arith in
-      rw z (take-length out ∙ sym (take-all n out (omega arith)))
-  | no ge ↦ let z : min n (length out) ≡ n = omega arith in rw z
-]
 
 pub too-long : {text out out′ : List ℕ} {capacity′ r : ℕ} → 65536 < length text → Line out (refusedLine 0 0) r out′
     → Reduces capacity′ text out r out′ × Counts r out′

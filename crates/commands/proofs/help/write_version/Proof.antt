@@ -4,26 +4,12 @@ use Rattle.console.proofs.Lines.{put-counts}
 use borrow.Author.Needs.{needs}
 use Rattle.commands.proofs.help.write_version.Statement.{statement}
 use Rattle.commands.proofs.help.write_version.Tie as tie
-use Rattle.commands.proofs.help.write_version.Reads as reads
-use Rattle.commands.proofs.help.write_version.Lts as lts
-use Rattle.text.proofs.writing.write_bytes.Reads as write-bytes-reads
-
--- src/help.rt:42:25
-slice-aggregate-write-bytes : tie.Need-slice-aggregate-write-bytes
-slice-aggregate-write-bytes c = search needs
-
--- src/help.rt:42:5
-write-bytes-requires : tie.Need-write-bytes-requires
-write-bytes-requires c κs = search needs
-
--- src/help.rt:37:1
-same-length : tie.Need-same-length
-same-length c = search needs
-
--- src/help.rt:37:1
-returns : tie.Need-returns
-returns c = (c .before .before .write-bytes .ensures, put-counts (c .before .before .write-bytes .ensures) (omega (arith, c .before .before .before .before .before .before .pre)))
 
 pub write-version-spec : {M : Type 1} → statement M
 write-version-spec =
-    tie.close (tie.spec slice-aggregate-write-bytes write-bytes-requires same-length returns)
+    tie.close
+    (tie.spec
+    (λ c. search needs)
+    (λ c κs. search needs)
+    (λ c. search needs)
+    (λ c. (c .before .before .write-bytes .ensures, put-counts (c .before .before .write-bytes .ensures) (omega (arith, c .before .before .before .before .before .before .pre)))))
