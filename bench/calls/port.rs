@@ -1,4 +1,5 @@
 // The functions of the static library as C calls them, and what is lent to them. Nothing else here knows how memory is lent.
+#![allow(dead_code)] // what only some of the benchmarks use
 use lent::{Store, TABLE};
 
 #[path = "../common/lent.rs"]
@@ -16,6 +17,10 @@ unsafe extern "C" {
     fn findavoreb_substitute(
         list: *const u8, list_len: usize, store: *mut [u64; 4], rows: usize, desk: *mut u64, table: *mut u64,
         out: *mut u8, out_len: usize, answer: *mut u64,
+    ) -> u64;
+    fn findavoreb_to_real(
+        list: *const u8, list_len: usize, store: *mut [u64; 4], rows: usize, desk: *mut u64, table: *mut u64,
+        answer: *mut u64,
     ) -> u64;
     fn findavoreb_compile(
         list: *const u8, list_len: usize, store: *mut [u64; 4], rows: usize, desk: *mut u64, table: *mut u64,
@@ -64,6 +69,16 @@ impl Work {
             findavoreb_substitute(
                 list.as_ptr(), list.len(), rows.as_mut_ptr(), rows.len(), desk.as_mut_ptr(), table.as_mut_ptr(),
                 out.as_mut_ptr(), out.len(), answer.as_mut_ptr(),
+            )
+        }
+    }
+
+    pub fn to_real(&mut self, list: &[u8], answer: &mut Answer) -> u64 {
+        let (Store { rows, desk }, table) = (&mut self.store, &mut self.table);
+        unsafe {
+            findavoreb_to_real(
+                list.as_ptr(), list.len(), rows.as_mut_ptr(), rows.len(), desk.as_mut_ptr(), table.as_mut_ptr(),
+                answer.as_mut_ptr(),
             )
         }
     }
