@@ -1,46 +1,36 @@
-// Times the functions of the static library, whole calls from bytes to an answer: listings of 5, 20 and 200 nodes in stores of
-// 64, 512 and 4096 rows. bench/run builds it; an argument says how many rounds. calls/port.rs has how memory is lent, and
-// nothing else does: with another one this times a library that lends it otherwise, on the same bytes. The last line is a sum
-// of all answers and outputs, by which two such libraries are compared.
+// Times the functions of the static library, whole calls from bytes to an answer, against the same by std and the Rust's own module,
+// which parses the bytes too (calls/plain.rs): listings of 5 to 500 nodes in stores of 64 to 4096 rows. bench/run builds it; an
+// argument says how many rounds. calls/port.rs has how memory is lent, and nothing else does: with another one this times a library
+// that lends it otherwise, on the same bytes. The last line is a sum of all answers and outputs, by which two such libraries are
+// compared.
+use common::{Random, now, quartiles};
+use oracle::expression::Expression;
 use port::{Answer, Work};
 use std::{collections::BTreeSet, fmt::Write, hint::black_box};
 
+#[allow(dead_code)]
+mod common;
+#[path = "calls/plain.rs"]
+mod plain;
 #[path = "calls/port.rs"]
 mod port;
 
-const SIZES: [usize; 3] = [5, 20, 200];
-const ROOMS: [usize; 3] = [64, 512, 4096];
+const SIZES: [usize; 5] = [5, 20, 60, 200, 500];
+const ROOMS: [usize; 4] = [64, 512, 1024, 4096];
 const LIMIT: u64 = 10;
 const OUT: usize = 36864; // bytes, as many as a listing may have
 const NODES: usize = 2000; // of the listings of a round
 const VARIABLES: usize = 64;
 const SWAPS: usize = 4; // at the most
 const ROUNDS: usize = 101;
-
-unsafe extern "C" {
-    safe fn clock_gettime(clock: i32, seconds_and_nanoseconds: &mut [i64; 2]) -> i32;
-}
+const NOT_A_NUMBER: u64 = 12;
 
 // ---- what is called
 
-// Marsaglia's xorshift of 64 bits.
-struct Random(u64);
-
 impl Random {
-    fn next(&mut self) -> u64 {
-        self.0 ^= self.0 << 13;
-        self.0 ^= self.0 >> 7;
-        self.0 ^= self.0 << 17;
-        self.0
-    }
-
-    fn below(&mut self, n: usize) -> usize {
-        ((self.next() >> 11) % n as u64) as usize
-    }
-
     // The bits of a number from a half to 2.
-    fn real(&mut self) -> u64 {
-        (0.5 + 1.5 * (self.below(1 << 52) as f64 / (1u64 << 52) as f64)).to_bits()
+    fn bits(&mut self) -> u64 {
+        self.real().to_bits()
     }
 }
 
@@ -64,7 +54,7 @@ impl Lines {
     // Of ten leaves three numbers, four variables, three cells.
     fn leaf(&mut self, random: &mut Random) -> usize {
         let line = match random.below(10) {
-            0..3 => format!("n\t{:016X}\t{:016X}\n", random.real(), random.real()),
+            0..3 => format!("n\t{:016X}\t{:016X}\n", random.bits(), random.bits()),
             3..7 => {
                 let v = random.below(VARIABLES);
                 self.variables.insert(v);
@@ -96,12 +86,13 @@ impl Lines {
     }
 }
 
-// A listing; the same with s lines, which put leaves in the place of variables; a sheet with what it names; and its tape.
+// A listing; the same with s lines, which put leaves in the place of variables; a sheet with what it names; its tape and its tree.
 struct Job {
     list: Vec<u8>,
     with_swaps: Vec<u8>,
     sheet: Vec<u8>,
     tape: Vec<u8>,
+    tree: Expression,
 }
 
 impl Job {
@@ -113,63 +104,108 @@ impl Job {
             writeln!(with_swaps, "s\t{v}\t{}", lines.leaves[random.below(lines.leaves.len())]).unwrap();
         }
         for v in &lines.variables {
-            writeln!(sheet, "v\t{v}\t{:016X}\t{:016X}", random.real(), random.real()).unwrap();
+            writeln!(sheet, "v\t{v}\t{:016X}\t{:016X}", random.bits(), random.bits()).unwrap();
         }
         for (region, index) in &lines.cells {
-            writeln!(sheet, "m\t{region}\t{index}\t{:016X}", random.real()).unwrap();
+            writeln!(sheet, "m\t{region}\t{index}\t{:016X}", random.bits()).unwrap();
         }
+        let tree = plain::listing(lines.text.as_bytes()).expect("a listing").0;
         let [list, with_swaps, sheet] = [lines.text, with_swaps, sheet].map(String::into_bytes);
-        Job { list, with_swaps, sheet, tape: Vec::new() }
+        Job { list, with_swaps, sheet, tape: Vec::new(), tree }
     }
 
-    // One that all calls accept in the least of the stores that are tried with this size.
+    // One that all calls accept in the least of the stores that are tried with this size. Both sides agree on it.
     fn new(random: &mut Random, size: usize, least: &mut Work, out: &mut [u8]) -> Job {
         loop {
             let (mut job, mut answer) = (Job::drawn(random, size), [0; 6]);
             if [Call::Evaluate, Call::Simplify, Call::Substitute, Call::Compile].map(|c| c.make(least, &job, out, &mut answer)) == [0; 4] {
                 job.tape = out[..answer[1] as usize].to_vec();
+                CALLS.iter().for_each(|call| call.agrees(least, &job, out));
                 return job;
             }
         }
     }
 }
 
-#[derive(Clone, Copy, Debug, PartialEq)]
+#[derive(Clone, Copy, PartialEq)]
 enum Call {
     Evaluate,
     Simplify,
     Substitute,
+    ToReal,
     Compile,
     Play,
+    PlayTree, // beside the Rust with the tree at hand: it parses the sheet alone
+}
+
+const CALLS: [Call; 7] =
+    [Call::Evaluate, Call::Simplify, Call::Substitute, Call::ToReal, Call::Compile, Call::Play, Call::PlayTree];
+
+// What is compared: the value's bits with all NaNs as one, the bytes, or nothing but that there is an answer.
+#[derive(Debug, PartialEq)]
+enum Told {
+    Value([u64; 2]),
+    Bytes(Vec<u8>),
+    Nothing,
 }
 
 impl Call {
+    fn name(self) -> &'static str {
+        match self {
+            Call::Evaluate => "evaluate",
+            Call::Simplify => "simplify",
+            Call::Substitute => "substitute",
+            Call::ToReal => "to_real",
+            Call::Compile => "compile",
+            Call::Play => "play",
+            Call::PlayTree => "play, tree at hand",
+        }
+    }
+
     #[inline(always)]
     fn make(self, work: &mut Work, job: &Job, out: &mut [u8], answer: &mut Answer) -> u64 {
         match self {
             Call::Evaluate => work.evaluate(&job.list, &job.sheet, answer),
             Call::Simplify => work.simplify(&job.list, &[], LIMIT, out, answer),
             Call::Substitute => work.substitute(&job.with_swaps, out, answer),
+            Call::ToReal => work.to_real(&job.list, answer),
             Call::Compile => work.compile(&job.list, out, answer),
-            Call::Play => work.play(&job.tape, &job.sheet, answer),
+            Call::Play | Call::PlayTree => work.play(&job.tape, &job.sheet, answer),
         }
+    }
+
+    // What the call returns: these listings are no numbers.
+    fn expected(self) -> u64 {
+        if self == Call::ToReal { NOT_A_NUMBER } else { 0 }
+    }
+
+    // The same by std and the Rust's own module.
+    #[inline(always)]
+    fn make_plain(self, job: &Job) -> Option<Told> {
+        let value = |z: num_complex::Complex64| Told::Value([z.re, z.im].map(oracle::trace::bits));
+        match self {
+            Call::Evaluate | Call::Play => plain::evaluate(&job.list, &job.sheet).map(value),
+            Call::PlayTree => plain::evaluate_tree(&job.tree, &job.sheet).map(value),
+            Call::Simplify => plain::simplify(&job.list).map(|text| Told::Bytes(text.into_bytes())),
+            Call::Substitute => plain::substitute(&job.with_swaps).map(|text| Told::Bytes(text.into_bytes())),
+            Call::Compile => plain::compile(&job.list).map(Told::Bytes),
+            Call::ToReal => plain::listing(&job.list)?.0.to_real().is_err().then_some(Told::Nothing),
+        }
+    }
+
+    fn agrees(self, work: &mut Work, job: &Job, out: &mut [u8]) {
+        let mut answer = [0; 6];
+        assert_eq!(self.make(work, job, out, &mut answer), self.expected());
+        let here = match self {
+            Call::Evaluate | Call::Play | Call::PlayTree => Told::Value([answer[2], answer[3]]),
+            Call::ToReal => Told::Nothing,
+            _ => Told::Bytes(out[..answer[1] as usize].to_vec()),
+        };
+        assert_eq!(Some(here), self.make_plain(job), "{} is answered in two ways", self.name());
     }
 }
 
 // ---- times
-
-// This thread's processor time in seconds: Linux's CLOCK_THREAD_CPUTIME_ID.
-fn now() -> f64 {
-    let mut t = [0, 0];
-    assert_eq!(clock_gettime(3, &mut t), 0);
-    t[0] as f64 + t[1] as f64 * 1e-9
-}
-
-fn quartiles(x: &[f64]) -> [f64; 3] {
-    let mut sorted = x.to_vec();
-    sorted.sort_by(f64::total_cmp);
-    [1, 2, 3].map(|q| sorted[(sorted.len() - 1) * q / 4])
-}
 
 // Fowler, Noll and Vo's sum of 64 bits.
 struct Sum(u64);
@@ -184,7 +220,7 @@ impl Sum {
 fn summed(call: Call, jobs: &[Job], work: &mut Work, out: &mut [u8], sum: &mut Sum) {
     for job in jobs {
         let mut answer = [0; 6];
-        assert_eq!(call.make(work, job, out, &mut answer), 0);
+        assert_eq!(call.make(work, job, out, &mut answer), call.expected());
         answer.iter().for_each(|word| sum.add(&word.to_le_bytes()));
         sum.add(&out[..answer[1] as usize]);
     }
@@ -193,13 +229,24 @@ fn summed(call: Call, jobs: &[Job], work: &mut Work, out: &mut [u8], sum: &mut S
 // Nanoseconds a call.
 #[inline(never)]
 fn time(call: Call, jobs: &[Job], work: &mut Work, out: &mut [u8]) -> f64 {
-    let (mut answer, mut refused) = ([0; 6], 0);
+    let (mut answer, mut returned) = ([0; 6], 0);
     let start = now();
     for job in jobs {
-        refused |= call.make(work, job, out, &mut answer);
+        returned |= call.make(work, job, out, &mut answer);
     }
     let taken = now() - start;
-    assert_eq!(black_box(refused), 0);
+    assert_eq!(black_box(returned), call.expected());
+    taken * 1e9 / jobs.len() as f64
+}
+
+#[inline(never)]
+fn time_plain(call: Call, jobs: &[Job]) -> f64 {
+    let (mut answered, start) = (0, now());
+    for job in jobs {
+        answered += usize::from(black_box(call.make_plain(job)).is_some());
+    }
+    let taken = now() - start;
+    assert_eq!(answered, jobs.len());
     taken * 1e9 / jobs.len() as f64
 }
 
@@ -208,38 +255,58 @@ fn is_tried(size: usize, room: usize) -> bool {
     2 * size <= room
 }
 
-// A row has a figure for each store. Each round has listings of its own, which each store goes through once before and once in
-// time; another store is first in each.
-fn row(call: Call, size: usize, rooms: &[usize], rounds: usize, sum: &mut Sum) {
+// What is wanted of the ratio.
+fn goal(size: usize) -> f64 {
+    if size < 20 { 1.0 } else { 0.5 }
+}
+
+// A line for each store. Each round has listings of its own, which each side goes through once before and once in time; another is
+// first in each. Which of the lines meet the goal is the answer.
+fn rows(call: Call, size: usize, rounds: usize, sum: &mut Sum) -> [usize; 2] {
     let (mut random, mut out) = (Random(0xA076_1D64_78BD_642F), vec![0; OUT]);
-    let mut least = Work::new(ROOMS.into_iter().find(|room| is_tried(size, *room)).expect("a store"));
+    let tried: Vec<usize> = ROOMS.into_iter().filter(|room| is_tried(size, *room)).collect();
+    let mut least = Work::new(tried[0]);
+    let is_play = [Call::Play, Call::PlayTree].contains(&call);
+    let rooms = if is_play { vec![0] } else { tried };
     let mut works: Vec<Work> = rooms.iter().map(|room| Work::new(*room)).collect();
-    let mut times = vec![Vec::new(); rooms.len()];
+    let sides = rooms.len() + 1; // the last is the Rust's
+    let mut times = vec![Vec::new(); sides];
     for k in 0..rounds {
         let jobs: Vec<Job> = (0..NODES / size).map(|_| Job::new(&mut random, size, &mut least, &mut out)).collect();
-        let turn = (0..rooms.len()).map(|n| (n + k) % rooms.len());
-        for n in turn.filter(|n| call == Call::Play || is_tried(size, rooms[*n])) {
-            summed(call, &jobs, &mut works[n], &mut out, sum);
-            times[n].push(time(call, &jobs, &mut works[n], &mut out));
+        for n in (0..sides).map(|n| (n + k) % sides) {
+            if n == rooms.len() {
+                time_plain(call, &jobs);
+                times[n].push(time_plain(call, &jobs));
+            } else {
+                summed(call, &jobs, &mut works[n], &mut out, sum);
+                times[n].push(time(call, &jobs, &mut works[n], &mut out));
+            }
         }
     }
-    let figure = |taken: &Vec<f64>| {
-        let [low, median, high] = quartiles(taken);
-        format!("{median:.0} [{low:.0}, {high:.0}]")
-    };
-    let figures = times.iter().map(|t| format!("{:>26}", if t.is_empty() { "-".into() } else { figure(t) }));
-    println!("{:<12}{size:>5}{}", format!("{call:?}").to_lowercase(), figures.collect::<String>());
+    let rust = times.pop().expect("the Rust's");
+    let mut met = [0, 0];
+    for (room, here) in rooms.iter().zip(times) {
+        let [low, ratio, high] = quartiles(here.iter().zip(&rust).map(|(h, r)| h / r));
+        let [h, r] = [here, rust.clone()].map(|t| quartiles(t.into_iter())[1]);
+        let is_met = ratio <= goal(size) && ratio < 1.0;
+        met[usize::from(!is_met)] += 1;
+        let room = if is_play { "-".into() } else { room.to_string() };
+        let word = if is_met { "" } else { "  missed" };
+        println!("{:<20}{size:>5}{room:>6}{h:>12.0}{r:>12.0}{ratio:>9.3} [{low:.3}, {high:.3}]{word}", call.name());
+    }
+    met
 }
 
 fn main() {
     let rounds = std::env::args().nth(1).map_or(ROUNDS, |n| n.parse().expect("a number of rounds"));
-    let mut sum = Sum(0xCBF2_9CE4_8422_2325);
-    let [small, middle, large] = ROOMS.map(|room| format!("{room} rows"));
-    println!("{:<12}{:>5}{small:>26}{middle:>26}{large:>26} [quartiles]", "ns a call", "size");
-    for call in [Call::Evaluate, Call::Simplify, Call::Substitute, Call::Compile] {
-        SIZES.iter().for_each(|size| row(call, *size, &ROOMS, rounds, &mut sum));
+    let (mut sum, mut met) = (Sum(0xCBF2_9CE4_8422_2325), [0, 0]);
+    println!("{:<20}{:>5}{:>6}{:>12}{:>12}{:>9} [quartiles]", "ns a call", "size", "rows", "here", "Rust", "ratio");
+    for call in CALLS {
+        for size in SIZES {
+            let lines = rows(call, size, rounds, &mut sum);
+            met = [0, 1].map(|k| met[k] + lines[k]);
+        }
     }
-    println!("\n{:<12}{:>5}{:>26} [quartiles]", "ns a call", "size", "no store");
-    SIZES.iter().for_each(|size| row(Call::Play, *size, &[0], rounds, &mut sum));
-    println!("\nsum of all answers and outputs: {:016X}", sum.0);
+    println!("\nwanted: below 1, and at most 0.5 from 20 nodes on; met in {} lines of {}", met[0], met[0] + met[1]);
+    println!("sum of all answers and outputs: {:016X}", sum.0);
 }
