@@ -3,6 +3,8 @@
 use jobs::{FEW, MIXES, Mix, SIZES, Side, Work, call_row, evaluated, median, ratio, rounds, rust, rust_again, times};
 
 mod common;
+#[path = "common/drawn.rs"]
+mod drawn;
 #[path = "common/jobs.rs"]
 mod jobs;
 

@@ -6,13 +6,16 @@ use common::{
     line, listing, now, packed, quartiles, rows,
 };
 use oracle::{
-    expression::{Expression, ExpressionFunction, InfixOperator, PrefixOperator, simplified},
+    expression::{Expression, simplified},
     nodes::{Node, number_of, trees},
     trace::Asked,
 };
+use shapes::{SHAPES, Shape, drawn, grow};
 use std::{collections::HashMap, hint::black_box};
 
 mod common;
+#[path = "common/shapes.rs"]
+mod shapes;
 
 const LIMIT: u64 = 10;
 const ROOM: usize = 4096;
@@ -41,88 +44,6 @@ unsafe extern "C" {
         list: *const u8, list_len: usize, values: *const u8, values_len: usize, limit: u64, store: *mut [u64; 4],
         rows: usize, desk: *mut u64, table: *mut u64, out: *mut u8, out_len: usize,
     ) -> u64;
-}
-
-// ---- what is simplified
-
-#[derive(Clone, Copy, Debug, PartialEq)]
-enum Shape {
-    Sums,
-    Chain,
-    Random,
-    Shared,
-}
-
-const SHAPES: [Shape; 4] = [Shape::Sums, Shape::Chain, Shape::Random, Shape::Shared];
-
-impl Shape {
-    fn name(self) -> &'static str {
-        match self {
-            Shape::Sums => "sums of products",
-            Shape::Chain => "chain",
-            Shape::Random => "random",
-            Shape::Shared => "shared",
-        }
-    }
-}
-
-impl Random {
-    fn leaf(&mut self) -> Node {
-        match self.below(10) {
-            0..3 => Node::Number(self.number()),
-            3 => Node::Pi,
-            4..8 => Node::Variable(self.below(32) as u16),
-            _ => Node::Cell(self.below(8) as u16, self.below(16) as u32),
-        }
-    }
-
-    fn infix(&mut self, a: usize, b: usize, operators: &[InfixOperator]) -> Node {
-        Node::Infix(operators[self.below(operators.len())], a, b)
-    }
-
-    // Half of the random trees' operations on one operand are functions.
-    fn one(&mut self, shape: Shape, a: usize) -> Node {
-        use ExpressionFunction::*;
-        if shape == Shape::Random && self.below(2) == 0 {
-            return Node::Function([Sine, Cosine, Exponent, SquareRoot, Cis][self.below(5)], a);
-        }
-        Node::Prefix(if self.below(4) > 0 { PrefixOperator::Minus } else { PrefixOperator::Plus }, a)
-    }
-}
-
-// The lines of a tree with this many nodes, each counted as often as it is met.
-// Sums: a balanced sum of products of two leaves. Chain: a leaf at each step, up to 50 steps; longer ones are joined.
-// Random: parts of any size. Shared: both operands are one node.
-fn grow(random: &mut Random, shape: Shape, size: usize, nodes: &mut Vec<Node>) -> usize {
-    use InfixOperator::*;
-    let is_even = size % 2 == 0;
-    let node = if size == 1 {
-        random.leaf()
-    } else if size == 2 || shape == Shape::Shared && is_even || shape == Shape::Random && random.below(4) == 0 {
-        let a = grow(random, shape, size - 1, nodes);
-        random.one(shape, a)
-    } else if shape == Shape::Shared {
-        let a = grow(random, shape, size / 2, nodes);
-        random.infix(a, a, &[Plus, Star])
-    } else {
-        let left = match shape {
-            Shape::Sums if size == 3 => 1,
-            Shape::Sums => (size - 1) / 2 / 4 * 4 + 3,
-            Shape::Chain if size <= 101 => size - 2,
-            Shape::Chain => size / 2,
-            _ => 1 + random.below(size - 2),
-        }
-        .min(size - 2);
-        let (a, b) = (grow(random, shape, left, nodes), grow(random, shape, size - 1 - left, nodes));
-        match shape {
-            Shape::Sums if size == 3 => Node::Infix(Star, a, b),
-            Shape::Sums => Node::Infix(Plus, a, b),
-            Shape::Chain => random.infix(a, b, &[Plus, Minus, Star, Slash]),
-            _ => random.infix(a, b, &[Plus, Minus, Star, Slash, Caret]),
-        }
-    };
-    nodes.push(node);
-    nodes.len() - 1
 }
 
 // ---- the Rust
@@ -296,12 +217,6 @@ impl Job {
         let made: Option<Vec<Tree>> = drawn.iter().map(|nodes| sheet.tree(nodes, room)).collect();
         made.map(|trees| Job { sheet, trees })
     }
-}
-
-fn drawn(random: &mut Random, shape: Shape, size: usize) -> Vec<Node> {
-    let mut nodes = Vec::new();
-    grow(random, shape, size, &mut nodes);
-    nodes
 }
 
 impl Sheet {

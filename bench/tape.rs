@@ -6,6 +6,8 @@ use jobs::{FEW, Job, MIXES, Mix, SIZES, Tree, Work, call_row, evaluated, median,
 use std::hint::black_box;
 
 mod common;
+#[path = "common/drawn.rs"]
+mod drawn;
 #[path = "common/jobs.rs"]
 mod jobs;
 

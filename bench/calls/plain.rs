@@ -3,7 +3,7 @@
 use internment::ArcIntern;
 use num_complex::Complex64;
 use oracle::expression::{Expression, ExpressionFunction, InfixOperator, PrefixOperator, interned};
-use oracle::instruction::MemoryReference;
+use oracle::{instruction::MemoryReference, trace::bits};
 use std::{collections::HashMap, fmt::Write, str::from_utf8};
 
 // ---- texts
@@ -115,7 +115,7 @@ impl Paper {
             return Some(*line);
         }
         match &**e {
-            Expression::Number(z) => writeln!(self.text, "n\t{:016X}\t{:016X}", z.re.to_bits(), z.im.to_bits()),
+            Expression::Number(z) => writeln!(self.text, "n\t{:016X}\t{:016X}", bits(z.re), bits(z.im)),
             Expression::PiConstant() => writeln!(self.text, "p"),
             Expression::Variable(name) => writeln!(self.text, "v\t{name}"),
             Expression::Address(cell) => writeln!(self.text, "m\t{}\t{}", cell.name, cell.index),
@@ -139,7 +139,7 @@ impl Paper {
     }
 }
 
-fn written(e: Expression) -> Option<String> {
+pub fn written(e: Expression) -> Option<String> {
     let mut paper = Paper::default();
     paper.write(&e.into())?;
     Some(paper.text)

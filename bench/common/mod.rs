@@ -1,6 +1,10 @@
 // What the benchmarks that use the Rust's own module share: random numbers, texts of trees and rows, times.
 use num_complex::Complex64;
-use oracle::{nodes::Node, trace::Asked};
+use oracle::{
+    expression::{ExpressionFunction, InfixOperator, PrefixOperator},
+    nodes::Node,
+    trace::Asked,
+};
 use std::fmt::Write;
 
 pub mod lent;
@@ -51,6 +55,29 @@ pub fn line(node: &Node) -> String {
 
 pub fn listing(nodes: &[Node]) -> Vec<u8> {
     nodes.iter().map(line).collect::<String>().into_bytes()
+}
+
+// The lines of a listing that is right.
+pub fn nodes(text: &str) -> Vec<Node> {
+    use ExpressionFunction::*;
+    use InfixOperator::{Caret, Minus, Plus, Slash, Star};
+    let node = |line: &str| {
+        let fields: Vec<&str> = line.split('\t').collect();
+        let whole = |k: usize| fields[k].parse::<usize>().unwrap();
+        let real = |k: usize| f64::from_bits(u64::from_str_radix(fields[k], 16).unwrap());
+        let function = |name: &str| [Sine, Cosine, Exponent, SquareRoot, Cis].into_iter().find(|f| f.to_string() == name).unwrap();
+        let infix = |sign: &str| [Plus, Minus, Star, Slash, Caret].into_iter().find(|o| o.to_string() == sign).unwrap();
+        match fields[0] {
+            "n" => Node::Number(Complex64::new(real(1), real(2))),
+            "p" => Node::Pi,
+            "v" => Node::Variable(whole(1) as u16),
+            "m" => Node::Cell(whole(1) as u16, whole(2) as u32),
+            "f" => Node::Function(function(fields[1]), whole(2)),
+            "u" => Node::Prefix(if fields[1] == "-" { PrefixOperator::Minus } else { PrefixOperator::Plus }, whole(2)),
+            _ => Node::Infix(infix(fields[1]), whole(2), whole(3)),
+        }
+    };
+    text.lines().map(node).collect()
 }
 
 // The t lines of what was asked for, with num_complex's values.

@@ -1,6 +1,6 @@
 // What `worst` calls the library with: listings with sheets that are to take long.
 use super::{
-    common::{Random, listing},
+    common::{Random, listing, nodes},
     hash,
 };
 use num_complex::Complex64;
@@ -239,25 +239,6 @@ fn nested_cis() -> Vec<Node> {
 }
 
 // ---- all of them
-
-// The lines of a listing that is right.
-fn nodes(text: &str) -> Vec<Node> {
-    let node = |line: &str| {
-        let fields: Vec<&str> = line.split('\t').collect();
-        let line_of = |k: usize| fields[k].parse::<usize>().unwrap();
-        let real = |k: usize| f64::from_bits(u64::from_str_radix(fields[k], 16).unwrap());
-        match fields[0] {
-            "n" => Node::Number(Complex64::new(real(1), real(2))),
-            "p" => Node::Pi,
-            "v" => Node::Variable(line_of(1) as u16),
-            "m" => Node::Cell(line_of(1) as u16, line_of(2) as u32),
-            "f" => Node::Function([Sine, Cosine, Exponent, SquareRoot, Cis].into_iter().find(|f| f.to_string() == fields[1]).unwrap(), line_of(2)),
-            "u" => Node::Prefix(if fields[1] == "-" { Negative } else { PrefixOperator::Plus }, line_of(2)),
-            _ => Node::Infix(OPERATORS.into_iter().find(|o| o.to_string() == fields[1]).unwrap(), line_of(2), line_of(3)),
-        }
-    };
-    text.lines().map(node).collect()
-}
 
 // What search.rs found, and the two examples that are refused after much was done.
 fn found(random: &mut Random) -> Vec<Input> {

@@ -1,11 +1,11 @@
 // Searches for listings that simplify slowly at limit 10 in a store of 4096: by the number of simplify calls, by the time of a call
 // that answers, by the time of one that is refused, and by the time after lines that fill the bucket in which 0 is looked up.
-// bench/run worst/search SECONDS FOLDER [SEED] writes the best of each to FOLDER/calls.list, time.list, refused.list and zeros.list;
-// those in this folder were found so.
+// bench/run worst/search SECONDS FOLDER [SEED] writes the best of each to FOLDER/calls.list, time.list, refused.list and zeros.list,
+// and begins with those that are there. Those beside this program were found so, from examples/simplify/full_store on.
 //
 // Each try starts from a random listing, changes a node, an operand or an operator at a time, and keeps what is not much worse
 // (annealing). After many changes without a gain it starts anew, or from the best so far.
-use common::{Random, listing, now};
+use common::{Random, listing, nodes, now};
 use num_complex::Complex64;
 use oracle::{
     expression::{ExpressionFunction, InfixOperator, PrefixOperator},
@@ -173,7 +173,8 @@ impl Scale {
 fn climb(random: &mut Random, scale: &mut Scale, goal: Goal, start: Vec<Node>, end: f64) -> (f64, Vec<Node>) {
     let (mut here, mut score) = (start.clone(), scale.score(goal, &start, 3));
     let (mut best, mut best_score, mut stale) = (start, score, 0);
-    while stale < STALE && now() < end {
+    let most = if goal == Goal::Zeros { STALE / 10 } else { STALE };
+    while stale < most && now() < end {
         let new = changed(random, &here);
         let mut new_score = scale.score(goal, &new, if goal == Goal::Calls { 1 } else { 2 });
         if goal != Goal::Calls && new_score > best_score {
@@ -198,21 +199,25 @@ fn main() {
     let (end, mut random) = (now() + seconds.parse::<f64>().expect("seconds"), Random(seed));
     let zeros = hash::zeros(&mut random, COLLIDING);
     let mut scale = Scale { work: Work::new(ROOM), out: vec![0; OUT], zeros };
-    let mut best = GOALS.map(|_| (0.0, Vec::new()));
+    let file = |goal: Goal| format!("{folder}/{}.list", format!("{goal:?}").to_lowercase());
+    let mut best = GOALS.map(|goal| {
+        let known = std::fs::read_to_string(file(goal)).map_or_else(|_| random.listing(), |text| nodes(&text));
+        (scale.score(goal, &known, 9), known)
+    });
     for k in 0.. {
         if now() >= end {
             break;
         }
         let n = k % GOALS.len();
-        let again = k >= GOALS.len() && random.below(2) == 0;
+        let again = random.below(3) > 0;
         let from = if random.below(2) == 0 { 0 } else { n };
         let start = if again { best[from].1.clone() } else { random.listing() };
         let (score, nodes) = climb(&mut random, &mut scale, GOALS[n], start, end);
         if score > best[n].0 {
-            let name = format!("{:?}", GOALS[n]).to_lowercase();
-            std::fs::write(format!("{folder}/{name}.list"), listing(&nodes)).expect("the folder");
+            std::fs::write(file(GOALS[n]), listing(&nodes)).expect("the folder");
             let (answer, time) = scale.call(&listing(&nodes), 9);
-            println!("{name:<8}{score:>10.0}  {:>4} lines, refusal {}, {} calls, {time:.0} us alone", nodes.len(), answer[0], answer[2]);
+            let (lines, [refusal, _, calls, ..]) = (nodes.len(), answer);
+            println!("{:<8}{score:>10.0}  {lines:>4} lines, refusal {refusal}, {calls} calls, {time:.0} us alone", format!("{:?}", GOALS[n]));
             best[n] = (score, nodes);
         }
     }
