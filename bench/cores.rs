@@ -2,15 +2,17 @@
 // same trees and against plain C (bound.c). bench/run builds it; an argument says how many rounds. The archive has whole calls, so the
 // times here are differences of such calls in one round:
 //
-//   reading and clearing    to_real, which looks at the root alone
-//   reading the sheet       playing one step under it, less the same under none
-//   evaluate                evaluate, less the two
-//   play                    play, which checks too, less playing one step under the sheet
-//   compile                 compile, less reading
-//   writing                 simplify at limit 0 of what was written, which changes nothing, less reading it
-//   simplify                simplify, which writes too, less reading both and less writing
+//   reading      to_real, which looks at the root alone; clearing is in it
+//   the sheet    playing one step under it, less the same under none
+//   evaluate     evaluate, less the two
+//   play         play, which checks too, less playing one step under the sheet
+//   compile      compile, less reading
+//   writing      simplify at limit 0 of what was written, which changes nothing, less reading it
+//   simplify     simplify, which writes too, less reading, the sheet and writing
 //
-// Simplifying with writing stands beside the Rust's with writing (calls/plain.rs).
+// A part of a call finds the processor as the parts before leave it, its guesses above all, and the same function takes up to twice as
+// long there as in a loop of its own. So the Rust and the C are timed after the same calls, which are taken off: `Rust` and `plain C`
+// are such differences too, and `alone` is the Rust in a loop of its own.
 use common::{Random, listing, lent::TABLE, now, quartiles};
 use drawn::{MIXES, Mix, REGIONS, grown};
 use num_complex::Complex64;
@@ -111,6 +113,8 @@ struct Tree {
     tape: Vec<u8>,
     result: Vec<u8>, // simplified
     rust: Expression,
+    input: Option<Expression>, // what the Rust's simplifying consumes, and what it gives
+    output: Option<(Expression, Option<String>)>,
     rows: Vec<[u64; 4]>,
     used: Vec<[u64; 4]>, // a copy, which evaluating in C uses up
 }
@@ -128,7 +132,7 @@ impl Tree {
     fn new(nodes: &[Node]) -> Tree {
         let (list, rows) = (listing(nodes), rows_of(nodes));
         let rust = plain::listing(&list).expect("a listing").0;
-        Tree { list, tape: vec![], result: vec![], rust, used: rows.clone(), rows }
+        Tree { list, tape: vec![], result: vec![], rust, input: None, output: None, used: rows.clone(), rows }
     }
 }
 
@@ -157,7 +161,8 @@ impl Here {
 
     // The same bits, any NaN for any, and a zero for a zero.
     fn is_value(&self, z: Complex64) -> bool {
-        let same = |x: f64, bits: u64| x.to_bits() == bits || x == 0.0 && bits << 1 == 0 || x.is_nan() && f64::from_bits(bits).is_nan();
+        let is_nan = |bits: u64| f64::from_bits(bits).is_nan();
+        let same = |x: f64, bits: u64| x.to_bits() == bits || x == 0.0 && bits << 1 == 0 || x.is_nan() && is_nan(bits);
         same(z.re, self.answer[2]) && same(z.im, self.answer[3])
     }
 
@@ -186,17 +191,22 @@ impl Here {
     }
 }
 
+fn bound_lines(random: &mut Random, mix: Mix) -> String {
+    let mut text = String::new();
+    for v in 0..mix.variables {
+        let z = random.number();
+        writeln!(text, "v\t{v}\t{:016X}\t{:016X}", z.re.to_bits(), z.im.to_bits()).unwrap();
+    }
+    for (region, index) in (0..REGIONS).flat_map(|r| (0..mix.cells).map(move |i| (r, i))) {
+        writeln!(text, "m\t{region}\t{index}\t{:016X}", random.real().to_bits()).unwrap();
+    }
+    text
+}
+
 // Trees for evaluating, drawn again where the sign of a zero decides or there are too many function values.
 fn evaluated(here: &mut Here, random: &mut Random, mix: Mix, size: usize, count: usize) -> Job {
     loop {
-        let mut text = String::new();
-        for v in 0..mix.variables {
-            let z = random.number();
-            writeln!(text, "v\t{v}\t{:016X}\t{:016X}", z.re.to_bits(), z.im.to_bits()).unwrap();
-        }
-        for (region, index) in (0..REGIONS).flat_map(|r| (0..mix.cells).map(move |i| (r, i))) {
-            writeln!(text, "m\t{region}\t{index}\t{:016X}", random.real().to_bits()).unwrap();
-        }
+        let text = if mix.bound { bound_lines(random, mix) } else { String::new() };
         let trees: Vec<Tree> = (0..count).map(|_| Tree::new(&grown(random, mix, size))).collect();
         let values = plain::sheet(text.as_bytes()).expect("a sheet");
         let mut trace = Trace::new(&values.0, &values.1);
@@ -241,13 +251,21 @@ fn to_simplify(here: &mut Here, random: &mut Random, shape: Shape, size: usize, 
 
 // ---- times
 
+// What is done before what is timed: nothing, the listing read, the sheet read, or both.
 #[derive(Clone, Copy, PartialEq)]
-enum Side {
+enum Before {
+    Nothing,
+    Reading,
+    Sheet,
+    Both,
+}
+
+#[derive(Clone, Copy, PartialEq)]
+enum Timed {
+    Nothing,
     Rust,
     RustSimplify,
     RustWrite,
-    Read,
-    Sheet,
     NoSheet,
     Evaluate,
     Play,
@@ -259,65 +277,88 @@ enum Side {
     BoundPlay,
 }
 
-// Nanoseconds for each tree.
-fn time(jobs: &mut [Job], passes: usize, mut call: impl FnMut(&[u8], &plain::Values, &Bound, &mut Tree) -> u64) -> f64 {
-    let count: usize = jobs.iter().map(|j| j.trees.len()).sum();
-    let (mut lacks, start) = (0, now());
-    for _ in 0..passes {
-        for job in jobs.iter_mut() {
-            let bound = job.bound();
-            let Job { sheet, values, trees, .. } = job;
-            trees.iter_mut().for_each(|tree| lacks += call(sheet, values, &bound, tree));
+type Side = (Before, Timed);
+
+impl Tree {
+    // What is used up is there again, and what was made is dropped.
+    fn prepare(&mut self, timed: Timed) {
+        self.output = None;
+        if timed == Timed::BoundEvaluate {
+            self.used.copy_from_slice(&self.rows);
+        }
+        if [Timed::RustSimplify, Timed::RustWrite].contains(&timed) {
+            self.input = Some(self.rust.clone());
         }
     }
-    let taken = now() - start;
-    black_box(lacks);
-    taken * 1e9 / (passes * count) as f64
 }
 
-// What the Rust's simplifying consumes is made before, and what it gives is dropped after.
-fn time_rust(jobs: &[Job], is_written: bool) -> f64 {
-    let inputs: Vec<Expression> = jobs.iter().flat_map(|j| &j.trees).map(|t| t.rust.clone()).collect();
-    let (count, mut results, mut texts) = (inputs.len(), Vec::with_capacity(inputs.len()), Vec::with_capacity(inputs.len()));
-    let start = now();
-    for e in inputs {
-        let simple = e.into_simplified();
-        if is_written {
-            texts.push(plain::written(simple.clone()));
+impl Here {
+    #[inline(always)]
+    fn begin(&mut self, before: Before, sheet: &[u8], list: &[u8]) {
+        if [Before::Reading, Before::Both].contains(&before) {
+            self.work.to_real(list, &mut self.answer);
         }
-        results.push(simple);
+        if [Before::Sheet, Before::Both].contains(&before) {
+            self.work.play(&PI_STEP, sheet, &mut self.answer);
+        }
     }
-    let taken = now() - start;
-    black_box((results, texts));
-    taken * 1e9 / count as f64
-}
 
-fn time_side(side: Side, jobs: &mut [Job], passes: usize, Here { work, out, answer }: &mut Here) -> f64 {
-    match side {
-        Side::Rust => time(jobs, passes, |_, v, _, t| black_box(t.rust.evaluate(&v.0, &v.1)).is_err().into()),
-        Side::RustSimplify => time_rust(jobs, false),
-        Side::RustWrite => time_rust(jobs, true),
-        Side::Read => time(jobs, passes, |_, _, _, t| work.to_real(&t.list, answer)),
-        Side::Sheet => time(jobs, passes, |s, _, _, _| work.play(&PI_STEP, s, answer)),
-        Side::NoSheet => time(jobs, passes, |_, _, _, _| work.play(&PI_STEP, &[], answer)),
-        Side::Evaluate => time(jobs, passes, |s, _, _, t| work.evaluate(&t.list, s, answer)),
-        Side::Play => time(jobs, passes, |s, _, _, t| work.play(&t.tape, s, answer)),
-        Side::Compile => time(jobs, passes, |_, _, _, t| work.compile(&t.list, out, answer)),
-        Side::Simplify => time(jobs, passes, |s, _, _, t| work.simplify(&t.list, s, LIMIT, out, answer)),
-        Side::ReadResult => time(jobs, passes, |_, _, _, t| work.to_real(&t.result, answer)),
-        Side::WriteResult => time(jobs, passes, |_, _, _, t| work.simplify(&t.result, &[], 0, out, answer)),
-        Side::BoundPlay => time(jobs, passes, |_, _, b, t| unsafe {
-            bound_play(t.tape.as_ptr(), t.tape.len() as u64 / 24, b, &mut [0.0; 2]) as u64
-        }),
-        Side::BoundEvaluate => {
-            let one_pass = |_| {
-                jobs.iter_mut().flat_map(|j| &mut j.trees).for_each(|t| t.used.copy_from_slice(&t.rows));
-                let evaluate = |t: &mut Tree, b: &Bound| unsafe {
-                    bound_evaluate(t.used.as_mut_ptr(), b, t.used.len() as u64 - 1, &mut [0.0; 2])
-                };
-                time(jobs, 1, |_, _, b, t| evaluate(t, b) as u64)
-            };
-            (0..passes).map(one_pass).sum::<f64>() / passes as f64
+    // Nanoseconds for each tree.
+    fn time(
+        &mut self, side: Side, jobs: &mut [Job], passes: usize,
+        mut call: impl FnMut(&mut Here, &[u8], &plain::Values, &Bound, &mut Tree) -> u64,
+    ) -> f64 {
+        let (mut count, mut taken, mut lacks) = (0, 0.0, 0);
+        for _ in 0..passes {
+            jobs.iter_mut().flat_map(|j| &mut j.trees).for_each(|t| t.prepare(side.1));
+            let start = now();
+            for job in jobs.iter_mut() {
+                let bound = job.bound();
+                let Job { sheet, values, trees, .. } = job;
+                for tree in trees.iter_mut() {
+                    self.begin(side.0, sheet, &tree.list);
+                    lacks += call(self, sheet, values, &bound, tree);
+                    count += 1;
+                }
+            }
+            taken += now() - start;
+        }
+        black_box(lacks);
+        taken * 1e9 / f64::from(count)
+    }
+
+    fn time_side(&mut self, side: Side, jobs: &mut [Job], passes: usize) -> f64 {
+        match side.1 {
+            Timed::Nothing => self.time(side, jobs, passes, |_, _, _, _, _| 0),
+            Timed::Rust => self.time(side, jobs, passes, |_, _, v, _, t| black_box(t.rust.evaluate(&v.0, &v.1)).is_err().into()),
+            Timed::RustSimplify => self.time(side, jobs, passes, |_, _, _, _, t| {
+                t.output = t.input.take().map(|e| (e.into_simplified(), None));
+                0
+            }),
+            Timed::RustWrite => self.time(side, jobs, passes, |_, _, _, _, t| {
+                t.output = t.input.take().map(|e| {
+                    let simple = e.into_simplified();
+                    (simple.clone(), plain::written(simple))
+                });
+                0
+            }),
+            Timed::NoSheet => self.time(side, jobs, passes, |h, _, _, _, _| h.work.play(&PI_STEP, &[], &mut h.answer)),
+            Timed::Evaluate => self.time(side, jobs, passes, |h, s, _, _, t| h.work.evaluate(&t.list, s, &mut h.answer)),
+            Timed::Play => self.time(side, jobs, passes, |h, s, _, _, t| h.work.play(&t.tape, s, &mut h.answer)),
+            Timed::Compile => self.time(side, jobs, passes, |h, _, _, _, t| h.work.compile(&t.list, &mut h.out, &mut h.answer)),
+            Timed::Simplify => {
+                self.time(side, jobs, passes, |h, s, _, _, t| h.work.simplify(&t.list, s, LIMIT, &mut h.out, &mut h.answer))
+            }
+            Timed::ReadResult => self.time(side, jobs, passes, |h, _, _, _, t| h.work.to_real(&t.result, &mut h.answer)),
+            Timed::WriteResult => {
+                self.time(side, jobs, passes, |h, _, _, _, t| h.work.simplify(&t.result, &[], 0, &mut h.out, &mut h.answer))
+            }
+            Timed::BoundEvaluate => self.time(side, jobs, passes, |_, _, _, b, t| unsafe {
+                bound_evaluate(t.used.as_mut_ptr(), b, t.used.len() as u64 - 1, &mut [0.0; 2]) as u64
+            }),
+            Timed::BoundPlay => self.time(side, jobs, passes, |_, _, _, b, t| unsafe {
+                bound_play(t.tape.as_ptr(), t.tape.len() as u64 / 24, b, &mut [0.0; 2]) as u64
+            }),
         }
     }
 }
@@ -326,96 +367,141 @@ fn time_side(side: Side, jobs: &mut [Job], passes: usize, Here { work, out, answ
 // would else learn.
 struct Times<const N: usize>([Side; N], Vec<[f64; N]>);
 
+// A round's time of a side.
+type Round<'a> = &'a dyn Fn(Before, Timed) -> f64;
+
 impl<const N: usize> Times<N> {
     fn new(here: &mut Here, rounds: usize, sides: [Side; N], mut draw: impl FnMut(&mut Here) -> Vec<Job>) -> Times<N> {
         let mut times = vec![[0.0; N]; rounds];
         for (k, taken) in times.iter_mut().enumerate() {
             let mut jobs = draw(here);
             for n in (0..N).map(|n| (n + k) % N) {
-                time_side(sides[n], &mut jobs, 1, here);
-                taken[n] = time_side(sides[n], &mut jobs, PASSES, here);
+                here.time_side(sides[n], &mut jobs, 1);
+                taken[n] = here.time_side(sides[n], &mut jobs, PASSES);
             }
         }
         Times(sides, times)
     }
 
     // Quartiles of what is made of a round's times.
-    fn quartiles(&self, of: impl Fn(&dyn Fn(Side) -> f64) -> f64) -> [f64; 3] {
+    fn quartiles(&self, of: impl Fn(Round) -> f64) -> [f64; 3] {
         let at = |side: Side| self.0.iter().position(|s| *s == side).expect("a side that is timed");
-        quartiles(self.1.iter().map(|taken| of(&|side| taken[at(side)])))
+        quartiles(self.1.iter().map(|taken| of(&|before, timed| taken[at((before, timed))])))
     }
 }
 
 // ---- rows
 
-type Made<'a> = &'a dyn Fn(&dyn Fn(Side) -> f64) -> f64;
-
-fn evaluating(t: &dyn Fn(Side) -> f64) -> f64 {
-    t(Side::Evaluate) - t(Side::Read) - (t(Side::Sheet) - t(Side::NoSheet))
+fn after(t: Round, before: Before, timed: Timed) -> f64 {
+    t(before, timed) - t(before, Timed::Nothing)
 }
 
-fn playing(t: &dyn Fn(Side) -> f64) -> f64 {
-    t(Side::Play) - t(Side::Sheet)
+// A whole call with a listing and a sheet, less reading both.
+fn core(t: Round, timed: Timed) -> f64 {
+    t(Before::Nothing, timed) - t(Before::Both, Timed::Nothing) + t(Before::Nothing, Timed::NoSheet)
 }
 
-fn simplifying_and_writing(t: &dyn Fn(Side) -> f64) -> f64 {
-    t(Side::Simplify) - t(Side::Read) - (t(Side::Sheet) - t(Side::NoSheet))
+fn writing(t: Round) -> f64 {
+    t(Before::Nothing, Timed::WriteResult) - t(Before::Nothing, Timed::ReadResult)
 }
 
-fn simplifying(t: &dyn Fn(Side) -> f64) -> f64 {
-    simplifying_and_writing(t) - (t(Side::WriteResult) - t(Side::ReadResult))
+type Made<'a> = &'a dyn Fn(Round) -> f64;
+
+// The Rust's time, the time here and the ratio; the Rust's alone and the ratio to it; what another side takes, and the ratio of what is
+// beside that.
+struct Row<'a> {
+    name: String,
+    size: usize,
+    goal: f64,
+    here: Made<'a>,
+    rust: Made<'a>,
+    alone: Timed,
+    beside: Made<'a>,
+    other: Made<'a>,
 }
 
-// The Rust's time, the time here and the ratio; what another side takes, and the ratio of what is beside that.
-fn row<const N: usize>(
-    name: &str, size: usize, times: &Times<N>, (here, rust): (Made, Side), (beside, other): (Made, Side), goal: f64,
-) -> bool {
-    let [low, ratio, high] = times.quartiles(|t| here(t) / t(rust));
-    let [h, r, o] = [times.quartiles(here)[1], times.quartiles(|t| t(rust))[1], times.quartiles(|t| t(other))[1]];
-    let to_other = times.quartiles(|t| beside(t) / t(other))[1];
-    let word = if ratio <= goal { "" } else { "missed" };
-    let quartiles = format!("[{low:.3}, {high:.3}]");
-    println!("{name:<28}{size:>5}{r:>10.0}{h:>10.0}{ratio:>8.3} {quartiles:<16}{goal:>5.2}{o:>15.0}{to_other:>8.3}  {word}");
-    ratio <= goal
+impl Row<'_> {
+    fn print<const N: usize>(&self, times: &Times<N>) -> bool {
+        let Row { name, size, goal, here, rust, alone, beside, other } = self;
+        let alone = |t: Round| t(Before::Nothing, *alone);
+        let [low, ratio, high] = times.quartiles(|t| here(t) / rust(t));
+        let [h, r, o, a] = [*here, *rust, *other, &alone].map(|of| times.quartiles(of)[1]);
+        let [to_alone, to_other] = [times.quartiles(|t| here(t) / alone(t))[1], times.quartiles(|t| beside(t) / other(t))[1]];
+        let (range, word) = (format!("[{low:.3}, {high:.3}]"), if ratio <= *goal { "" } else { "missed" });
+        print!("{name:<24}{size:>5}{r:>9.0}{h:>9.0}{ratio:>8.3} {range:<16}{goal:>5.2}");
+        println!("{a:>9.0}{to_alone:>7.2}{o:>15.0}{to_other:>7.2}  {word}");
+        ratio <= *goal
+    }
 }
 
 fn head(name: &str, other: &str) {
-    println!("{name:<28}{:>5}{:>10}{:>10}{:>8} {:<16}{:>5}{other:>15}{:>8}", "size", "Rust", "here", "ratio", "[quartiles]", "goal", "ratio");
+    let [size, rust, here, ratio, goal, alone] = ["size", "Rust", "here", "ratio", "goal", "alone"];
+    print!("{name:<24}{size:>5}{rust:>9}{here:>9}{ratio:>8} {:<16}{goal:>5}", "[quartiles]");
+    println!("{alone:>9}{ratio:>7}{other:>15}{ratio:>7}");
 }
 
 fn evaluation_rows(here: &mut Here, mix: Mix, size: usize, rounds: usize) -> [bool; 2] {
-    use Side::*;
+    use Before::*;
     let mut random = Random(SEED);
     let together = if mix.functions { (SHEET / size).max(1) } else { NODES / size };
     let count = NODES / size / together;
-    let times = Times::new(here, rounds, [Rust, Evaluate, Read, Sheet, NoSheet, Play, Compile, BoundEvaluate, BoundPlay], |here| {
+    let sides = [
+        (Nothing, Timed::Rust), (Both, Timed::Rust), (Sheet, Timed::Rust), (Nothing, Timed::Evaluate), (Nothing, Timed::Play),
+        (Nothing, Timed::Compile), (Reading, Timed::Nothing), (Sheet, Timed::Nothing), (Both, Timed::Nothing), (Nothing, Timed::NoSheet),
+        (Both, Timed::BoundEvaluate), (Sheet, Timed::BoundPlay),
+    ];
+    let times = Times::new(here, rounds, sides, |here| {
         (0..count).map(|_| evaluated(here, &mut random, mix, size, together)).collect()
     });
-    let name = |what: &str| format!("{what}, {}", mix.name);
-    let play_goal = if mix.name == "numbers" { 0.75 } else { 1.0 };
-    let met = [
-        row(&name("evaluate"), size, &times, (&evaluating, Rust), (&evaluating, BoundEvaluate), 1.0),
-        row(&name("play"), size, &times, (&playing, Rust), (&playing, BoundPlay), play_goal),
-    ];
-    let [low, compiling, high] = times.quartiles(|t| t(Compile) - t(Read));
-    println!("{:<28}{size:>5}{:>10}{compiling:>10.0}{:>8} [{low:.0}, {high:.0}]", name("compile"), "-", "-");
+    let evaluate = Row {
+        name: format!("evaluate, {}", mix.name),
+        size,
+        goal: 1.0,
+        here: &|t| core(t, Timed::Evaluate),
+        rust: &|t| after(t, Both, Timed::Rust),
+        alone: Timed::Rust,
+        beside: &|t| core(t, Timed::Evaluate),
+        other: &|t| after(t, Both, Timed::BoundEvaluate),
+    };
+    let play = Row {
+        name: format!("play, {}", mix.name),
+        goal: if mix.name == "numbers" { 0.75 } else { 1.0 },
+        here: &|t| t(Nothing, Timed::Play) - t(Sheet, Timed::Nothing),
+        rust: &|t| after(t, Sheet, Timed::Rust),
+        beside: &|t| t(Nothing, Timed::Play) - t(Sheet, Timed::Nothing),
+        other: &|t| after(t, Sheet, Timed::BoundPlay),
+        ..evaluate
+    };
+    let met = [evaluate.print(&times), play.print(&times)];
+    let [low, compiling, high] = times.quartiles(|t| t(Nothing, Timed::Compile) - t(Reading, Timed::Nothing));
+    println!("{:<24}{size:>5}{:>9}{compiling:>9.0}{:>8} [{low:.0}, {high:.0}]", format!("compile, {}", mix.name), "-", "-");
     met
 }
 
 fn simplification_row(here: &mut Here, shape: Shape, size: usize, rounds: usize) -> bool {
-    use Side::*;
+    use Before::*;
     let mut random = Random(SEED);
     let together = if shape == Shape::Random { (SHEET / size).max(1) } else { NODES / size };
     let count = NODES / size / together;
-    let times = Times::new(here, rounds, [RustSimplify, RustWrite, Simplify, Read, Sheet, NoSheet, ReadResult, WriteResult], |here| {
+    let sides = [
+        (Nothing, Timed::RustSimplify), (Both, Timed::RustSimplify), (Both, Timed::RustWrite), (Nothing, Timed::Simplify),
+        (Both, Timed::Nothing), (Nothing, Timed::NoSheet), (Nothing, Timed::ReadResult), (Nothing, Timed::WriteResult),
+    ];
+    let times = Times::new(here, rounds, sides, |here| {
         (0..count).map(|_| to_simplify(here, &mut random, shape, size, together)).collect()
     });
-    let goal = match shape {
-        Shape::Sums => 0.2,
-        Shape::Chain if size >= 60 => 0.2,
-        _ => 0.33,
+    let is_low = shape == Shape::Sums || shape == Shape::Chain && size >= 60;
+    let row = Row {
+        name: shape.name().into(),
+        size,
+        goal: if is_low { 0.2 } else { 0.33 },
+        here: &|t| core(t, Timed::Simplify) - writing(t),
+        rust: &|t| after(t, Both, Timed::RustSimplify),
+        alone: Timed::RustSimplify,
+        beside: &|t| core(t, Timed::Simplify),
+        other: &|t| after(t, Both, Timed::RustWrite),
     };
-    row(shape.name(), size, &times, (&simplifying, RustSimplify), (&simplifying_and_writing, RustWrite), goal)
+    row.print(&times)
 }
 
 fn main() {

@@ -67,7 +67,8 @@ impl Here {
     fn job(&mut self, input: &Input) -> Job {
         let (list, mut answer) = (input.list(), [0; 6]);
         self.work.compile(&list, &mut self.out, &mut answer);
-        let tape = if answer[0] == 0 { self.out[..answer[1] as usize].to_vec() } else { vec![] };
+        let compiled = if answer[0] == 0 { self.out[..answer[1] as usize].to_vec() } else { vec![] };
+        let tape = if input.tape.is_empty() { compiled } else { input.tape.clone() };
         Job { list, with_swaps: input.list_with_swaps(), sheet: input.sheet.text(), tape }
     }
 
@@ -95,6 +96,7 @@ fn by_rust(call: Call, input: &Input) -> Option<[f64; 2]> {
     let put_in = |(v, line): &(u16, usize)| Some((variable_name(*v), (**made.get(*line)?).clone()));
     let swaps: HashMap<String, Expression> = input.swaps.iter().filter_map(put_in).collect();
     match call {
+        Call::Play if !input.tape.is_empty() => None,
         Call::Evaluate | Call::Play => Some(times(|| _ = black_box(root.evaluate(&variables, &memory)))),
         Call::Substitute => Some(times(|| _ = black_box(root.substitute_variables(&swaps)))),
         Call::ToReal => Some(times(|| _ = black_box(root.to_real()))),
@@ -159,8 +161,8 @@ fn main() {
     let mut rows = vec![];
     for input in inputs::all(&mut Random(0xA076_1D64_78BD_642F)).iter().filter(|i| i.name.contains(&part)) {
         let job = here.job(input);
-        let played = |call: &Call| *call != Call::Play || !job.tape.is_empty();
-        rows.extend(EACH.into_iter().filter(played).map(|call| row(&mut here, input, &job, call)));
+        let is_made = |call: &Call| if *call == Call::Play { !job.tape.is_empty() } else { input.tape.is_empty() };
+        rows.extend(EACH.into_iter().filter(is_made).map(|call| row(&mut here, input, &job, call)));
     }
     tell(&rows);
 }

@@ -19,7 +19,7 @@ pub enum Shape {
 #[derive(Clone, Copy)]
 pub struct Mix {
     pub name: &'static str,
-    bound: bool, // leaves are numbers, pi, variables and cells, else numbers alone
+    pub bound: bool, // leaves are numbers, pi, variables and cells, else numbers alone
     pub functions: bool, // sin, cos, exp, sqrt, cis and ^ besides arithmetic
     shape: Shape,
     pub variables: u16,

@@ -27,11 +27,12 @@ pub struct Input {
     pub nodes: Vec<Node>,
     pub swaps: Vec<(u16, usize)>, // what substituting puts in: the line for the variable
     pub sheet: Sheet,
+    pub tape: Vec<u8>, // made by hand; empty where it is compiled
 }
 
 impl Input {
     fn new(name: impl Into<String>, nodes: Vec<Node>) -> Input {
-        Input { name: name.into(), nodes, swaps: vec![], sheet: Sheet::default() }
+        Input { name: name.into(), nodes, swaps: vec![], sheet: Sheet::default(), tape: vec![] }
     }
 
     fn with(mut self, sheet: Sheet) -> Input {
@@ -261,10 +262,12 @@ fn doublings(random: &mut Random) -> Vec<Input> {
         inputs.push(Input::new(format!("doubling {o}"), nodes).with(sheet));
     }
     let full = Sheet::full(random);
-    inputs.push(Input::new("doubling of a variable, full sheet", doubled(vec![Node::Variable(255)], Plus)).with(full.clone()));
-    inputs.push(Input::new("doubling of a cell, full sheet", doubled(vec![Node::Cell(7, 127)], Plus)).with(full.clone()));
+    for (name, leaf) in [("a variable", Node::Variable(255)), ("a cell", Node::Cell(7, 127))] {
+        inputs.push(Input::new(format!("doubling of {name}, full sheet"), doubled(vec![leaf], Plus)).with(full.clone()));
+    }
     inputs.push(Input::new("doublings to 1,000,000", million(one())));
-    inputs.push(Input::new("prefixes under doublings", doubled(repeated(vec![one()], 46, |a| vec![Node::Prefix(Negative, a)]), Star)));
+    let prefixes = repeated(vec![one()], 46, |a| vec![Node::Prefix(Negative, a)]);
+    inputs.push(Input::new("prefixes under doublings", doubled(prefixes, Star)));
     let turns = repeated(vec![one()], LINES, |a| vec![Node::Infix(Star, a, a), Node::Prefix(Negative, a + 1)]);
     inputs.push(Input::new("doublings and prefixes in turns", turns));
     for f in [Sine, Cis] {
@@ -290,9 +293,10 @@ fn functions(random: &mut Random) -> Vec<Input> {
     });
     let asked = |re: f64, im: f64| Asked::new(Operation::Sine, Complex64::new(re, im), ZERO);
     let true_rows = Sheet::default().for_lines(&nodes, |asked| asked.value());
+    let first_word = |k: usize| Asked::new(TURNS[k % 2], Complex64::new(2.0, -(k as f64)), ZERO);
     let mut inputs = vec![
         Input::new("cis in cis, late rows", nodes.clone()).with(true_rows.clone().after(|_| asked(random.real(), 0.0))),
-        Input::new("cis in cis, one first word", nodes.clone()).with(same_word.after(|k| Asked::new(TURNS[k % 2], Complex64::new(2.0, -(k as f64)), ZERO))),
+        Input::new("cis in cis, one first word", nodes.clone()).with(same_word.after(first_word)),
         Input::new("cis in cis, equal rows before", nodes.clone()).with(true_rows.after(|_| asked(0.25, 0.0))),
         Input::new("cis in cis, colliding rows", nodes.clone()).with(colliding_rows(random, &nodes)),
     ];
@@ -306,6 +310,33 @@ fn functions(random: &mut Random) -> Vec<Input> {
         sheet
     }));
     inputs
+}
+
+// A cis at nearly every node, and all of one operand, whose rows are the last: sixteen variables with one value, a chain of cis over
+// each, and their sum. In a tape the chain is as long as the tape.
+fn one_operand(random: &mut Random) -> Vec<Input> {
+    let z = one_value();
+    let mut nodes: Vec<Node> = (0..16).map(Node::Variable).collect();
+    let mut ends: Vec<usize> = (0..16).collect();
+    for _ in 0..59 {
+        for end in &mut ends {
+            nodes.push(Node::Function(Cis, *end));
+            *end = nodes.len() - 1;
+        }
+    }
+    while ends.len() > 1 {
+        let first = nodes.len();
+        nodes.extend(ends.chunks(2).map(|pair| Node::Infix(Plus, pair[0], pair[1])));
+        ends = (first..nodes.len()).collect();
+    }
+    let value = |asked: Asked| if asked.operation == Operation::Cosine { z } else { ZERO };
+    let sheet = Sheet { variables: vec![z; 16], ..Sheet::default() }.for_lines(&nodes, value);
+    let sheet = sheet.after(|k| Asked::new(TURNS[k % 2], Complex64::new(z.re, random.real()), ZERO));
+    let mut step = [0; 24];
+    step[..2].copy_from_slice(&[5, 5]);
+    let mut tape = Input::new("511 cis of one operand, late rows", vec![one()]).with(sheet.clone());
+    tape.tape = [[3].as_slice(), &[0; 23], &step.repeat(511)].concat(); // variable 0, and cis
+    vec![Input::new("944 cis of one operand, late rows", nodes).with(sheet), tape]
 }
 
 // Values by which each operand of cis has its two rows in the first one's buckets, and other rows of these buckets before.
@@ -330,8 +361,10 @@ fn one_value() -> Complex64 {
 // Listings and sheets that are as long as they may be.
 fn long(random: &mut Random) -> Vec<Input> {
     let full = Sheet::full(random);
-    let drawn: Vec<Node> = (0..LINES).map(|k| Node::Number(Complex64::new(random.real(), if k + 1 < LINES { random.real() } else { 0.0 }))).collect();
-    let bound: Vec<Node> = (0..512).map(|k| if k < 256 { Node::Variable(k) } else { Node::Cell(7, u32::from(k) % 128) }).collect();
+    let mut drawn: Vec<Node> = (0..LINES).map(|_| Node::Number(random.number())).collect();
+    drawn[LINES - 1] = Node::Number(Complex64::new(1.5, 0.0)); // real
+    let leaf = |k: u16| if k < 256 { Node::Variable(k) } else { Node::Cell(k / 128, u32::from(k) % 128) };
+    let bound: Vec<Node> = (0..512).map(leaf).collect();
     let mut inputs = vec![
         Input::new("1024 numbers", drawn.clone()),
         Input::new("512 numbers under an even tree", even(drawn[..512].to_vec(), &[Plus, Minus, Star, Slash])),
@@ -377,6 +410,7 @@ pub const DRAWN: &str = "1024 numbers";
 pub fn all(random: &mut Random) -> Vec<Input> {
     let mut inputs = doublings(random);
     inputs.extend(functions(random));
+    inputs.extend(one_operand(random));
     inputs.extend(long(random));
     inputs.extend(swapped(random));
     inputs.extend(colliding(random));

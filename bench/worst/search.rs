@@ -216,8 +216,8 @@ fn main() {
         if score > best[n].0 {
             std::fs::write(file(GOALS[n]), listing(&nodes)).expect("the folder");
             let (answer, time) = scale.call(&listing(&nodes), 9);
-            let (lines, [refusal, _, calls, ..]) = (nodes.len(), answer);
-            println!("{:<8}{score:>10.0}  {lines:>4} lines, refusal {refusal}, {calls} calls, {time:.0} us alone", format!("{:?}", GOALS[n]));
+            let (goal, lines, [refusal, _, calls, ..]) = (format!("{:?}", GOALS[n]), nodes.len(), answer);
+            println!("{goal:<8}{score:>10.0}  {lines:>4} lines, refusal {refusal}, {calls} calls, {time:.0} us alone");
             best[n] = (score, nodes);
         }
     }
