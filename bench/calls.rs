@@ -8,7 +8,6 @@ use oracle::expression::Expression;
 use port::{Answer, Work};
 use std::{collections::BTreeSet, fmt::Write, hint::black_box};
 
-#[allow(dead_code)]
 mod common;
 #[path = "calls/plain.rs"]
 mod plain;

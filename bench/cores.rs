@@ -25,7 +25,6 @@ use port::Work;
 use shapes::{SHAPES, Shape};
 use std::{collections::HashMap, fmt::Write, hint::black_box};
 
-#[allow(dead_code)]
 mod common;
 #[path = "common/drawn.rs"]
 mod drawn;

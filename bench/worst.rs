@@ -10,7 +10,6 @@ use oracle::{
 use port::{Answer, Work};
 use std::{collections::HashMap, hint::black_box};
 
-#[allow(dead_code)]
 mod common;
 #[path = "worst/hash.rs"]
 mod hash;

@@ -1,4 +1,5 @@
 // What the benchmarks that use the Rust's own module share: random numbers, texts of trees and rows, times.
+#![allow(dead_code)] // what only some of them use
 use num_complex::Complex64;
 use oracle::{
     expression::{ExpressionFunction, InfixOperator, PrefixOperator},

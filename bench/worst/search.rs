@@ -13,7 +13,6 @@ use oracle::{
 };
 use port::{Answer, Work};
 
-#[allow(dead_code)]
 #[path = "../common/mod.rs"]
 mod common;
 #[allow(dead_code)]
