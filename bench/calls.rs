@@ -198,7 +198,8 @@ impl Call {
         let here = match self {
             Call::Evaluate | Call::Play | Call::PlayTree => Told::Value([answer[2], answer[3]]),
             Call::ToReal => Told::Nothing,
-            _ => Told::Bytes(out[..answer[1] as usize].to_vec()),
+            Call::Compile => Told::Bytes(out[..answer[1] as usize].to_vec()),
+            _ => Told::Bytes(plain::rewritten(&out[..answer[1] as usize]).expect("a listing").into_bytes()),
         };
         assert_eq!(Some(here), self.make_plain(job), "{} is answered in two ways", self.name());
     }

@@ -41,7 +41,7 @@ const NODES: usize = 4000; // of the trees of a round
 const SHEET: usize = 100; // nodes of the trees with functions that share a sheet
 const PASSES: usize = 4; // over the trees, in time
 const ROUNDS: usize = 101;
-const ROOM: usize = 4096;
+const ROWS: usize = 4096;
 const LIMIT: u64 = 10;
 const OUT: usize = 36864;
 const SEED: u64 = 0xA076_1D64_78BD_642F;
@@ -154,8 +154,8 @@ struct Here {
 }
 
 impl Here {
-    fn new() -> Here {
-        Here { work: Work::new(ROOM), out: vec![0; OUT], answer: [0; 6] }
+    fn new(rows: usize) -> Here {
+        Here { work: Work::new(rows), out: vec![0; OUT], answer: [0; 6] }
     }
 
     // The same bits, any NaN for any, and a zero for a zero.
@@ -238,8 +238,9 @@ fn to_simplify(here: &mut Here, random: &mut Random, shape: Shape, size: usize, 
         let (mut job, Here { work, out, answer }) = (Job::new(common::rows(&asked), trees), &mut *here);
         let is_same = |t: &mut Tree| {
             let refused = work.simplify(&t.list, &job.sheet, LIMIT, out, answer);
-            t.result = plain::written(t.rust.clone().into_simplified()).expect("a text").into_bytes();
-            assert!(refused != 0 || out[..answer[1] as usize] == t.result, "two results");
+            t.result = out[..answer[1] as usize].to_vec();
+            let by_rust = plain::written(t.rust.clone().into_simplified());
+            assert!(refused != 0 || plain::rewritten(&t.result) == by_rust, "two results");
             refused == 0
         };
         if job.trees.iter_mut().all(is_same) {
@@ -404,6 +405,9 @@ fn writing(t: Round) -> f64 {
     t(Before::Nothing, Timed::WriteResult) - t(Before::Nothing, Timed::ReadResult)
 }
 
+// Whether the goal is met, and whether it is beside the Rust alone.
+type Met = [bool; 2];
+
 type Made<'a> = &'a dyn Fn(Round) -> f64;
 
 // The Rust's time, the time here and the ratio; the Rust's alone and the ratio to it; what another side takes, and the ratio of what is
@@ -420,7 +424,7 @@ struct Row<'a> {
 }
 
 impl Row<'_> {
-    fn print<const N: usize>(&self, times: &Times<N>) -> bool {
+    fn print<const N: usize>(&self, times: &Times<N>) -> Met {
         let Row { name, size, goal, here, rust, alone, beside, other } = self;
         let alone = |t: Round| t(Before::Nothing, *alone);
         let [low, ratio, high] = times.quartiles(|t| here(t) / rust(t));
@@ -429,7 +433,7 @@ impl Row<'_> {
         let (range, word) = (format!("[{low:.3}, {high:.3}]"), if ratio <= *goal { "" } else { "missed" });
         print!("{name:<24}{size:>5}{r:>9.0}{h:>9.0}{ratio:>8.3} {range:<16}{goal:>5.2}");
         println!("{a:>9.0}{to_alone:>7.2}{o:>15.0}{to_other:>7.2}  {word}");
-        ratio <= *goal
+        [ratio, to_alone].map(|ratio| ratio <= *goal)
     }
 }
 
@@ -439,7 +443,7 @@ fn head(name: &str, other: &str) {
     println!("{alone:>9}{ratio:>7}{other:>15}{ratio:>7}");
 }
 
-fn evaluation_rows(here: &mut Here, mix: Mix, size: usize, rounds: usize) -> [bool; 2] {
+fn evaluation_rows(mix: Mix, size: usize, rounds: usize) -> [Met; 2] {
     use Before::*;
     let mut random = Random(SEED);
     let together = if mix.functions { (SHEET / size).max(1) } else { NODES / size };
@@ -449,7 +453,8 @@ fn evaluation_rows(here: &mut Here, mix: Mix, size: usize, rounds: usize) -> [bo
         (Nothing, Timed::Compile), (Reading, Timed::Nothing), (Sheet, Timed::Nothing), (Both, Timed::Nothing), (Nothing, Timed::NoSheet),
         (Both, Timed::BoundEvaluate), (Sheet, Timed::BoundPlay),
     ];
-    let times = Times::new(here, rounds, sides, |here| {
+    // few rows, so that clearing them does not push all else out of the caches
+    let times = Times::new(&mut Here::new(size), rounds, sides, |here| {
         (0..count).map(|_| evaluated(here, &mut random, mix, size, together)).collect()
     });
     let evaluate = Row {
@@ -477,7 +482,7 @@ fn evaluation_rows(here: &mut Here, mix: Mix, size: usize, rounds: usize) -> [bo
     met
 }
 
-fn simplification_row(here: &mut Here, shape: Shape, size: usize, rounds: usize) -> bool {
+fn simplification_row(shape: Shape, size: usize, rounds: usize) -> Met {
     use Before::*;
     let mut random = Random(SEED);
     let together = if shape == Shape::Random { (SHEET / size).max(1) } else { NODES / size };
@@ -486,7 +491,7 @@ fn simplification_row(here: &mut Here, shape: Shape, size: usize, rounds: usize)
         (Nothing, Timed::RustSimplify), (Both, Timed::RustSimplify), (Both, Timed::RustWrite), (Nothing, Timed::Simplify),
         (Both, Timed::Nothing), (Nothing, Timed::NoSheet), (Nothing, Timed::ReadResult), (Nothing, Timed::WriteResult),
     ];
-    let times = Times::new(here, rounds, sides, |here| {
+    let times = Times::new(&mut Here::new(ROWS), rounds, sides, |here| {
         (0..count).map(|_| to_simplify(here, &mut random, shape, size, together)).collect()
     });
     let is_low = shape == Shape::Sums || shape == Shape::Chain && size >= 60;
@@ -505,15 +510,16 @@ fn simplification_row(here: &mut Here, shape: Shape, size: usize, rounds: usize)
 
 fn main() {
     let rounds = std::env::args().nth(1).map_or(ROUNDS, |n| n.parse().expect("a number of rounds"));
-    let (mut here, mut met) = (Here::new(), vec![]);
+    let mut met: Vec<Met> = vec![];
     head("ns a tree", "plain C");
     for mix in MIXES {
-        SIZES.iter().for_each(|size| met.extend(evaluation_rows(&mut here, mix, *size, rounds)));
+        SIZES.iter().for_each(|size| met.extend(evaluation_rows(mix, *size, rounds)));
     }
     println!();
     head("simplify, ns a tree", "Rust, written");
     for shape in SHAPES {
-        SIZES.iter().for_each(|size| met.push(simplification_row(&mut here, shape, *size, rounds)));
+        SIZES.iter().for_each(|size| met.push(simplification_row(shape, *size, rounds)));
     }
-    println!("\nthe goal is met in {} rows of {}", met.iter().filter(|m| **m).count(), met.len());
+    let [like, alone] = [0, 1].map(|k| met.iter().filter(|m| m[k]).count());
+    println!("\nof {} rows {like} meet the goal; beside the Rust in a loop of its own {alone}", met.len());
 }

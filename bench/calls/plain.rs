@@ -139,6 +139,7 @@ impl Paper {
     }
 }
 
+// To the Rust equal nodes are one, and zeros of either sign are equal: of such nodes the first is written, and there is no second.
 pub fn written(e: Expression) -> Option<String> {
     let mut paper = Paper::default();
     paper.write(&e.into())?;
@@ -189,6 +190,11 @@ pub fn evaluate(list: &[u8], values: &[u8]) -> Option<Complex64> {
 pub fn evaluate_tree(root: &Expression, values: &[u8]) -> Option<Complex64> {
     let (variables, memory) = sheet(values)?;
     root.evaluate(&variables, &memory).ok()
+}
+
+// A listing read and written again, by which what the library writes is compared with what is written here.
+pub fn rewritten(list: &[u8]) -> Option<String> {
+    written(listing(list)?.0)
 }
 
 pub fn simplify(list: &[u8]) -> Option<String> {
