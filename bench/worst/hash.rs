@@ -54,9 +54,9 @@ pub fn numbers(random: &mut Random, count: usize) -> Vec<Node> {
     like(first, random, count)
 }
 
-// The first is 0, which simplifying looks up again and again.
-pub fn zeros(random: &mut Random, count: usize) -> Vec<Node> {
-    like(Complex64::new(0.0, 0.0), random, count)
+// The first is a whole number, as 0 and 2, which simplifying looks up again and again.
+pub fn whole(random: &mut Random, first: u8, count: usize) -> Vec<Node> {
+    like(Complex64::new(first.into(), 0.0), random, count)
 }
 
 // A listing after lines that it does not use.

@@ -241,17 +241,22 @@ fn nested_cis() -> Vec<Node> {
 
 // ---- all of them
 
-// What search.rs found, and the two examples that are refused after much was done.
+// What search.rs found, alone and after lines that collide with a number of which simplifying makes much use; and the two examples
+// that are refused after much was done.
 fn found(random: &mut Random) -> Vec<Input> {
-    let zeros = hash::after(&hash::zeros(random, 700), &nodes(include_str!("zeros.list")));
-    vec![
-        Input::new("found: the most simplify calls", nodes(include_str!("calls.list"))),
+    let calls = nodes(include_str!("calls.list"));
+    let mut inputs = vec![
+        Input::new("found: the most simplify calls", calls.clone()),
         Input::new("found: simplified longest", nodes(include_str!("time.list"))),
         Input::new("found: refused latest", nodes(include_str!("refused.list"))),
-        Input::new("found: simplified longest with colliding zeros", zeros),
         Input::new("examples: full_store", nodes(include_str!("../../examples/simplify/full_store/job"))),
         Input::new("examples: long_result", nodes(include_str!("../../examples/simplify/long_result/job"))),
-    ]
+    ];
+    for n in [0, 2] {
+        let before = hash::whole(random, n, LINES - calls.len());
+        inputs.push(Input::new(format!("found: the most calls, after {n} and colliding"), hash::after(&before, &calls)));
+    }
+    inputs
 }
 
 fn doublings(random: &mut Random) -> Vec<Input> {

@@ -1,7 +1,7 @@
 // Searches for listings that simplify slowly at limit 10 in a store of 4096: by the number of simplify calls, by the time of a call
-// that answers, by the time of one that is refused, and by the time after lines that fill the bucket in which 0 is looked up.
-// bench/run worst/search SECONDS FOLDER [SEED] writes the best of each to FOLDER/calls.list, time.list, refused.list and zeros.list,
-// and begins with those that are there. Those beside this program were found so, from examples/simplify/full_store on.
+// that answers, and by the time of one that is refused. bench/run worst/search SECONDS FOLDER [SEED] writes the best of each to
+// FOLDER/calls.list, time.list and refused.list, and begins with those that are there. Those beside this program were found so, from
+// examples/simplify/full_store on.
 //
 // Each try starts from a random listing, changes a node, an operand or an operator at a time, and keeps what is not much worse
 // (annealing). After many changes without a gain it starts anew, or from the best so far.
@@ -15,9 +15,6 @@ use port::{Answer, Work};
 
 #[path = "../common/mod.rs"]
 mod common;
-#[allow(dead_code)]
-#[path = "hash.rs"]
-mod hash;
 #[path = "../calls/port.rs"]
 mod port;
 
@@ -32,11 +29,9 @@ enum Goal {
     Calls,
     Time,
     Refused,
-    Zeros,
 }
 
-const GOALS: [Goal; 4] = [Goal::Calls, Goal::Time, Goal::Refused, Goal::Zeros];
-const COLLIDING: usize = 700; // lines of which 0 is the first
+const GOALS: [Goal; 3] = [Goal::Calls, Goal::Time, Goal::Refused];
 
 // ---- listings
 
@@ -138,7 +133,6 @@ fn changed(random: &mut Random, nodes: &[Node]) -> Vec<Node> {
 struct Scale {
     work: Work,
     out: Vec<u8>,
-    zeros: Vec<Node>,
 }
 
 impl Scale {
@@ -155,11 +149,10 @@ impl Scale {
 
     // The larger the worse for the library; 0 for what the goal does not speak of.
     fn score(&mut self, goal: Goal, nodes: &[Node], calls: usize) -> f64 {
-        let list = if goal == Goal::Zeros { hash::after(&self.zeros, nodes) } else { nodes.to_vec() };
-        let (answer, time) = self.call(&listing(&list), calls);
+        let (answer, time) = self.call(&listing(nodes), calls);
         match goal {
             Goal::Calls if answer[0] == 0 => answer[2] as f64,
-            Goal::Time | Goal::Zeros if answer[0] == 0 => time,
+            Goal::Time if answer[0] == 0 => time,
             Goal::Refused if answer[0] != 0 => time,
             _ => 0.0,
         }
@@ -172,8 +165,7 @@ impl Scale {
 fn climb(random: &mut Random, scale: &mut Scale, goal: Goal, start: Vec<Node>, end: f64) -> (f64, Vec<Node>) {
     let (mut here, mut score) = (start.clone(), scale.score(goal, &start, 3));
     let (mut best, mut best_score, mut stale) = (start, score, 0);
-    let most = if goal == Goal::Zeros { STALE / 10 } else { STALE };
-    while stale < most && now() < end {
+    while stale < STALE && now() < end {
         let new = changed(random, &here);
         let mut new_score = scale.score(goal, &new, if goal == Goal::Calls { 1 } else { 2 });
         if goal != Goal::Calls && new_score > best_score {
@@ -196,8 +188,7 @@ fn main() {
     let [seconds, folder] = [&words[1], &words[2]];
     let seed = words.get(3).map_or(0xA076_1D64_78BD_642F, |s| s.parse().expect("a seed"));
     let (end, mut random) = (now() + seconds.parse::<f64>().expect("seconds"), Random(seed));
-    let zeros = hash::zeros(&mut random, COLLIDING);
-    let mut scale = Scale { work: Work::new(ROOM), out: vec![0; OUT], zeros };
+    let mut scale = Scale { work: Work::new(ROOM), out: vec![0; OUT] };
     let file = |goal: Goal| format!("{folder}/{}.list", format!("{goal:?}").to_lowercase());
     let mut best = GOALS.map(|goal| {
         let known = std::fs::read_to_string(file(goal)).map_or_else(|_| random.listing(), |text| nodes(&text));
