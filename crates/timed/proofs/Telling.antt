@@ -11,10 +11,8 @@ use Rattle.listing.specs.declared.Listing.{Listing}
 use Rattle.writing.specs.declared.Written.{Written}
 use Rattle.sheet.specs.declared.Counts.{Counts}
 use Rattle.sheet.specs.declared.Sheet.{Sheet}
-use Rattle.calls.specs.declared.Job.{Job}
-use Rattle.calls.specs.declared.Simplified.{Simplified}
 use Rattle.calls.proofs.Refusing.{refusal-some}
-use Rattle.timed.specs.Packed.{refusedOf, nodeOf, callsOf, builtOf, listingOf, sheetOf, jobOf, writtenOf, simplifiedOf}
+use Rattle.timed.specs.Packed.{refusedOf, nodeOf, callsOf, builtOf, listingOf, sheetOf, writtenOf}
 
 abbrev told : ℕ → ℕ
 told r = r / 288230376151711744
@@ -47,11 +45,5 @@ listing-told desk root swaps = omega arith
 pub sheet-told : (rows : Counts) → told (sheetOf (Sheet.Read rows)) ≡ 0
 sheet-told rows = omega arith
 
-pub job-told : (desk : List ℕ) (root : ℕ) (rows : Counts) → told (jobOf desk (Job.Ready root rows)) ≡ 0
-job-told desk root rows = omega arith
-
 pub written-told : (bytes : ℕ) → told (writtenOf (Written.Bytes bytes)) ≡ 0
 written-told bytes = omega arith
-
-pub simplified-told : (bytes calls : ℕ) → told (simplifiedOf (Simplified.Bytes bytes calls)) ≡ 0
-simplified-told bytes calls = omega arith

@@ -8,10 +8,7 @@
 use Prim.Native.Nat.{ℕ, _+_, _-_, _*_, _%_}
 use mathlib.Core.List.{List}
 use mathlib.Core.Bool.{cond}
-use lib.ListN.{set}
 use lib.Dec.{ltb}
-use Rattle.complex.specs.declared.Complex.{Complex}
-use Rattle.complex.specs.Bits.{bitsOf}
 use Rattle.expression.specs.declared.refusal.Refusal.{Refusal}
 use Rattle.expression.specs.Refusals.{numberOf, placeOf}
 use Rattle.store.specs.Desk.{count, callsOn, refusedFrom, refusalOn}
@@ -19,10 +16,6 @@ use Rattle.listing.specs.declared.Listing.{Listing}
 use Rattle.writing.specs.declared.Written.{Written}
 use Rattle.sheet.specs.declared.Counts.{Counts}
 use Rattle.sheet.specs.declared.Sheet.{Sheet}
-use Rattle.tape.specs.declared.Checked.{Checked}
-use Rattle.calls.specs.declared.Evaluated.{Evaluated}
-use Rattle.calls.specs.declared.Job.{Job}
-use Rattle.calls.specs.declared.Simplified.{Simplified}
 
 -- ---- the parts
 
@@ -56,33 +49,6 @@ abbrev pub sheetOf : Sheet → ℕ
 sheetOf (Sheet.Read rows) = countsOf rows
 sheetOf (Sheet.Refused why) = refusedOf why
 
-abbrev pub jobOf : (desk : List ℕ) → Job → ℕ
-jobOf desk (Job.Ready root rows) = nodeOf root (count desk) + countsOf rows
-jobOf desk (Job.Refused why) = refusedOf why
-
 abbrev pub writtenOf : Written → ℕ
 writtenOf (Written.Bytes bytes) = bytesOf bytes
 writtenOf (Written.Refused why) = refusedOf why
-
-abbrev pub simplifiedOf : Simplified → ℕ
-simplifiedOf (Simplified.Bytes bytes calls) = bytesOf bytes + callsOf calls
-simplifiedOf (Simplified.Refused why) = refusedOf why
-
-abbrev pub checkedOf : Checked → ℕ
-checkedOf Checked.Sound = 0
-checkedOf (Checked.Bad step) = refusedOf (Refusal.BadTape step)
-
--- ---- a value: 0 or a refusal, and the words after the call
-
--- the bits of its parts in the first two words
-abbrev pub withValue : List ℕ → Complex → List ℕ
-withValue out z = set (set out 0 (bitsOf (z .re))) 1 (bitsOf (z .im))
-
-abbrev pub valueOf : Evaluated → List ℕ → ℕ × List ℕ
-valueOf (Evaluated.Value z) out = (0, withValue out z)
-valueOf (Evaluated.Refused why) out = (refusedOf why, out)
-
--- ---- what is handed over by its parts
-
-abbrev pub rowCounts : (variables cells functions : ℕ) → Counts
-rowCounts variables cells functions = record { variables = variables; cells = cells; functions = functions }

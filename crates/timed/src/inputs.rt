@@ -1,16 +1,14 @@
-// Reading: a listing, its lines alone, a sheet, and a job, which is a listing and a sheet.
+// Reading: a listing, its lines alone, and a sheet.
 ghost use mathlib.Core.Path.{_≡_};
 ghost use Prim.Native.Nat.{_≤_};
 ghost use lib.ListN.{length};
 ghost use Rattle.memory.specs.Layout.{tableWords};
 ghost use Rattle.store.specs.Held.{lent};
-ghost use Rattle.timed.specs.Promises.{ReadsListing, ReadsSheet, ReadsTexts};
+ghost use Rattle.timed.specs.Promises.{ReadsListing, ReadsSheet};
 ghost use Rattle.timed.specs.Reading.{withFields, ReadsLines};
-use super::packing::packed_job;
 use super::packing::packed_listing;
 use super::packing::packed_sheet;
 use super::packing::refused;
-use calls::frame::read_job;
 use expression::refusal::Refusal;
 use listing::read_listing;
 use memory::layout::DESK_WORDS;
@@ -74,19 +72,4 @@ pub extern "C" fn timed_read_sheet(text: &[u8], table: &mut [u64]) -> u64
     ensures { λ r. ⌜ ReadsSheet (now (text .entry)) r (now (table .exit)) ⌝ }
 {
     packed_sheet(read_sheet(text, table))
-}
-
-#[no_mangle]
-pub extern "C" fn timed_read_job(
-    list: &[u8],
-    values: &[u8],
-    store: &mut [[u64; 4]],
-    desk: &mut [u64; DESK_WORDS],
-    table: &mut [u64],
-) -> u64
-    requires { ⌜ tableWords ≤ length (now table) ⌝ }
-    ensures { λ r. ⌜ ReadsTexts (now (list .entry)) (now (values .entry)) r (lent (now (store .entry)) (now (desk .entry))) (lent (now (store .exit)) (now (desk .exit))) (now (table .exit)) ⌝ }
-{
-    let job = read_job(list, values, store, desk, table);
-    packed_job(desk, job)
 }

@@ -1,24 +1,15 @@
 // Answers as numbers: specs/Packed says which bits are which.
 ghost use mathlib.Core.Path.{_≡_};
-ghost use Prim.Native.Nat.{ℕ};
-ghost use mathlib.Core.List.{List};
-ghost use Rattle.timed.specs.Packed.{refusedOf, nodeOf, countsOf, builtOf, listingOf, sheetOf, jobOf, writtenOf, simplifiedOf, checkedOf, withValue, valueOf, rowCounts};
-use calls::Evaluated;
-use calls::Job;
-use calls::Simplified;
-use complex::Complex;
-use complex::bits::to_bits;
+ghost use Rattle.timed.specs.Packed.{refusedOf, nodeOf, countsOf, builtOf, listingOf, sheetOf, writtenOf};
 use expression::refusal::Refusal;
 use listing::Listing;
 use memory::layout::DESK_WORDS;
-use memory::put;
 use sheet::Counts;
 use sheet::Sheet;
 use store::desk::REFUSED;
 use store::desk::calls_made;
 use store::desk::refusal_of;
 use store::desk::standing;
-use tape::Checked;
 use writing::Written;
 
 // 2^25: below it a node with the count of nodes, or a count of bytes; from it on counts of rows, or a number of calls.
@@ -75,69 +66,11 @@ pub fn packed_sheet(answer: Sheet) -> u64
     }
 }
 
-pub fn packed_job(desk: &[u64; DESK_WORDS], job: Job) -> u64
-    ensures { λ r. ⌜ r ≡ jobOf (now (desk .entry)) job ⌝ }
-{
-    match job {
-        Job::Ready { root, counts } => packed_node(root, standing(desk)) + packed_counts(counts),
-        Job::Refused(why) => refused(why),
-    }
-}
-
 pub fn packed_written(answer: Written) -> u64
     ensures { λ r. ⌜ r ≡ writtenOf answer ⌝ }
 {
     match answer {
         Written::Bytes(bytes) => bytes as u64 % ABOVE,
         Written::Refused(why) => refused(why),
-    }
-}
-
-pub fn packed_simplified(answer: Simplified) -> u64
-    ensures { λ r. ⌜ r ≡ simplifiedOf answer ⌝ }
-{
-    match answer {
-        Simplified::Bytes { bytes, calls } => bytes as u64 % ABOVE + ABOVE * (calls % 4294967296),
-        Simplified::Refused(why) => refused(why),
-    }
-}
-
-pub fn packed_checked(answer: Checked) -> u64
-    ensures { λ r. ⌜ r ≡ checkedOf answer ⌝ }
-{
-    match answer {
-        Checked::Sound => 0,
-        Checked::Bad(step) => refused(Refusal::BadTape(step)),
-    }
-}
-
-fn put_value(value: &mut [u64], z: Complex)
-    ensures { λ _. ⌜ now (value .exit) ≡ withValue (now (value .entry)) z ⌝ }
-{
-    put(value, 0, to_bits(z.re));
-    put(value, 1, to_bits(z.im));
-}
-
-// 0 and the bits of the value, or the refusal.
-pub fn put_evaluated(value: &mut [u64], answer: Evaluated) -> u64
-    ensures { λ r. ⌜ _≡_ {A = ℕ × List ℕ} (r, now (value .exit)) (valueOf answer (now (value .entry))) ⌝ }
-{
-    match answer {
-        Evaluated::Value(z) => {
-            put_value(value, z);
-            0
-        }
-        Evaluated::Refused(why) => refused(why),
-    }
-}
-
-// The rows that were read, from the counts that `packed_counts` has told.
-pub fn counted(variables: usize, cells: usize, functions: usize) -> Counts
-    ensures { λ r. ⌜ r ≡ rowCounts variables cells functions ⌝ }
-{
-    Counts {
-        variables,
-        cells,
-        functions,
     }
 }
