@@ -11,8 +11,6 @@ use Rattle.expression.proofs.Numbering.{infix-back, prefix-back, function-back,
 use Rattle.expression.specs.declared.node.Expression.{Expression}
 use Rattle.store.specs.declared.node.Fields.{Fields}
 use Rattle.store.specs.Words.{codeOf}
-use Rattle.store.specs.Index.{keyAs}
-use Rattle.store.specs.Walk.{Tells}
 use Rattle.store.specs.Nodes.{fields, fieldsOf, expressionAs, expressionOf}
 use Rattle.expression.specs.Nodes.{Sound}
 
@@ -87,25 +85,7 @@ code-small (Expression.FunctionCall f a) = coded 5 (functionCode f) (omega arith
 code-small (Expression.Prefix o a) = coded 6 (prefixCode o) (omega arith) (omega (arith, prefix-known o .most)) .small
 code-small (Expression.Infix o a b) = coded 7 (infixCode o) (omega arith) (infix-known o .most) .small
 
--- ---- the same fields
+-- ---- the same fields, one by one
 
-pub all-same : (f g : Fields) → f .code ≡ g .code → f .first ≡ g .first → Tells (eqb (f .second) (g .second)) (f ≡ g)
-all-same f g p q = go (eqb (f .second) (g .second)) refl
-  where
-    go : (b : Bool) → eqb (f .second) (g .second) ≡ b → Tells b (f ≡ g)
-    go true e = let r = eqb→eq (f .second) (g .second) (rw e tt) in λ i. fields (p i) (q i) (r i)
-    go false e = λ x. subst T e (subst (λ k. T (eqb (f .second) k)) (ap (λ y. y .second) x) (eqb-refl (f .second)))
-
--- ---- a key of a kind that has no operand and no double
-
-pub key-kept : (class : ℕ → ℕ) (f : Fields) (k : ℕ) → k < 8 → (((((Unit {0} × (k ≡ 1 → ⊥)) × (k ≡ 5 → ⊥)) × (k ≡ 6 → ⊥)) × (k ≡ 7 → ⊥))) → f ≡ keyAs class k f
-unfolding keyAs
-key-kept class f zero l h = refl
-key-kept class f (suc zero) l h = absurd (h .0 .0 .0 .1 refl)
-key-kept class f (suc (suc zero)) l h = refl
-key-kept class f (suc (suc (suc zero))) l h = refl
-key-kept class f (suc (suc (suc (suc zero)))) l h = refl
-key-kept class f (suc (suc (suc (suc (suc zero))))) l h = absurd (h .0 .0 .1 refl)
-key-kept class f (suc (suc (suc (suc (suc (suc zero)))))) l h = absurd (h .0 .1 refl)
-key-kept class f (suc (suc (suc (suc (suc (suc (suc zero))))))) l h = absurd (h .1 refl)
-key-kept class f (suc (suc (suc (suc (suc (suc (suc (suc k)))))))) l h = absurd (omega arith)
+pub all-same : (f g : Fields) → f .code ≡ g .code → f .first ≡ g .first → f .second ≡ g .second → f ≡ g
+all-same f g p q r = λ i. fields (p i) (q i) (r i)

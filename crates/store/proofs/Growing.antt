@@ -32,7 +32,8 @@ use Rattle.store.proofs.Places.{place-within, place-old, place-new, amo
 use Rattle.store.proofs.Coding.{back, code-small}
 use Rattle.store.proofs.Trees.{length-trees, grown-alike, tree-own, trees-alike, tree-alike, Room, room-each}
 use Rattle.store.proofs.Keys.{key-alike}
-use Rattle.store.proofs.Walks.{bucket-below, head-within, no-head, past-head, head-home, head-elsewhere}
+use Rattle.store.proofs.Hashing.{bucket-below}
+use Rattle.store.proofs.Walks.{head-within, no-head, past-head, head-home, head-elsewhere}
 use Rattle.store.proofs.Packing.{Tagged, tagged}
 use Rattle.store.proofs.Seeking.{class-inside, found-tree, found-place, no-place, nowhere, found-class}
 use Rattle.store.proofs.Links.{Rest, length-joined, rest-old, class-new, kept-new, next-new, head-old, head-new}

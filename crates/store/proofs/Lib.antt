@@ -3,6 +3,7 @@ pub mod Places
 mod Coding
 pub mod Trees
 mod Keys
+mod Hashing
 mod Walks
 mod Packing
 pub mod Seeking

@@ -25,7 +25,7 @@ use Rattle.store.specs.Memory.{Memory, memory, column, classAt, trees, t
 use Rattle.store.specs.Desk.{count, callsOn, needOn, refusalOn, refusedFrom, Asks}
 use Rattle.store.specs.Index.{keyOf}
 use Rattle.store.specs.Held.{Holds, Lent, stateIn, Sound, Built, Builds, Adds, Keeps, Recalls, Compares, Begun}
-use Rattle.store.specs.Walk.{Tells, Walked}
+use Rattle.store.specs.Walk.{Walked}
 use Rattle.store.proofs.Building.{seen-refused}
 use Rattle.store.proofs.Seeking.{own-place, found-place, no-place, found-class}
 use Rattle.store.proofs.Stored.{OneAnswer, one-answer}
@@ -148,14 +148,6 @@ pub one-asked : {operation : Operation} {x y : Complex} {r r′ : ℕ} {desk des
     → (r ≡ r′) × (needOn desk₁ ≡ needOn desk₂) × (count desk₁ ≡ count desk₂) × (callsOn desk₁ ≡ callsOn desk₂)
 one-asked l p q =
     (p .answer ∙ sym (q .answer), p .need l ∙ sym (q .need l), p .alike .counted ∙ sym (q .alike .counted), p .alike .called ∙ sym (q .alike .called))
-
--- ---- a Boolean answer to a question: `same`
-
-pub one-told : (A : Type 0) (r r′ : Bool) → Tells r A → Tells r′ A → r ≡ r′
-one-told A true true p q = refl
-one-told A true false p q = absurd (q p)
-one-told A false true p q = absurd (p q)
-one-told A false false p q = refl
 
 -- ---- the rows: `put_row`, `put_link` and `enter` say what the four lists are, and four words a row are no more than these
 

@@ -3,21 +3,24 @@ use mathlib.Core.Path.{_≡_, refl, sym, ap, _∙_, subst}
 use mathlib.Core.Logic.{⊎-elim}
 use mathlib.Core.Bool.{Bool, true, false, cond}
 use Prim.Native.Nat.{ℕ, zero, suc, _-_, _*_, _%_, _≤_, _<_, min}
-use native.Mathlib.Nat.{eq-or-lt-of-le, mod-lt, mod-eq-of-lt, mul-comm, mul-lt-mul-of-pos-left, mul-le-mul, div-lt-iff-lt-mul}
+use native.Mathlib.Nat.{eq-or-lt-of-le}
 use native.Mathlib.Omega.{arith}
 use native.Mathlib.Decide.{ℕ-discrete, decLt}
 use borrow.Author.Tests.{lt-ltb, le-ltb, eq-eqb, ne-eqb, ltb-false}
 use lib.Dec.{ltb, eqb}
 use lib.ListN.{getD}
+use Rattle.complex.specs.Classes.{classOfBits}
 use Rattle.store.specs.declared.index.Meeting.{Meeting}
 use Rattle.store.specs.declared.node.Fields.{Fields}
 use Rattle.store.specs.Words.{codeIn}
 use Rattle.store.specs.Memory.{Memory, room, fieldsOn, fieldsAt, headAt, homeAt, classAt, nextAt}
-use Rattle.store.specs.Index.{keyAs, keyOf, hash, bucketOf, keyAt, bucketAt, headFor, latest}
+use Rattle.store.specs.Index.{firstKey, secondKey, keyOf, bucketOf, keyAt, bucketAt, headFor, latest}
 use Rattle.store.specs.Held.{Holds}
-use Rattle.store.specs.Walk.{Kinship, kin, stranger, Meets, Walked, Tells}
+use Rattle.store.specs.Walk.{Kinship, kin, stranger, Meets, Passed, Walked}
 use Rattle.store.proofs.Trees.{room-each}
 use Rattle.store.proofs.Places.{latest-within, latest-hit, latest-miss}
+use Rattle.store.proofs.Coding.{all-same}
+use Rattle.store.proofs.Hashing.{bucket-below}
 
 -- ---- the head of a bucket
 
@@ -54,172 +57,203 @@ unfolding headFor
 head-elsewhere m n b e l x =
     rw (le-ltb n (headAt m b) (omega (arith, e, l)), ne-eqb (homeAt m (headAt m b - 1)) b (λ y. x (ap (λ k. homeAt m (k - 1)) e ∙ y))) refl
 
--- what a Boolean answer tells
-pub told : {A : Type 0} {b : Bool} → b ≡ true → Tells b A → A
-told {A} e t = subst (λ c. Tells c A) e t
+-- a node with the fields has the key
+key-of-fields : (m : Memory) (f key : Fields) → key ≡ keyOf (classAt m) f → (j : ℕ) → fieldsAt m j ≡ f → keyAt m j ≡ key
+unfolding keyAt
+key-of-fields m f key k j e = ap (keyOf (classAt m)) e ∙ sym k
 
-pub denied : {A : Type 0} {b : Bool} → b ≡ false → Tells b A → A → ⊥
-denied {A} e t = subst (λ c. Tells c A) e t
+-- ---- row by row
 
--- all nodes from `at` on have been looked at; `at` is a node of the bucket, plus one, or 0
-pub record Passed (m : Memory) (n : ℕ) (f key : Fields) (bucket at class : ℕ) : Type 0 where
-  pub within : at ≤ n
+module _ {m : Memory} {n : ℕ} {f key : Fields} {at class : ℕ} (p : Passed m n f key at class) where
+  -- the walk ends where no node is left
+  pub ends : at ≡ 0 → Walked m n f key n class
+  ends z = record {
+    inside = omega arith;
+    own = λ l. absurd (omega arith);
+    none = λ o j l. p .none j (omega arith) l;
+    kinship = λ o. from-zero (p .kinship);
+  }
+    where
+      from-zero : Kinship m n key at class → Kinship m n key 0 class
+      from-zero (kin j l q c) = kin j l q c
+      from-zero (stranger c q) = stranger c λ j a l. q j (omega arith) l
+
+  module _ (q : ℕ) (d : q ≡ at - 1) (o : at ≡ 0 → ⊥) where
+    here : q < n
+    here = omega (arith, p .within)
+
+    pub found : (class′ : ℕ) {r : Meeting} → r ≡ Meeting.Own → Meets m q f key r → Walked m n f key q class′
+    found class′ e x = record { inside = omega (arith, here); own = λ l. subst (Meets m q f key) e x; none = λ o. absurd (omega (arith, here)); kinship = λ o. absurd (omega (arith, here)) }
+
+    -- what no later node is, and this one is not
+    none-here : {P : ℕ → Type 0} → (P q → ⊥) → ((j : ℕ) → at ≤ j → j < n → P j → ⊥) → (j : ℕ) → q ≤ j → j < n → P j → ⊥
+    none-here {P} x y j a l r = go (ℕ-discrete j q)
+      where
+        go : Dec (j ≡ q) → ⊥
+        go (yes t) = x (subst P t r)
+        go (no t) = y j (omega arith) l r
+
+    -- it goes on past a node with the key, whose class it keeps, and past one without
+    pub past-kin : {class′ : ℕ} {r : Meeting} → r ≡ Meeting.Kin → Meets m q f key r → class′ ≡ classAt m q → Passed m n f key q class′
+    past-kin e y c =
+        let x = subst (Meets m q f key) e y in
+        record { within = omega (arith, here); none = none-here (x .1) (p .none); kinship = kin q here (x .0) c }
+
+    pub past-stranger : key ≡ keyOf (classAt m) f → {class′ : ℕ} {r : Meeting} → r ≡ Meeting.Stranger → Meets m q f key r → class′ ≡ class → Passed m n f key q class′
+    past-stranger k e y c =
+        let x = subst (Meets m q f key) e y in
+        rw c
+        (record {
+          within = omega (arith, here);
+          none = none-here (λ z. x (key-of-fields m f key k q z)) (p .none);
+          kinship = go x (p .kinship);
+        })
+      where
+        go : (keyAt m q ≡ key → ⊥) → Kinship m n key at class → Kinship m n key q class
+        go x (kin j l e c) = kin j l e c
+        go x (stranger c z) = stranger c (none-here x z)
+
+-- ---- along a chain
+
+-- besides, `at` is a node of the bucket, plus one, or 0
+pub record Chained (m : Memory) (n : ℕ) (f key : Fields) (bucket at class : ℕ) : Type 0 where
+  pub passed : Passed m n f key at class
   pub bucketed : 1 ≤ at → bucketAt m (at - 1) ≡ bucket
-  pub none : (j : ℕ) → at ≤ j → j < n → fieldsAt m j ≡ f → ⊥
-  pub kinship : Kinship m n key at class
 
-hash-small : (f : Fields) → hash f < 4294967296
-unfolding hash
-hash-small f = mod-lt _ (omega arith)
-
--- a hash scaled down to twice as many buckets as places is one of them
-pub bucket-below : (r : ℕ) (f : Fields) → 0 < r → r < 65536 → bucketOf r f < 2 * r
-unfolding bucketOf
-bucket-below r f h l =
-    rw (mod-eq-of-lt l)
-    (div-lt-iff-lt-mul {k = 2147483648} (omega arith) .1
-    (let p : r * hash f < r * 4294967296 = mul-lt-mul-of-pos-left (hash-small f) h in omega (arith, p, mul-comm r (hash f))))
-
-module _ {m : Memory} {n : ℕ} (h : Holds m n) (f key : Fields) (k : key ≡ keyOf (classAt m) f) where
+module _ {m : Memory} {n : ℕ} (h : Holds m n) (f key : Fields) (k : key ≡ keyOf (classAt m) f) (bucket : ℕ) (e : bucket ≡ bucketOf (room m) key) where
   -- a node of another bucket has neither the key nor the fields
-  other-key : (b : ℕ) → b ≡ bucketOf (room m) key → (j : ℕ) → j < n → (bucketAt m j ≡ b → ⊥) → keyAt m j ≡ key → ⊥
+  other-key : (j : ℕ) → (bucketAt m j ≡ bucket → ⊥) → keyAt m j ≡ key → ⊥
   unfolding bucketAt
-  other-key b e j l x p = x (ap (bucketOf (room m)) p ∙ sym e)
+  other-key j x p = x (ap (bucketOf (room m)) p ∙ sym e)
 
-  key-of-fields : (j : ℕ) → fieldsAt m j ≡ f → keyAt m j ≡ key
-  unfolding keyAt
-  key-of-fields j e = ap (keyOf (classAt m)) e ∙ sym k
+  -- so all nodes have been looked at from the last of the bucket on, if all have from q on
+  skipped : (q class : ℕ) → Passed m n f key q class → Chained m n f key bucket (latest (bucketAt m) bucket q) class
+  skipped q class p = record {
+    passed = record {
+      within = omega (arith, w, p .within);
+      none = passed (key-of-fields m f key k) (p .none);
+      kinship = go (p .kinship);
+    };
+    bucketed = latest-hit (bucketAt m) bucket q;
+  }
+    where
+      w : latest (bucketAt m) bucket q ≤ q
+      w = latest-within (bucketAt m) bucket q
 
-  module _ (bucket : ℕ) (e : bucket ≡ bucketOf (room m) key) where
-    -- the walk begins at the head of the bucket
-    pub begins : (at : ℕ) → at ≡ headFor m n bucket → Passed m n f key bucket at n
-    begins at d =
-        ⊎-elim
-        (λ z. record {
+      passed : {P : ℕ → Type 0} → ((j : ℕ) → P j → keyAt m j ≡ key) → ((j : ℕ) → q ≤ j → j < n → P j → ⊥) → (j : ℕ) → latest (bucketAt m) bucket q ≤ j → j < n → P j → ⊥
+      passed {P} g y j a l r = other (decLt j q)
+        where
+          other : Dec (j < q) → ⊥
+          other (yes t) = other-key j (latest-miss (bucketAt m) bucket q j a t) (g j r)
+          other (no s) = y j (omega arith) l r
+
+      go : Kinship m n key q class → Kinship m n key (latest (bucketAt m) bucket q) class
+      go (kin j l e c) = kin j l e c
+      go (stranger c z) = stranger c (passed (λ j r. r) z)
+
+  -- the walk begins at the head of the bucket
+  pub begins : (at : ℕ) → at ≡ headFor m n bucket → Chained m n f key bucket at n
+  begins at d =
+      ⊎-elim
+      (λ z. record {
+        passed = record {
           within = omega (arith, d, head-within m n bucket);
-          bucketed = λ o. absurd (omega (arith, d, z, o, head-within m n bucket));
           none = λ j a l. absurd (omega arith);
           kinship = stranger refl λ j a l. absurd (omega arith);
-        })
-        (λ p. begun p)
-        (eq-or-lt-of-le {n = 0} {m = n} (omega arith))
-      where
-        begun : 0 < n → Passed m n f key bucket at n
-        begun p =
-            let r : 0 < room m = omega (arith, h .fits) in
-            let l : bucket < 2 * room m = rw e (bucket-below (room m) key r (omega (arith, room-each m (room m) (omega arith) .most))) in
-            let w = latest-within (bucketAt m) bucket n in
-            let d′ : at ≡ latest (bucketAt m) bucket n = d ∙ h .heads bucket l in
-            rw d′
-            (record {
-              within = w;
-              bucketed = latest-hit (bucketAt m) bucket n;
-              none = λ j a q x. other-key bucket e j q (latest-miss (bucketAt m) bucket n j a q) (key-of-fields j x);
-              kinship = stranger refl λ j a q. other-key bucket e j q (latest-miss (bucketAt m) bucket n j a q);
-            })
+        };
+        bucketed = λ o. absurd (omega (arith, d, z, o, head-within m n bucket));
+      })
+      (λ p. begun p)
+      (eq-or-lt-of-le {n = 0} {m = n} (omega arith))
+    where
+      begun : 0 < n → Chained m n f key bucket at n
+      begun p =
+          let r : 0 < room m = omega (arith, h .fits) in
+          let l : bucket < 2 * room m = rw e (bucket-below (room m) key r (omega (arith, room-each m (room m) (omega arith) .most))) in
+          rw (d ∙ h .heads bucket l)
+          (skipped n n (record { within = omega arith; none = λ j a q. absurd (omega arith); kinship = stranger refl λ j a q. absurd (omega arith) }))
 
-    module _ {at class : ℕ} (p : Passed m n f key bucket at class) where
-      -- and ends where the chain does
-      pub ends : at ≡ 0 → Walked m n f key n class
-      ends z = record {
-        inside = omega arith;
-        own = λ l. absurd (omega arith);
-        none = λ o j l. p .none j (omega arith) l;
-        kinship = λ o. from-zero (p .kinship);
-      }
-        where
-          from-zero : Kinship m n key at class → Kinship m n key 0 class
-          from-zero (kin j l q c) = kin j l q c
-          from-zero (stranger c q) = stranger c λ j a l. q j (omega arith) l
+  -- and goes on at the next of a node of the bucket
+  pub goes-on : {at class class′ at′ : ℕ} → Chained m n f key bucket at class → (q : ℕ) → q ≡ at - 1 → (at ≡ 0 → ⊥) → Passed m n f key q class′
+      → at′ ≡ min (nextAt m q) q → Chained m n f key bucket at′ class′
+  goes-on {at} {class} {class′} c q d o p a = rw (a ∙ next-is) (skipped q class′ p)
+    where
+      next-is : min (nextAt m q) q ≡ latest (bucketAt m) bucket q
+      next-is =
+          let b : bucketAt m q ≡ bucket = ap (bucketAt m) d ∙ c .bucketed (omega arith) in
+          let l : q < n = omega (arith, c .passed .within) in
+          let x : nextAt m q ≡ latest (bucketAt m) bucket q = h .each q l .next ∙ ap (λ z. latest (bucketAt m) z q) b in
+          let w = latest-within (bucketAt m) bucket q in
+          omega arith
 
-      module _ (q : ℕ) (d : q ≡ at - 1) (o : at ≡ 0 → ⊥) where
-        here : q < n
-        here = omega (arith, p .within)
+-- ---- how a node meets what is sought, word by word
 
-        pub found : (class′ : ℕ) {r : Meeting} → r ≡ Meeting.Own → Meets m q f key r → Walked m n f key q class′
-        found class′ e x = record { inside = omega (arith, here); own = λ l. subst (Meets m q f key) e x; none = λ o. absurd (omega (arith, here)); kinship = λ o. absurd (omega (arith, here)) }
+-- what stands for a word in the key, by the kind
+module _ (class : ℕ → ℕ) (kind x : ℕ) where
+  pub first-class : kind ≡ 1 → classOfBits x ≡ firstKey class kind x
+  unfolding firstKey
+  first-class e = rw e refl
 
-        abbrev before : ℕ
-        before = latest (bucketAt m) bucket q
+  pub second-class : kind ≡ 1 → classOfBits x ≡ secondKey class kind x
+  unfolding secondKey
+  second-class e = rw e refl
 
-        next-is : min (nextAt m q) q ≡ before
-        next-is =
-            let b : bucketAt m q ≡ bucket = ap (bucketAt m) d ∙ p .bucketed (omega arith) in
-            let x : nextAt m q ≡ before = h .each q here .next ∙ ap (λ z. latest (bucketAt m) z q) b in
-            let w = latest-within (bucketAt m) bucket q in
-            omega arith
+  pub first-plain : (kind ≡ 1 → ⊥) → kind < 5 → x ≡ firstKey class kind x
+  unfolding firstKey
+  first-plain e l = rw (ne-eqb kind 1 e, lt-ltb kind 5 l) refl
 
-        -- from there on the fields and the key were sought: before, here and after
-        passed : {P : ℕ → Type 0} → ((j : ℕ) → P j → keyAt m j ≡ key) → (P q → ⊥) → ((j : ℕ) → at ≤ j → j < n → P j → ⊥)
-            → (j : ℕ) → before ≤ j → j < n → P j → ⊥
-        passed {P} g x y j a l r = go (decLt j q) (ℕ-discrete j q)
-          where
-            go : Dec (j < q) → Dec (j ≡ q) → ⊥
-            go (yes t) d = other-key bucket e j l (latest-miss (bucketAt m) bucket q j a t) (g j r)
-            go (no s) (yes t) = x (subst P t r)
-            go (no s) (no t) = y j (omega arith) l r
+  pub second-plain : (kind ≡ 1 → ⊥) → kind < 7 → x ≡ secondKey class kind x
+  unfolding secondKey
+  second-plain e l = rw (ne-eqb kind 1 e, lt-ltb kind 7 l) refl
 
-        onward : (class′ : ℕ) → (fieldsAt m q ≡ f → ⊥) → Kinship m n key before class′ → Passed m n f key bucket (min (nextAt m q) q) class′
-        onward class′ x r =
-            rw next-is
-            (record {
-              within = omega (arith, latest-within (bucketAt m) bucket q, here);
-              bucketed = latest-hit (bucketAt m) bucket q;
-              none = passed key-of-fields x (p .none);
-              kinship = r;
-            })
+  pub first-operand : (kind ≡ 1 → ⊥) → 5 ≤ kind → class x ≡ firstKey class kind x
+  unfolding firstKey
+  first-operand e l = rw (ne-eqb kind 1 e, le-ltb kind 5 l) refl
 
-        -- it goes on past a node with the key, whose class it keeps, and past one without
-        pub past-kin : {class′ at′ : ℕ} {r : Meeting} → r ≡ Meeting.Kin → Meets m q f key r → class′ ≡ classAt m q → at′ ≡ min (nextAt m q) q
-            → Passed m n f key bucket at′ class′
-        past-kin e y c a = let x = subst (Meets m q f key) e y in rw (c, a) (onward (classAt m q) (x .1) (kin q here (x .0) refl))
-
-        pub past-stranger : {class′ at′ : ℕ} {r : Meeting} → r ≡ Meeting.Stranger → Meets m q f key r → class′ ≡ class → at′ ≡ min (nextAt m q) q → Passed m n f key bucket at′ class′
-        past-stranger e y c a = let x = subst (Meets m q f key) e y in rw (c, a) (onward class (λ z. x (key-of-fields q z)) (go x (p .kinship)))
-          where
-            go : (keyAt m q ≡ key → ⊥) → Kinship m n key at class → Kinship m n key before class
-            go x (kin j l e c) = kin j l e c
-            go x (stranger c z) = stranger c (passed (λ j r. r) x z)
-
--- ---- how a node meets what is sought, from what the code has
-
-code-kept : (class : ℕ → ℕ) (k : ℕ) (f : Fields) → keyAs class k f .code ≡ f .code
-unfolding keyAs
-code-kept class zero f = refl
-code-kept class (suc zero) f = refl
-code-kept class (suc (suc zero)) f = refl
-code-kept class (suc (suc (suc zero))) f = refl
-code-kept class (suc (suc (suc (suc zero)))) f = refl
-code-kept class (suc (suc (suc (suc (suc zero))))) f = refl
-code-kept class (suc (suc (suc (suc (suc (suc zero)))))) f = refl
-code-kept class (suc (suc (suc (suc (suc (suc (suc k))))))) f = refl
-
-key-code : (class : ℕ → ℕ) (f : Fields) → keyOf class f .code ≡ f .code
-unfolding keyOf
-key-code class f = code-kept class (f .code % 8) f
+  pub second-operand : (kind ≡ 1 → ⊥) → 7 ≤ kind → class x ≡ secondKey class kind x
+  unfolding secondKey
+  second-operand e l = rw (ne-eqb kind 1 e, le-ltb kind 7 l) refl
 
 module _ (m : Memory) (q : ℕ) (f key : Fields) (k : key ≡ keyOf (classAt m) f) where
   -- another code is another key
   pub meets-code : (c w : ℕ) → c ≡ codeIn w → w ≡ getD (m .tag) q 0 → (c ≡ f .code → ⊥) → Meets m q f key Meeting.Stranger
-  unfolding keyAt fieldsOn
-  meets-code c w e d x p = x (e ∙ ap codeIn d ∙ sym (key-code (classAt m) (fieldsAt m q)) ∙ ap (λ g. g .code) (p ∙ k) ∙ key-code (classAt m) f)
+  unfolding keyAt keyOf fieldsOn
+  meets-code c w e d x p = x (e ∙ ap codeIn d ∙ ap (λ g. g .code) (p ∙ k))
 
-  module _ {here : Fields} (x : here ≡ fieldsAt m q) where
-    pub meets-own : {b : Bool} → b ≡ true → Tells b (here ≡ f) → Meets m q f key Meeting.Own
-    meets-own e t = sym x ∙ told e t
+  -- with the same code, the words
+  module _ (c w : ℕ) (ec : c ≡ codeIn w) (ew : w ≡ getD (m .tag) q 0) (same : c ≡ f .code) {a a′ : ℕ} (ea : a ≡ getD (m .first) q 0)
+      (ea′ : a′ ≡ firstKey (classAt m) (f .code % 8) a) where
+    code-is : codeIn (getD (m .tag) q 0) ≡ f .code
+    code-is = ap codeIn (sym ew) ∙ sym ec ∙ same
 
-    module _ {b : Bool} (e : b ≡ false) (t : Tells b (here ≡ f)) {here-key : Fields} (y : here-key ≡ keyOf (classAt m) here) where
-      key-here : keyAt m q ≡ here-key
-      unfolding keyAt
-      key-here = ap (keyOf (classAt m)) (sym x) ∙ sym y
+    first-is : a′ ≡ keyAt m q .first
+    unfolding keyAt keyOf fieldsOn
+    first-is = ea′ ∙ rw (code-is, ea) refl
 
-      pub meets-kin : {b′ : Bool} → b′ ≡ true → Tells b′ (here-key ≡ key) → Meets m q f key Meeting.Kin
-      meets-kin e′ u = (key-here ∙ told e′ u, λ r. denied e t (x ∙ r))
+    pub meets-first : (a′ ≡ key .first → ⊥) → Meets m q f key Meeting.Stranger
+    meets-first x p = x (first-is ∙ ap (λ g. g .first) p)
 
-      pub meets-neither : {b′ : Bool} → b′ ≡ false → Tells b′ (here-key ≡ key) → Meets m q f key Meeting.Stranger
-      meets-neither e′ u r = denied e′ u (sym key-here ∙ r)
+    module _ {b b′ : ℕ} (eb : b ≡ getD (m .second) q 0) (eb′ : b′ ≡ secondKey (classAt m) (f .code % 8) b) where
+      second-is : b′ ≡ keyAt m q .second
+      unfolding keyAt keyOf fieldsOn
+      second-is = eb′ ∙ rw (code-is, eb) refl
 
--- ---- the product of a hash and a small number fits
+      pub meets-second : (b′ ≡ key .second → ⊥) → Meets m q f key Meeting.Stranger
+      meets-second x p = x (second-is ∙ ap (λ g. g .second) p)
 
-pub scaled-fits : {a b : ℕ} → a < 4294967296 → b < 65536 → a * b < 18446744073709551616
-scaled-fits {a} {b} l o = let w = mul-le-mul {n₁ = a} {m₁ = b} {n₂ = 4294967296} {m₂ = 65536} (omega (arith, l)) (omega (arith, o)) in omega arith
+      module _ (x : a′ ≡ key .first) (y : b′ ≡ key .second) where
+        key-is : keyAt m q ≡ key
+        unfolding keyAt keyOf fieldsOn
+        key-is = all-same (keyAt m q) key (code-is ∙ sym (ap (λ g. g .code) k)) (sym first-is ∙ x) (sym second-is ∙ y)
+
+        pub kin-first : (a ≡ f .first → ⊥) → Meets m q f key Meeting.Kin
+        unfolding fieldsOn
+        kin-first z = (key-is, λ r. z (ea ∙ ap (λ g. g .first) r))
+
+        pub kin-second : (b ≡ f .second → ⊥) → Meets m q f key Meeting.Kin
+        unfolding fieldsOn
+        kin-second z = (key-is, λ r. z (eb ∙ ap (λ g. g .second) r))
+
+      pub meets-own : a ≡ f .first → b ≡ f .second → Meets m q f key Meeting.Own
+      unfolding fieldsOn
+      meets-own x y = all-same (fieldsAt m q) f code-is (sym ea ∙ x) (sym eb ∙ y)

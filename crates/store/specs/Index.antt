@@ -8,28 +8,19 @@ use Rattle.complex.specs.Classes.{classOfBits}
 use Rattle.store.specs.declared.node.Fields.{Fields}
 use Rattle.store.specs.Words.{withNode, withHead, withKept}
 use Rattle.store.specs.Nodes.{fields}
+use Rattle.store.specs.Hash.{hash}
 use Rattle.store.specs.Memory.{Memory, columns, withLink, room, fieldsAt, homeAt, headAt, classAt}
 
+-- what stands for a word of a node in its key, by the node's kind: the class of a double or of an operand, or the word
+unfoldable pub firstKey : (class : ℕ → ℕ) (kind : ℕ) → ℕ → ℕ
+firstKey class kind x = cond (eqb kind 1) (classOfBits x) (cond (ltb kind 5) x (class x))
+
+unfoldable pub secondKey : (class : ℕ → ℕ) (kind : ℕ) → ℕ → ℕ
+secondKey class kind x = cond (eqb kind 1) (classOfBits x) (cond (ltb kind 7) x (class x))
+
 -- the fields of a node with classes in place of operands and of doubles: those of equal trees, and no others, are the same
-unfoldable pub keyAs : (class : ℕ → ℕ) (kind : ℕ) → Fields → Fields
-keyAs class zero f = f
-keyAs class (suc zero) f = fields (f .code) (classOfBits (f .first)) (classOfBits (f .second))
-keyAs class (suc (suc zero)) f = f
-keyAs class (suc (suc (suc zero))) f = f
-keyAs class (suc (suc (suc (suc zero)))) f = f
-keyAs class (suc (suc (suc (suc (suc zero))))) f = fields (f .code) (class (f .first)) (f .second)
-keyAs class (suc (suc (suc (suc (suc (suc zero)))))) f = fields (f .code) (class (f .first)) (f .second)
-keyAs class (suc (suc (suc (suc (suc (suc (suc k))))))) f = fields (f .code) (class (f .first)) (class (f .second))
-
 unfoldable pub keyOf : (class : ℕ → ℕ) → Fields → Fields
-keyOf class f = keyAs class (f .code % 8) f
-
--- a key as one number of 32 bits; the multipliers only spread the keys
-unfoldable pub hash : Fields → ℕ
-hash f =
-    (f .code % 64 * 640531527
-    + (f .first % 4294967296 * 1013904223 + f .first / 4294967296 * 747796405) % 4294967296
-    + (f .second % 4294967296 * 829304459 + f .second / 4294967296 * 1061234557) % 4294967296) % 4294967296
+keyOf class f = fields (f .code) (firstKey class (f .code % 8) (f .first)) (secondKey class (f .code % 8) (f .second))
 
 -- one of twice as many buckets as there are places for nodes, which are fewer than 65536
 unfoldable pub bucketOf : (places : ℕ) → Fields → ℕ

@@ -4,6 +4,7 @@ pub mod Nodes
 pub mod Storing
 pub mod Memory
 pub mod Desk
+pub mod Hash
 pub mod Index
 pub mod Held
 pub mod Walk

@@ -1,7 +1,6 @@
 -- What a walk through a chain of the index finds. Only connecting, and only inside the store.
 use Prim.Native.Nat.{ℕ, _≤_, _<_}
 use mathlib.Core.Path.{_≡_}
-use mathlib.Core.Bool.{Bool, true, false}
 use Rattle.store.specs.declared.index.Meeting.{Meeting}
 use Rattle.store.specs.declared.node.Fields.{Fields}
 use Rattle.store.specs.Memory.{Memory, room, fieldsAt, classAt}
@@ -19,6 +18,12 @@ Meets m k f key Meeting.Own = fieldsAt m k ≡ f
 Meets m k f key Meeting.Kin = (keyAt m k ≡ key) × (fieldsAt m k ≡ f → ⊥)
 Meets m k f key Meeting.Stranger = keyAt m k ≡ key → ⊥
 
+-- all nodes from `at` on have been looked at: none has the fields f, and `class` is the class of those with this key, if there are any
+pub record Passed (m : Memory) (n : ℕ) (f key : Fields) (at class : ℕ) : Type 0 where
+  pub within : at ≤ n
+  pub none : (j : ℕ) → at ≤ j → j < n → fieldsAt m j ≡ f → ⊥
+  pub kinship : Kinship m n key at class
+
 -- the walk found the node with the fields f; or n, and then the class of those with this key
 pub record Walked (m : Memory) (n : ℕ) (f key : Fields) (node class : ℕ) : Type 0 where
   pub inside : node ≤ n
@@ -30,7 +35,6 @@ pub record Walked (m : Memory) (n : ℕ) (f key : Fields) (node class : ℕ) : T
 abbrev pub Finds : (m : Memory) (n : ℕ) (f key : Fields) (bucket node class : ℕ) → Type 0
 Finds m n f key bucket node class = Holds m n → key ≡ keyOf (classAt m) f → bucket ≡ bucketOf (room m) key → Walked m n f key node class
 
--- a Boolean answer to a question
-abbrev pub Tells : Bool → Type 0 → Type 0
-Tells true A = A
-Tells false A = A → ⊥
+-- the same from where all later nodes have been looked at
+abbrev pub Scans : (m : Memory) (n : ℕ) (f key : Fields) (from class₀ node class : ℕ) → Type 0
+Scans m n f key from class₀ node class = key ≡ keyOf (classAt m) f → Passed m n f key from class₀ → Walked m n f key node class

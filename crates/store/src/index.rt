@@ -2,24 +2,28 @@
 // the node of a tree and the class of its equals.
 ghost use mathlib.Core.Path.{_≡_};
 ghost use Rattle.store.specs.Memory.{memory, room, classAt};
-ghost use Rattle.store.specs.Index.{keyOf, bucketOf, headFor, entered};
-ghost use Rattle.store.specs.Walk.{Meets, Finds};
+ghost use Rattle.store.specs.Index.{firstKey, secondKey, keyOf, bucketOf, headFor, entered};
+ghost use Rattle.store.specs.Walk.{Meets, Scans, Finds};
 use super::fields::code_in;
 use super::fields::head_in;
 use super::fields::home_in;
 use super::fields::next_in;
 use super::fields::with_head;
 use super::fields::with_node;
+use super::hash::hash_of;
 use super::node::Fields;
-use super::node::same;
 use super::reading::class_at;
-use super::reading::fields_at;
 use super::room::least;
+use super::words::first_at;
 use super::words::link_at;
 use super::words::put_link;
 use super::words::put_row;
+use super::words::second_at;
 use super::words::tag_at;
 use complex::bits::class_of_bits;
+
+// So many nodes of a chain are walked; in a full store chains of more than 6 are rare.
+const LONGEST: usize = 16;
 
 // How a node meets what is sought: it is it, it has the same key, or neither.
 pub enum Meeting {
@@ -35,65 +39,74 @@ pub struct Found {
     pub class: usize,
 }
 
+// What stands for a node's first word in its key, by the node's kind: the class of a double or of an operand, or the word.
+fn first_key(store: &[[u64; 4]], kind: u64, first: u64) -> u64
+    ensures { λ r. ⌜ r ≡ firstKey (classAt (memory (now (store .entry)))) kind first ⌝ }
+{
+    if kind == 1 {
+        return class_of_bits(first);
+    }
+    if kind < 5 {
+        return first;
+    }
+    class_at(store, first as usize)
+}
+
+// The same of its second word: only infix nodes have an operand there.
+fn second_key(store: &[[u64; 4]], kind: u64, second: u64) -> u64
+    ensures { λ r. ⌜ r ≡ secondKey (classAt (memory (now (store .entry)))) kind second ⌝ }
+{
+    if kind == 1 {
+        return class_of_bits(second);
+    }
+    if kind < 7 {
+        return second;
+    }
+    class_at(store, second as usize)
+}
+
 // The fields with classes in place of operands and of doubles.
 pub fn key_of(store: &[[u64; 4]], f: Fields) -> Fields
     ensures { λ r. ⌜ r ≡ keyOf (classAt (memory (now (store .entry)))) f ⌝ }
 {
-    let code = f.code;
-    let first = f.first;
-    let second = f.second;
-    match code % 8 {
-        1 => Fields {
-            code,
-            first: class_of_bits(first),
-            second: class_of_bits(second),
-        },
-        5 => Fields {
-            code,
-            first: class_at(store, first as usize),
-            second,
-        },
-        6 => Fields {
-            code,
-            first: class_at(store, first as usize),
-            second,
-        },
-        7 => Fields {
-            code,
-            first: class_at(store, first as usize),
-            second: class_at(store, second as usize),
-        },
-        _ => f,
+    let kind = f.code % 8;
+    Fields {
+        code: f.code,
+        first: first_key(store, kind, f.first),
+        second: second_key(store, kind, f.second),
     }
 }
 
-// The bucket of a key, of twice as many as there are places for nodes: a hash of 32 bits, scaled down without a
-// division.
+// The bucket of a key, of twice as many as there are places for nodes: its hash, scaled down without a division.
 pub fn bucket_of(places: usize, key: Fields) -> usize
     ensures { λ r. ⌜ r ≡ bucketOf places key ⌝ }
 {
-    let code = key.code % 64 * 640531527;
-    let first = key.first % 4294967296 * 1013904223 + key.first / 4294967296 * 747796405;
-    let second = key.second % 4294967296 * 829304459 + key.second / 4294967296 * 1061234557;
-    let hash = (code + first % 4294967296 + second % 4294967296) % 4294967296;
-    (hash * (places as u64 % 65536) / 2147483648) as usize
+    (hash_of(key) * (places as u64 % 65536) / 2147483648) as usize
 }
 
-// How a node meets fields that are sought with their key. The code comes first: it tells most strangers.
+// How a node meets fields that are sought with their key: word by word, so that the first word that differs tells a stranger.
 fn meet(store: &[[u64; 4]], k: usize, f: Fields, key: Fields) -> Meeting
     ensures { λ r. ⌜ (key ≡ keyOf (classAt (memory (now (store .entry)))) f → Meets (memory (now (store .entry))) k f key r) ⌝ }
 {
     if code_in(tag_at(store, k)) != f.code {
         return Meeting::Stranger;
     }
-    let here = fields_at(store, k);
-    if same(here, f) {
-        return Meeting::Own;
+    let kind = f.code % 8;
+    let first = first_at(store, k);
+    if first_key(store, kind, first) != key.first {
+        return Meeting::Stranger;
     }
-    if same(key_of(store, here), key) {
+    let second = second_at(store, k);
+    if second_key(store, kind, second) != key.second {
+        return Meeting::Stranger;
+    }
+    if first != f.first {
         return Meeting::Kin;
     }
-    Meeting::Stranger
+    if second != f.second {
+        return Meeting::Kin;
+    }
+    Meeting::Own
 }
 
 // The head of a bucket, of n nodes. Where no node was entered the word may hold anything: a number counts if it is a node's whose
@@ -115,12 +128,13 @@ fn head_of(store: &[[u64; 4]], n: usize, bucket: usize) -> usize
     }
 }
 
-// A walk from the head of a chain. Each next is an older node; `least` makes that so in any memory.
-pub fn find(store: &[[u64; 4]], n: usize, f: Fields, key: Fields, bucket: usize) -> Found
-    ensures { λ r. ⌜ Finds (memory (now (store .entry))) n f key bucket (r .node) (r .class) ⌝ }
+// What is left of a long chain: all nodes below `at`, row by row. No row has to wait for the one before, as in a chain, so that
+// numbers that were searched until they fell in one bucket cost little more than others.
+fn scan(store: &[[u64; 4]], n: usize, f: Fields, key: Fields, from: usize, kin: usize) -> Found
+    ensures { λ r. ⌜ Scans (memory (now (store .entry))) n f key from kin (r .node) (r .class) ⌝ }
 {
-    let mut at = head_of(store, n, bucket);
-    let mut class = n;
+    let mut at = from;
+    let mut class = kin;
     while at != 0 {
         let k = at - 1;
         match meet(store, k, f, key) {
@@ -128,7 +142,30 @@ pub fn find(store: &[[u64; 4]], n: usize, f: Fields, key: Fields, bucket: usize)
             Meeting::Kin => class = class_at(store, k) as usize,
             Meeting::Stranger => (),
         }
+        at = k;
+    }
+    Found { node: n, class }
+}
+
+// A walk from the head of a chain. Each next is an older node; `least` makes that so in any memory.
+pub fn find(store: &[[u64; 4]], n: usize, f: Fields, key: Fields, bucket: usize) -> Found
+    ensures { λ r. ⌜ Finds (memory (now (store .entry))) n f key bucket (r .node) (r .class) ⌝ }
+{
+    let mut at = head_of(store, n, bucket);
+    let mut class = n;
+    let mut left = LONGEST;
+    while at != 0 {
+        if left == 0 {
+            return scan(store, n, f, key, at, class);
+        }
+        let k = at - 1;
+        match meet(store, k, f, key) {
+            Meeting::Own => return Found { node: k, class },
+            Meeting::Kin => class = class_at(store, k) as usize,
+            Meeting::Stranger => (),
+        }
         at = least(next_in(link_at(store, k)) as usize, k);
+        left = left - 1;
     }
     Found { node: n, class }
 }

@@ -28,6 +28,7 @@ use words::put_link;
 
 pub mod desk;
 mod fields;
+mod hash;
 mod index;
 pub mod node;
 pub mod reading;

@@ -2,7 +2,6 @@
 ghost use mathlib.Core.Path.{_≡_};
 ghost use Rattle.store.specs.Nodes.{fields, fieldsOf, expressionOf};
 ghost use Rattle.expression.specs.Nodes.{Sound};
-ghost use Rattle.store.specs.Walk.{Tells};
 use super::fields::code_of;
 use complex::Complex;
 use complex::bits::from_bits;
@@ -71,16 +70,4 @@ pub fn expression_of(f: Fields) -> Expression
             second as usize,
         ),
     }
-}
-
-pub fn same(f: Fields, g: Fields) -> bool
-    ensures { λ r. ⌜ Tells r (f ≡ g) ⌝ }
-{
-    if f.code != g.code {
-        return false;
-    }
-    if f.first != g.first {
-        return false;
-    }
-    f.second == g.second
 }
