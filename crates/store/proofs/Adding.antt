@@ -17,7 +17,7 @@ use Rattle.store.specs.Nodes.{fieldsOf}
 use Rattle.expression.specs.Nodes.{measureFrom, Within, Sound}
 use Rattle.store.specs.Storing.{intern}
 use Rattle.store.specs.Memory.{Memory, room, sizeAt, depthAt, classAt, treeAt, treeOf, stateOf}
-use Rattle.store.specs.Index.{keyOf, bucketOf, entered}
+use Rattle.store.specs.Index.{keyOf, bucketOf, headFor, entered}
 use Rattle.store.specs.Desk.{count, callsOn, withCount, refusalOn, refusedFrom}
 use Rattle.store.specs.Held as Held
 use Rattle.store.specs.Held.{Holds, Lent, stateIn, Built, judged}
@@ -28,13 +28,14 @@ use Rattle.store.proofs.Growing.{Limits, allowed-limits, found-answer, 
 use Rattle.store.proofs.Building.{seen-node, small, stays, refuses}
 
 -- what `add` knows once it has sought the node
-pub record Sought (m : Memory) (n : ℕ) (e : Expression) (f key : Fields) (most bucket node class : ℕ) : Type 0 where
+pub record Sought (m : Memory) (n : ℕ) (e : Expression) (f key : Fields) (most bucket head node class : ℕ) : Type 0 where
   pub sound : Sound e
   pub f-is : f ≡ fieldsOf e
   pub most-is : most ≡ room m
   pub key-is : key ≡ keyOf (classAt m) f
   pub bucket-is : bucket ≡ bucketOf most key
-  pub walk : Finds m n f key bucket node class
+  pub head-is : head ≡ headFor m n bucket
+  pub walk : Finds m n f key head node class
 
 -- the number of a refusal is small
 pub judged-small : (big deep roomy : Bool) {v : ℕ} → v ≡ judged big deep roomy → v < 9
@@ -50,8 +51,8 @@ node-small m n z y {most} e x k =
     let l = ltb-true n most (allowed-limits (ltb largest z) (ltb deepest y) (ltb n most) (sym x ∙ k) .has-room) in
     omega (arith, e, l, room-each m (room m) (omega arith) .most)
 
-module _ {m : Memory} {desk : List ℕ} {n : ℕ} (en : n ≡ count desk) {e : Expression} {f key : Fields} {most bucket node class : ℕ}
-    (k : Sought m n e f key most bucket node class) (hl : Held.Sound (record { rows = m; desk = desk })) (wl : Within (count desk) e) where
+module _ {m : Memory} {desk : List ℕ} {n : ℕ} (en : n ≡ count desk) {e : Expression} {f key : Fields} {most bucket head node class : ℕ}
+    (k : Sought m n e f key most bucket head node class) (hl : Held.Sound (record { rows = m; desk = desk })) (wl : Within (count desk) e) where
   abbrev l : Lent
   l = record { rows = m; desk = desk }
 
@@ -72,7 +73,7 @@ module _ {m : Memory} {desk : List ℕ} {n : ℕ} (en : n ≡ count desk) {e : E
   bucket-among = k .bucket-is ∙ ap (λ r. bucketOf r key) (k .most-is)
 
   walked : Walked m n (fieldsOf e) (keyOf (classAt m) (fieldsOf e)) node class
-  walked = subst (λ g. Walked m n g (keyOf (classAt m) (fieldsOf e)) node class) (k .f-is) (subst (λ x. Walked m n f x node class) key-of-e (k .walk h (k .key-is) bucket-among))
+  walked = subst (λ g. Walked m n g (keyOf (classAt m) (fieldsOf e)) node class) (k .f-is) (subst (λ x. Walked m n f x node class) key-of-e (k .walk h (k .key-is) (k .head-is ∙ ap (headFor m n) bucket-among)))
 
   pub adds-found : node < n → Built (intern (treeOf m e) (stateIn l)) node l l
   adds-found o = stays hl (rw en at o) (rw state-is (found-answer h e (k .sound) w walked (callsOn desk) o))
@@ -99,7 +100,7 @@ module _ {m : Memory} {desk : List ℕ} {n : ℕ} (en : n ≡ count desk) {e : E
 
     module _ (x : v ≡ 0) where
       abbrev m′ : Memory
-      m′ = entered m n (tagOf (fieldsOf e .code) z y bucket) (fieldsOf e .first) (fieldsOf e .second) class bucket
+      m′ = entered m n (tagOf (fieldsOf e .code) z y bucket) (fieldsOf e .first) (fieldsOf e .second) class (headFor m n bucket) bucket
 
       abbrev l′ : Lent
       l′ = record { rows = m′; desk = withCount desk (n + 1) }
@@ -148,6 +149,6 @@ module _ {m : Memory} {desk : List ℕ} {n : ℕ} (en : n ≡ count desk) {e : E
             };
           }
 
-      pub adds-new : {t : ℕ} {m₁ : Memory} {desk₁ : List ℕ} → t ≡ tagOf (f .code) z y bucket → m₁ ≡ entered m n t (f .first) (f .second) class bucket
+      pub adds-new : {t : ℕ} {m₁ : Memory} {desk₁ : List ℕ} → t ≡ tagOf (f .code) z y bucket → m₁ ≡ entered m n t (f .first) (f .second) class head bucket
           → desk₁ ≡ withCount desk (n + 1) → Built (intern (treeOf m e) (stateIn l)) n l (record { rows = m₁; desk = desk₁ })
-      adds-new et em ed = rw (ed, em, et, k .f-is) built-new
+      adds-new et em ed = rw (ed, em, et, k .f-is, k .head-is) built-new

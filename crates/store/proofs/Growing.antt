@@ -147,7 +147,7 @@ module _ {m : Memory} {n : ℕ} (h : Holds m n) (e : Expression) (s : Sound e) (
         lb : bucket / 2 < length (m .link)
         lb = omega (arith, bucket-inside, room-each m (room m) (omega arith) .links)
 
-        sn : n < 8191
+        sn : n < 4096
         sn = omega (arith, there .most)
 
         sc : class < 4096

@@ -72,7 +72,7 @@ module _ (tag first second link : List ℕ) (n : ℕ) (h : Holds (columns tag fi
   inside : c < length link
   inside = omega (arith, lc, room-each m n (h .fits) .links)
 
-  small : r < 8191
+  small : r < 4096
   small = omega (arith, lr, room-each m n (h .fits) .most)
 
   tree-same : (k : ℕ) → treeAt m′ k ≡ treeAt m k

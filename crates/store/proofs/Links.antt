@@ -34,7 +34,7 @@ same-heads link c v l e d b = go (ℕ-discrete (b / 2) c)
     go (yes p) = rw (p, getD-set-same link c v 0 l) (half-same (eqb (b % 2) 0) v (getD link c 0) e d)
     go (no q) = ap (headIn b) (getD-set-other link c (b / 2) v 0 q)
 
-module _ (link : List ℕ) (n class head bucket : ℕ) (ln : n < length link) (lb : bucket / 2 < length link) (sn : n < 8191) (sc : class < 4096) (sh : head < 8192) where
+module _ (link : List ℕ) (n class head bucket : ℕ) (ln : n < length link) (lb : bucket / 2 < length link) (sn : n < 4096) (sc : class < 4096) (sh : head < 8192) where
   abbrev own : List ℕ
   own = withOwn link n class head
 
@@ -119,7 +119,7 @@ module _ (link : List ℕ) (n class head bucket : ℕ) (ln : n < length link) (l
 
 -- ---- a kept result
 
-module _ (link : List ℕ) (c r : ℕ) (l : c < length link) (s : r < 8191) where
+module _ (link : List ℕ) (c r : ℕ) (l : c < length link) (s : r < 4096) where
   abbrev keeping : List ℕ
   keeping = set link c (withKept (getD link c 0) r)
 

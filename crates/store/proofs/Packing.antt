@@ -46,9 +46,9 @@ above v w p k e = sym (div-div-eq-div-mul v p k) ∙ ap (λ x. x / k) e ∙ div-
 pub with-node : (w c x : ℕ) → c < 4096 → x < 8192 → Linked (withNode w c x) (w % 8192) (w / 8192 % 8192) c 0 x
 with-node w c x l m = record { even = omega arith; odd = omega arith; class = omega arith; kept = omega arith; next = omega arith }
 
-pub with-even : (w h : ℕ) → h < 8191 → Linked (h % 8191 + 1 + 8192 * (w / 8192)) (h + 1) (w / 8192 % 8192) (classIn w) (keptIn w) (nextIn w)
+pub with-even : (w h : ℕ) → h < 4096 → Linked (h % 4096 + 1 + 8192 * (w / 8192)) (h + 1) (w / 8192 % 8192) (classIn w) (keptIn w) (nextIn w)
 with-even w h l =
-    let v = h % 8191 + 1 + 8192 * (w / 8192) in
+    let v = h % 4096 + 1 + 8192 * (w / 8192) in
     let e : v / 8192 ≡ w / 8192 = omega arith in
     record {
       even = omega arith;
@@ -58,10 +58,10 @@ with-even w h l =
       next = above v w 8192 274877906944 e;
     }
 
-pub with-odd : (w h : ℕ) → h < 8191
-    → Linked (w % 8192 + 8192 * (h % 8191 + 1) + 67108864 * (w / 67108864)) (w % 8192) (h + 1) (classIn w) (keptIn w) (nextIn w)
+pub with-odd : (w h : ℕ) → h < 4096
+    → Linked (w % 8192 + 8192 * (h % 4096 + 1) + 67108864 * (w / 67108864)) (w % 8192) (h + 1) (classIn w) (keptIn w) (nextIn w)
 with-odd w h l =
-    let v = w % 8192 + 8192 * (h % 8191 + 1) + 67108864 * (w / 67108864) in
+    let v = w % 8192 + 8192 * (h % 4096 + 1) + 67108864 * (w / 67108864) in
     let e : v / 67108864 ≡ w / 67108864 = omega arith in
     record {
       even = omega arith;
@@ -71,7 +71,7 @@ with-odd w h l =
       next = above v w 67108864 33554432 e;
     }
 
-pub with-kept : (w k : ℕ) → k < 8191 → Linked (withKept w k) (w % 8192) (w / 8192 % 8192) (classIn w) (k + 1) (nextIn w)
+pub with-kept : (w k : ℕ) → k < 4096 → Linked (withKept w k) (w % 8192) (w / 8192 % 8192) (classIn w) (k + 1) (nextIn w)
 with-kept w k l = record { even = omega arith; odd = omega arith; class = omega arith; kept = omega arith; next = omega arith }
 
 -- ---- the head of one of two buckets
@@ -83,13 +83,13 @@ abbrev half : Bool → ℕ → ℕ
 half b w = cond b (w % 8192) (w / 8192 % 8192)
 
 abbrev pub withHalf : Bool → ℕ → ℕ → ℕ
-withHalf b w h = cond b (h % 8191 + 1 + 8192 * (w / 8192)) (w % 8192 + 8192 * (h % 8191 + 1) + 67108864 * (w / 67108864))
+withHalf b w h = cond b (h % 4096 + 1 + 8192 * (w / 8192)) (w % 8192 + 8192 * (h % 4096 + 1) + 67108864 * (w / 67108864))
 
-pub half-new : (b : Bool) (w h : ℕ) → h < 8191 → half b (withHalf b w h) ≡ h + 1
+pub half-new : (b : Bool) (w h : ℕ) → h < 4096 → half b (withHalf b w h) ≡ h + 1
 half-new true w h l = with-even w h l .even
 half-new false w h l = with-odd w h l .odd
 
-pub half-other : (b c : Bool) (w h : ℕ) → h < 8191 → (c ≡ b → ⊥) → half c (withHalf b w h) ≡ half c w
+pub half-other : (b c : Bool) (w h : ℕ) → h < 4096 → (c ≡ b → ⊥) → half c (withHalf b w h) ≡ half c w
 half-other true true w h l q = absurd (q refl)
 half-other true false w h l q = with-even w h l .odd
 half-other false true w h l q = with-odd w h l .even
@@ -101,7 +101,7 @@ pub record Others (v w : ℕ) : Type 0 where
   pub kept : keptIn v ≡ keptIn w
   pub next : nextIn v ≡ nextIn w
 
-pub half-rest : (b : Bool) (w h : ℕ) → h < 8191 → Others (withHalf b w h) w
+pub half-rest : (b : Bool) (w h : ℕ) → h < 4096 → Others (withHalf b w h) w
 half-rest true w h l = let k = with-even w h l in record { class = k .class; kept = k .kept; next = k .next }
 half-rest false w h l = let k = with-odd w h l in record { class = k .class; kept = k .kept; next = k .next }
 

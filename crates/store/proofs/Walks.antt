@@ -214,6 +214,15 @@ module _ (class : ℕ → ℕ) (kind x : ℕ) where
   unfolding secondKey
   second-operand e l = rw (ne-eqb kind 1 e, le-ltb kind 7 l) refl
 
+-- another word is another node
+pub other-first : (m : Memory) (q : ℕ) (f : Fields) {a : ℕ} → a ≡ getD (m .first) q 0 → (a ≡ f .first → ⊥) → fieldsAt m q ≡ f → ⊥
+unfolding fieldsOn
+other-first m q f e x r = x (e ∙ ap (λ g. g .first) r)
+
+pub other-second : (m : Memory) (q : ℕ) (f : Fields) {b : ℕ} → b ≡ getD (m .second) q 0 → (b ≡ f .second → ⊥) → fieldsAt m q ≡ f → ⊥
+unfolding fieldsOn
+other-second m q f e x r = x (e ∙ ap (λ g. g .second) r)
+
 module _ (m : Memory) (q : ℕ) (f key : Fields) (k : key ≡ keyOf (classAt m) f) where
   -- another code is another key
   pub meets-code : (c w : ℕ) → c ≡ codeIn w → w ≡ getD (m .tag) q 0 → (c ≡ f .code → ⊥) → Meets m q f key Meeting.Stranger
@@ -221,39 +230,30 @@ module _ (m : Memory) (q : ℕ) (f key : Fields) (k : key ≡ keyOf (classAt m) 
   meets-code c w e d x p = x (e ∙ ap codeIn d ∙ ap (λ g. g .code) (p ∙ k))
 
   -- with the same code, the words
-  module _ (c w : ℕ) (ec : c ≡ codeIn w) (ew : w ≡ getD (m .tag) q 0) (same : c ≡ f .code) {a a′ : ℕ} (ea : a ≡ getD (m .first) q 0)
-      (ea′ : a′ ≡ firstKey (classAt m) (f .code % 8) a) where
+  module _ (c w : ℕ) (ec : c ≡ codeIn w) (ew : w ≡ getD (m .tag) q 0) (same : c ≡ f .code) {a b : ℕ} (ea : a ≡ getD (m .first) q 0) (eb : b ≡ getD (m .second) q 0) where
     code-is : codeIn (getD (m .tag) q 0) ≡ f .code
     code-is = ap codeIn (sym ew) ∙ sym ec ∙ same
 
-    first-is : a′ ≡ keyAt m q .first
-    unfolding keyAt keyOf fieldsOn
-    first-is = ea′ ∙ rw (code-is, ea) refl
+    pub meets-own : a ≡ f .first → b ≡ f .second → Meets m q f key Meeting.Own
+    unfolding fieldsOn
+    meets-own x y = all-same (fieldsAt m q) f code-is (sym ea ∙ x) (sym eb ∙ y)
 
-    pub meets-first : (a′ ≡ key .first → ⊥) → Meets m q f key Meeting.Stranger
-    meets-first x p = x (first-is ∙ ap (λ g. g .first) p)
-
-    module _ {b b′ : ℕ} (eb : b ≡ getD (m .second) q 0) (eb′ : b′ ≡ secondKey (classAt m) (f .code % 8) b) where
-      second-is : b′ ≡ keyAt m q .second
+    module _ {a′ : ℕ} (ea′ : a′ ≡ firstKey (classAt m) (f .code % 8) a) where
+      first-is : a′ ≡ keyAt m q .first
       unfolding keyAt keyOf fieldsOn
-      second-is = eb′ ∙ rw (code-is, eb) refl
+      first-is = ea′ ∙ rw (code-is, ea) refl
 
-      pub meets-second : (b′ ≡ key .second → ⊥) → Meets m q f key Meeting.Stranger
-      meets-second x p = x (second-is ∙ ap (λ g. g .second) p)
+      pub meets-first : (a′ ≡ key .first → ⊥) → Meets m q f key Meeting.Stranger
+      meets-first x p = x (first-is ∙ ap (λ g. g .first) p)
 
-      module _ (x : a′ ≡ key .first) (y : b′ ≡ key .second) where
-        key-is : keyAt m q ≡ key
+      module _ {b′ : ℕ} (eb′ : b′ ≡ secondKey (classAt m) (f .code % 8) b) where
+        second-is : b′ ≡ keyAt m q .second
         unfolding keyAt keyOf fieldsOn
-        key-is = all-same (keyAt m q) key (code-is ∙ sym (ap (λ g. g .code) k)) (sym first-is ∙ x) (sym second-is ∙ y)
+        second-is = eb′ ∙ rw (code-is, eb) refl
 
-        pub kin-first : (a ≡ f .first → ⊥) → Meets m q f key Meeting.Kin
-        unfolding fieldsOn
-        kin-first z = (key-is, λ r. z (ea ∙ ap (λ g. g .first) r))
+        pub meets-second : (b′ ≡ key .second → ⊥) → Meets m q f key Meeting.Stranger
+        meets-second x p = x (second-is ∙ ap (λ g. g .second) p)
 
-        pub kin-second : (b ≡ f .second → ⊥) → Meets m q f key Meeting.Kin
-        unfolding fieldsOn
-        kin-second z = (key-is, λ r. z (eb ∙ ap (λ g. g .second) r))
-
-      pub meets-own : a ≡ f .first → b ≡ f .second → Meets m q f key Meeting.Own
-      unfolding fieldsOn
-      meets-own x y = all-same (fieldsAt m q) f code-is (sym ea ∙ x) (sym eb ∙ y)
+        pub meets-kin : a′ ≡ key .first → b′ ≡ key .second → (fieldsAt m q ≡ f → ⊥) → Meets m q f key Meeting.Kin
+        unfolding keyAt keyOf fieldsOn
+        meets-kin x y z = (all-same (keyAt m q) key (code-is ∙ sym (ap (λ g. g .code) k)) (sym first-is ∙ x) (sym second-is ∙ y), z)

@@ -8,15 +8,18 @@ unfoldable pub product : ℕ → ℕ → ℕ
 product x y = (x % 4294967296 + 1) * (y % 2147483648 + 2147483648)
 
 -- of the halves of a word
-unfoldable pub halves : (word more stretch : ℕ) → ℕ
-halves word more stretch = product (word % 4294967296 + word / 4294967296 + more) (word / 4294967296 + stretch)
+unfoldable pub halves : (word shift stretch : ℕ) → ℕ
+halves word shift stretch = product (word % 4294967296 + shift) (word / 4294967296 + stretch)
 
--- of the products of two words, and of their lower halves
-unfoldable pub both : (p q low low₂ : ℕ) → ℕ
-both p q low low₂ = product (p / 4294967296 + q % 4294967296 + low) (p % 4294967296 + q / 4294967296 + low₂)
+-- of the products of two words, and the words' halves again
+unfoldable pub both : (p q word word₂ : ℕ) → ℕ
+both p q word word₂ =
+    product ((p / 4294967296 + q % 4294967296) % 4294967296 + (word % 4294967296 + word / 4294967296) % 4294967296)
+    ((p % 4294967296 + q / 4294967296) % 4294967296 + (word₂ % 4294967296 + word₂ / 4294967296) % 4294967296)
 
--- a key as one number of 32 bits
+-- a product as one number of 32 bits
+unfoldable pub folded : ℕ → ℕ
+folded r = (r / 4294967296 + r % 4294967296) % 4294967296
+
 unfoldable pub hash : Fields → ℕ
-hash f =
-    both (halves (f .first) 1013904223 (f .code % 64 * 640531527)) (halves (f .second) 747796405 829304459) (f .first % 4294967296) (f .second % 4294967296)
-    / 65536 % 4294967296
+hash f = folded (both (halves (f .first) 1013904223 (f .code % 64 * 640531527)) (halves (f .second) 747796405 829304459) (f .first) (f .second))

@@ -50,9 +50,9 @@ withOwn link n class head = set link n (withNode (getD link n 0) class head)
 unfoldable pub joined : (link : List ℕ) (n class head bucket : ℕ) → List ℕ
 joined link n class head bucket = set (withOwn link n class head) (bucket / 2) (withHead bucket (getD (withOwn link n class head) (bucket / 2) 0) n)
 
--- the nodes after node n was written so, joined a class and became the head of a bucket
-abbrev pub entered : Memory → (n tag first second class bucket : ℕ) → Memory
-entered m n tag first second class bucket = columns (set (m .tag) n tag) (set (m .first) n first) (set (m .second) n second) (joined (m .link) n class (headFor m n bucket) bucket)
+-- the nodes after node n was written so, joined a class and became the head of a bucket, before `head`
+abbrev pub entered : Memory → (n tag first second class head bucket : ℕ) → Memory
+entered m n tag first second class head bucket = columns (set (m .tag) n tag) (set (m .first) n first) (set (m .second) n second) (joined (m .link) n class head bucket)
 
 -- the nodes after a result was kept: it stands with the class
 abbrev pub keptBy : Memory → (e r : ℕ) → Memory

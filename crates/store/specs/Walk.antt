@@ -4,7 +4,7 @@ use mathlib.Core.Path.{_≡_}
 use Rattle.store.specs.declared.index.Meeting.{Meeting}
 use Rattle.store.specs.declared.node.Fields.{Fields}
 use Rattle.store.specs.Memory.{Memory, room, fieldsAt, classAt}
-use Rattle.store.specs.Index.{keyOf, bucketOf, keyAt}
+use Rattle.store.specs.Index.{keyOf, bucketOf, keyAt, headFor}
 use Rattle.store.specs.Held.{Holds}
 
 -- the class of a node with this key; or n, where none of the nodes from `from` on has it
@@ -31,9 +31,9 @@ pub record Walked (m : Memory) (n : ℕ) (f key : Fields) (node class : ℕ) : T
   pub none : n ≤ node → (j : ℕ) → j < n → fieldsAt m j ≡ f → ⊥
   pub kinship : n ≤ node → Kinship m n key 0 class
 
--- the same where n nodes are a store, and the key and the bucket are those of the fields
-abbrev pub Finds : (m : Memory) (n : ℕ) (f key : Fields) (bucket node class : ℕ) → Type 0
-Finds m n f key bucket node class = Holds m n → key ≡ keyOf (classAt m) f → bucket ≡ bucketOf (room m) key → Walked m n f key node class
+-- the same where n nodes are a store, the key is that of the fields, and `head` that of the key's bucket
+abbrev pub Finds : (m : Memory) (n : ℕ) (f key : Fields) (head node class : ℕ) → Type 0
+Finds m n f key head node class = Holds m n → key ≡ keyOf (classAt m) f → head ≡ headFor m n (bucketOf (room m) key) → Walked m n f key node class
 
 -- the same from where all later nodes have been looked at
 abbrev pub Scans : (m : Memory) (n : ℕ) (f key : Fields) (from class₀ node class : ℕ) → Type 0

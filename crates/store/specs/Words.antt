@@ -42,8 +42,8 @@ withNode w class next = w % 67108864 + 67108864 * (class % 4096) + 2251799813685
 abbrev pub withHead : (bucket w head : ℕ) → ℕ
 withHead bucket w head =
     cond (eqb (bucket % 2) 0)
-    (head % 8191 + 1 + 8192 * (w / 8192))
-    (w % 8192 + 8192 * (head % 8191 + 1) + 67108864 * (w / 67108864))
+    (head % 4096 + 1 + 8192 * (w / 8192))
+    (w % 8192 + 8192 * (head % 4096 + 1) + 67108864 * (w / 67108864))
 
 abbrev pub withKept : (w kept : ℕ) → ℕ
-withKept w kept = w % 274877906944 + 274877906944 * (kept % 8191 + 1) + 2251799813685248 * (w / 2251799813685248)
+withKept w kept = w % 274877906944 + 274877906944 * (kept % 4096 + 1) + 2251799813685248 * (w / 2251799813685248)

@@ -83,7 +83,7 @@ pub fn with_node(link: u64, class: u64, next: u64) -> u64
 pub fn with_head(bucket: usize, link: u64, head: u64) -> u64
     ensures { λ r. ⌜ r ≡ Words.withHead bucket link head ⌝ }
 {
-    let next = head % 8191 + 1;
+    let next = head % 4096 + 1;
     if bucket % 2 == 0 {
         next + 8192 * (link / 8192)
     } else {
@@ -96,6 +96,6 @@ pub fn with_kept(link: u64, kept: u64) -> u64
     ensures { λ r. ⌜ r ≡ Words.withKept link kept ⌝ }
 {
     link % 274877906944
-        + 274877906944 * (kept % 8191 + 1)
+        + 274877906944 * (kept % 4096 + 1)
         + 2251799813685248 * (link / 2251799813685248)
 }

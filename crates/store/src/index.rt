@@ -84,7 +84,8 @@ pub fn bucket_of(places: usize, key: Fields) -> usize
     (hash_of(key) * (places as u64 % 65536) / 2147483648) as usize
 }
 
-// How a node meets fields that are sought with their key: word by word, so that the first word that differs tells a stranger.
+// How a node meets fields that are sought with their key. Most nodes that are met are the one that is sought; of a stranger the
+// first word tells, before anything is read of its operands.
 fn meet(store: &[[u64; 4]], k: usize, f: Fields, key: Fields) -> Meeting
     ensures { λ r. ⌜ (key ≡ keyOf (classAt (memory (now (store .entry)))) f → Meets (memory (now (store .entry))) k f key r) ⌝ }
 {
@@ -93,25 +94,24 @@ fn meet(store: &[[u64; 4]], k: usize, f: Fields, key: Fields) -> Meeting
     }
     let kind = f.code % 8;
     let first = first_at(store, k);
+    let second = second_at(store, k);
+    if first == f.first {
+        if second == f.second {
+            return Meeting::Own;
+        }
+    }
     if first_key(store, kind, first) != key.first {
         return Meeting::Stranger;
     }
-    let second = second_at(store, k);
     if second_key(store, kind, second) != key.second {
         return Meeting::Stranger;
     }
-    if first != f.first {
-        return Meeting::Kin;
-    }
-    if second != f.second {
-        return Meeting::Kin;
-    }
-    Meeting::Own
+    Meeting::Kin
 }
 
 // The head of a bucket, of n nodes. Where no node was entered the word may hold anything: a number counts if it is a node's whose
 // home is this bucket. So nothing is cleared before the first node.
-fn head_of(store: &[[u64; 4]], n: usize, bucket: usize) -> usize
+pub fn head_of(store: &[[u64; 4]], n: usize, bucket: usize) -> usize
     ensures { λ r. ⌜ r ≡ headFor (memory (now (store .entry))) n bucket ⌝ }
 {
     let head = head_in(bucket, link_at(store, bucket / 2)) as usize;
@@ -148,10 +148,10 @@ fn scan(store: &[[u64; 4]], n: usize, f: Fields, key: Fields, from: usize, kin: 
 }
 
 // A walk from the head of a chain. Each next is an older node; `least` makes that so in any memory.
-pub fn find(store: &[[u64; 4]], n: usize, f: Fields, key: Fields, bucket: usize) -> Found
-    ensures { λ r. ⌜ Finds (memory (now (store .entry))) n f key bucket (r .node) (r .class) ⌝ }
+pub fn find(store: &[[u64; 4]], n: usize, f: Fields, key: Fields, head: usize) -> Found
+    ensures { λ r. ⌜ Finds (memory (now (store .entry))) n f key head (r .node) (r .class) ⌝ }
 {
-    let mut at = head_of(store, n, bucket);
+    let mut at = head;
     let mut class = n;
     let mut left = LONGEST;
     while at != 0 {
@@ -170,7 +170,7 @@ pub fn find(store: &[[u64; 4]], n: usize, f: Fields, key: Fields, bucket: usize)
     Found { node: n, class }
 }
 
-// Node n is written, joins its class, with nothing kept, and becomes the head of its chain.
+// Node n is written, joins its class, with nothing kept, and becomes the head of its chain, before `head`.
 pub fn enter(
     store: &mut [[u64; 4]],
     n: usize,
@@ -178,11 +178,11 @@ pub fn enter(
     first: u64,
     second: u64,
     class: usize,
+    head: usize,
     bucket: usize,
 )
-    ensures { λ _. ⌜ memory (now (store .exit)) ≡ entered (memory (now (store .entry))) n tag first second class bucket ⌝ }
+    ensures { λ _. ⌜ memory (now (store .exit)) ≡ entered (memory (now (store .entry))) n tag first second class head bucket ⌝ }
 {
-    let head = head_of(store, n, bucket);
     let own = with_node(link_at(store, n), class as u64, head as u64);
     put_row(store, n, tag, first, second, own);
     let word = link_at(store, bucket / 2);

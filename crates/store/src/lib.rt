@@ -16,6 +16,7 @@ use fields::with_kept;
 use index::bucket_of;
 use index::enter;
 use index::find;
+use index::head_of;
 use index::key_of;
 use memory::layout::DESK_WORDS;
 use node::fields_of;
@@ -103,7 +104,8 @@ pub fn add(store: &mut [[u64; 4]], desk: &mut [u64; DESK_WORDS], e: Expression) 
     let most = capacity(store);
     let key = key_of(store, f);
     let bucket = bucket_of(most, key);
-    let found = find(store, n, f, key, bucket);
+    let head = head_of(store, n, bucket);
+    let found = find(store, n, f, key, head);
     let at = found.node;
     if at < n {
         return at;
@@ -115,7 +117,7 @@ pub fn add(store: &mut [[u64; 4]], desk: &mut [u64; DESK_WORDS], e: Expression) 
         return REFUSED + verdict;
     }
     let tag = tag_of(f.code, size, depth, bucket as u64);
-    enter(store, n, tag, f.first, f.second, found.class, bucket);
+    enter(store, n, tag, f.first, f.second, found.class, head, bucket);
     stand(desk, n + 1);
     n
 }

@@ -16,6 +16,5 @@ enter-spec =
     (λ c κs. search needs)
     (λ c κs. search needs)
     (λ c κs. search needs)
-    (λ c κs. search needs)
     (λ c. search needs)
-    (λ c. rw (c .before .put-link .ensures, c .before .before .with-head .ensures, c .before .before .before .before .link-at2 .ensures, c .before .before .before .before .before .before .before .put-row .ensures, c .before .before .before .before .before .before .before .before .before .with-node .ensures, c .before .before .before .before .before .before .before .before .before .before .link-at .ensures, c .before .before .before .before .before .before .before .before .before .before .before .before .head-of .ensures) refl))
+    (λ c. rw (c .before .put-link .ensures, c .before .before .with-head .ensures, c .before .before .before .before .link-at2 .ensures, c .before .before .before .before .before .before .before .put-row .ensures, c .before .before .before .before .before .before .before .before .before .with-node .ensures, c .before .before .before .before .before .before .before .before .before .before .link-at .ensures) refl))

@@ -4,26 +4,26 @@ use mathlib.Core.Logic.{⊎-elim}
 use native.Mathlib.Omega.{arith}
 use borrow.Author.Needs.{needs}
 use Rattle.store.specs.Memory.{memory, room, classAt, nextOn}
-use Rattle.store.specs.Index.{keyOf, bucketOf}
+use Rattle.store.specs.Index.{keyOf, bucketOf, headFor}
 use Rattle.store.specs.Held.{Holds}
 use Rattle.store.proofs.Walks.{Chained, begins, goes-on, found, past-kin, past-stranger, ends}
 use Rattle.store.proofs.index.find.Statement.{statement}
 use Rattle.store.proofs.index.find.Tie as tie
 
 abbrev Inv-loop : tie.InvT-loop
-Inv-loop store n f key bucket at₀ class₀ left₀ at class left =
-    Holds (memory store) n → key ≡ keyOf (classAt (memory store)) f → bucket ≡ bucketOf (room (memory store)) key
-    → Chained (memory store) n f key bucket at class
+Inv-loop store n f key head at₀ class₀ left₀ at class left =
+    Holds (memory store) n → key ≡ keyOf (classAt (memory store)) f → head ≡ headFor (memory store) n (bucketOf (room (memory store)) key)
+    → Chained (memory store) n f key (bucketOf (room (memory store)) key) at class
 
 abbrev μ-loop : tie.MeasureT-loop
-μ-loop store n f key bucket at₀ class₀ left₀ at class left = at
+μ-loop store n f key head at₀ class₀ left₀ at class left = at
 
 loop-again : tie.Need-loop-again Inv-loop μ-loop
 unfolding nextOn
 loop-again c =
     λ h k e.
     let p = c .before .before .before .before .before .before .before .loop .inv h k e in
-    goes-on h _ _ k _ e p _ refl (c .before .before .before .before .before .before .loop-test .taken)
+    goes-on h _ _ k _ refl p _ refl (c .before .before .before .before .before .before .loop-test .taken)
     (⊎-elim
     (λ w. past-kin (p .passed) _ refl (c .before .before .before .before .before .before .loop-test .taken) (w .1 .given .1) (c .before .before .before .before .meet .ensures k) (w .3 ∙ w .2 .ensures))
     (λ w. past-stranger (p .passed) _ refl (c .before .before .before .before .before .before .loop-test .taken) k (w .1 .given .1) (c .before .before .before .before .meet .ensures k) (w .2))
@@ -36,8 +36,7 @@ find-spec =
     (tie.spec
     Inv-loop
     μ-loop
-    (λ c κs. search needs)
-    (λ c. λ h k e. begins h _ _ k _ e _ (c .head-of .ensures))
+    (λ c. λ h k e. begins h _ _ k _ refl _ e)
     (λ c κs. search needs)
     (λ c. λ h k e. c .scan .ensures k (c .before .before .before .loop .inv h k e .passed))
     (λ c. search needs)
