@@ -25,7 +25,7 @@ use Rattle.store.specs.declared.node.Fields.{Fields}
 use Rattle.store.specs.Words.{codeOf}
 use Rattle.store.specs.Nodes.{fields, fieldsOf, expressionAs, expressionOf}
 use Rattle.expression.specs.Nodes.{grown, Within, Sound}
-use Rattle.store.specs.Index.{firstKey, secondKey, keyOf}
+use Rattle.store.specs.Index.{wordKey, keyOf}
 use Rattle.store.proofs.Coding.{coded, back, of-function, of-prefix, of-infix}
 
 -- fields with `part` of each double's bits and `class` of each operand
@@ -51,7 +51,7 @@ fields-through (Expression.Prefix o a) = refl
 fields-through (Expression.Infix o a b) = refl
 
 pub key-through : (class : ℕ → ℕ) (e : Expression) → keyOf class (fieldsOf e) ≡ through classOfBits class e
-unfolding keyOf firstKey secondKey
+unfolding keyOf wordKey
 key-through class (Expression.Number z) = refl
 key-through class Expression.PiConstant = refl
 key-through class (Expression.Variable v) = refl

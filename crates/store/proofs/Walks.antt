@@ -14,7 +14,7 @@ use Rattle.store.specs.declared.index.Meeting.{Meeting}
 use Rattle.store.specs.declared.node.Fields.{Fields}
 use Rattle.store.specs.Words.{codeIn}
 use Rattle.store.specs.Memory.{Memory, room, fieldsOn, fieldsAt, headAt, homeAt, classAt, nextAt}
-use Rattle.store.specs.Index.{firstKey, secondKey, keyOf, bucketOf, keyAt, bucketAt, headFor, latest}
+use Rattle.store.specs.Index.{wordKey, keyOf, bucketOf, keyAt, bucketAt, headFor, latest}
 use Rattle.store.specs.Held.{Holds}
 use Rattle.store.specs.Walk.{Kinship, kin, stranger, Meets, Passed, Walked}
 use Rattle.store.proofs.Trees.{room-each}
@@ -189,30 +189,18 @@ module _ {m : Memory} {n : ℕ} (h : Holds m n) (f key : Fields) (k : key ≡ ke
 -- ---- how a node meets what is sought, word by word
 
 -- what stands for a word in the key, by the kind
-module _ (class : ℕ → ℕ) (kind x : ℕ) where
-  pub first-class : kind ≡ 1 → classOfBits x ≡ firstKey class kind x
-  unfolding firstKey
-  first-class e = rw e refl
+module _ (class : ℕ → ℕ) (operands kind x : ℕ) where
+  pub key-double : kind ≡ 1 → classOfBits x ≡ wordKey class operands kind x
+  unfolding wordKey
+  key-double e = rw e refl
 
-  pub second-class : kind ≡ 1 → classOfBits x ≡ secondKey class kind x
-  unfolding secondKey
-  second-class e = rw e refl
+  pub key-word : (kind ≡ 1 → ⊥) → kind < operands → x ≡ wordKey class operands kind x
+  unfolding wordKey
+  key-word e l = rw (ne-eqb kind 1 e, lt-ltb kind operands l) refl
 
-  pub first-plain : (kind ≡ 1 → ⊥) → kind < 5 → x ≡ firstKey class kind x
-  unfolding firstKey
-  first-plain e l = rw (ne-eqb kind 1 e, lt-ltb kind 5 l) refl
-
-  pub second-plain : (kind ≡ 1 → ⊥) → kind < 7 → x ≡ secondKey class kind x
-  unfolding secondKey
-  second-plain e l = rw (ne-eqb kind 1 e, lt-ltb kind 7 l) refl
-
-  pub first-operand : (kind ≡ 1 → ⊥) → 5 ≤ kind → class x ≡ firstKey class kind x
-  unfolding firstKey
-  first-operand e l = rw (ne-eqb kind 1 e, le-ltb kind 5 l) refl
-
-  pub second-operand : (kind ≡ 1 → ⊥) → 7 ≤ kind → class x ≡ secondKey class kind x
-  unfolding secondKey
-  second-operand e l = rw (ne-eqb kind 1 e, le-ltb kind 7 l) refl
+  pub key-operand : (kind ≡ 1 → ⊥) → operands ≤ kind → class x ≡ wordKey class operands kind x
+  unfolding wordKey
+  key-operand e l = rw (ne-eqb kind 1 e, le-ltb kind operands l) refl
 
 -- another word is another node
 pub other-first : (m : Memory) (q : ℕ) (f : Fields) {a : ℕ} → a ≡ getD (m .first) q 0 → (a ≡ f .first → ⊥) → fieldsAt m q ≡ f → ⊥
@@ -238,7 +226,7 @@ module _ (m : Memory) (q : ℕ) (f key : Fields) (k : key ≡ keyOf (classAt m) 
     unfolding fieldsOn
     meets-own x y = all-same (fieldsAt m q) f code-is (sym ea ∙ x) (sym eb ∙ y)
 
-    module _ {a′ : ℕ} (ea′ : a′ ≡ firstKey (classAt m) (f .code % 8) a) where
+    module _ {a′ : ℕ} (ea′ : a′ ≡ wordKey (classAt m) 5 (f .code % 8) a) where
       first-is : a′ ≡ keyAt m q .first
       unfolding keyAt keyOf fieldsOn
       first-is = ea′ ∙ rw (code-is, ea) refl
@@ -246,7 +234,7 @@ module _ (m : Memory) (q : ℕ) (f key : Fields) (k : key ≡ keyOf (classAt m) 
       pub meets-first : (a′ ≡ key .first → ⊥) → Meets m q f key Meeting.Stranger
       meets-first x p = x (first-is ∙ ap (λ g. g .first) p)
 
-      module _ {b′ : ℕ} (eb′ : b′ ≡ secondKey (classAt m) (f .code % 8) b) where
+      module _ {b′ : ℕ} (eb′ : b′ ≡ wordKey (classAt m) 7 (f .code % 8) b) where
         second-is : b′ ≡ keyAt m q .second
         unfolding keyAt keyOf fieldsOn
         second-is = eb′ ∙ rw (code-is, eb) refl

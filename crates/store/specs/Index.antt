@@ -11,16 +11,14 @@ use Rattle.store.specs.Nodes.{fields}
 use Rattle.store.specs.Hash.{hash}
 use Rattle.store.specs.Memory.{Memory, columns, withLink, room, fieldsAt, homeAt, headAt, classAt}
 
--- what stands for a word of a node in its key, by the node's kind: the class of a double or of an operand, or the word
-unfoldable pub firstKey : (class : ℕ → ℕ) (kind : ℕ) → ℕ → ℕ
-firstKey class kind x = cond (eqb kind 1) (classOfBits x) (cond (ltb kind 5) x (class x))
-
-unfoldable pub secondKey : (class : ℕ → ℕ) (kind : ℕ) → ℕ → ℕ
-secondKey class kind x = cond (eqb kind 1) (classOfBits x) (cond (ltb kind 7) x (class x))
+-- what stands for a word of a node in its key, by the node's kind: the class of a double; from the kind `operands` on the class of an operand; else
+-- the word
+unfoldable pub wordKey : (class : ℕ → ℕ) (operands kind : ℕ) → ℕ → ℕ
+wordKey class operands kind x = cond (eqb kind 1) (classOfBits x) (cond (ltb kind operands) x (class x))
 
 -- the fields of a node with classes in place of operands and of doubles: those of equal trees, and no others, are the same
 unfoldable pub keyOf : (class : ℕ → ℕ) → Fields → Fields
-keyOf class f = fields (f .code) (firstKey class (f .code % 8) (f .first)) (secondKey class (f .code % 8) (f .second))
+keyOf class f = fields (f .code) (wordKey class 5 (f .code % 8) (f .first)) (wordKey class 7 (f .code % 8) (f .second))
 
 -- one of twice as many buckets as there are places for nodes, which are fewer than 65536
 unfoldable pub bucketOf : (places : ℕ) → Fields → ℕ

@@ -2,7 +2,7 @@
 // the node of a tree and the class of its equals.
 ghost use mathlib.Core.Path.{_≡_};
 ghost use Rattle.store.specs.Memory.{memory, room, classAt};
-ghost use Rattle.store.specs.Index.{firstKey, secondKey, keyOf, bucketOf, headFor, entered};
+ghost use Rattle.store.specs.Index.{wordKey, keyOf, bucketOf, headFor, entered};
 ghost use Rattle.store.specs.Walk.{Meets, Scans, Finds};
 use super::fields::code_in;
 use super::fields::head_in;
@@ -22,6 +22,11 @@ use super::words::second_at;
 use super::words::tag_at;
 use complex::bits::class_of_bits;
 
+// The kinds from which on a node's first word is an operand, and its second.
+const FIRST_OPERANDS: u64 = 5;
+
+const SECOND_OPERANDS: u64 = 7;
+
 // So many nodes of a chain are walked; in a full store chains of more than 6 are rare.
 const LONGEST: usize = 16;
 
@@ -39,30 +44,18 @@ pub struct Found {
     pub class: usize,
 }
 
-// What stands for a node's first word in its key, by the node's kind: the class of a double or of an operand, or the word.
-fn first_key(store: &[[u64; 4]], kind: u64, first: u64) -> u64
-    ensures { λ r. ⌜ r ≡ firstKey (classAt (memory (now (store .entry)))) kind first ⌝ }
+// What stands for a word of a node in its key, by the node's kind: the class of a double; from the kind `operands` on the class of an
+// operand; else the word.
+fn word_key(store: &[[u64; 4]], operands: u64, kind: u64, word: u64) -> u64
+    ensures { λ r. ⌜ r ≡ wordKey (classAt (memory (now (store .entry)))) operands kind word ⌝ }
 {
     if kind == 1 {
-        return class_of_bits(first);
+        return class_of_bits(word);
     }
-    if kind < 5 {
-        return first;
+    if kind < operands {
+        return word;
     }
-    class_at(store, first as usize)
-}
-
-// The same of its second word: only infix nodes have an operand there.
-fn second_key(store: &[[u64; 4]], kind: u64, second: u64) -> u64
-    ensures { λ r. ⌜ r ≡ secondKey (classAt (memory (now (store .entry)))) kind second ⌝ }
-{
-    if kind == 1 {
-        return class_of_bits(second);
-    }
-    if kind < 7 {
-        return second;
-    }
-    class_at(store, second as usize)
+    class_at(store, word as usize)
 }
 
 // The fields with classes in place of operands and of doubles.
@@ -72,8 +65,8 @@ pub fn key_of(store: &[[u64; 4]], f: Fields) -> Fields
     let kind = f.code % 8;
     Fields {
         code: f.code,
-        first: first_key(store, kind, f.first),
-        second: second_key(store, kind, f.second),
+        first: word_key(store, FIRST_OPERANDS, kind, f.first),
+        second: word_key(store, SECOND_OPERANDS, kind, f.second),
     }
 }
 
@@ -100,13 +93,13 @@ fn meet(store: &[[u64; 4]], k: usize, f: Fields, key: Fields) -> Meeting
             return Meeting::Own;
         }
     }
-    if first_key(store, kind, first) != key.first {
+    if word_key(store, FIRST_OPERANDS, kind, first) != key.first {
         return Meeting::Stranger;
     }
-    if second_key(store, kind, second) != key.second {
-        return Meeting::Stranger;
+    if word_key(store, SECOND_OPERANDS, kind, second) == key.second {
+        return Meeting::Kin;
     }
-    Meeting::Kin
+    Meeting::Stranger
 }
 
 // The head of a bucket, of n nodes. Where no node was entered the word may hold anything: a number counts if it is a node's whose
@@ -130,21 +123,27 @@ pub fn head_of(store: &[[u64; 4]], n: usize, bucket: usize) -> usize
 
 // What is left of a long chain: all nodes below `at`, row by row. No row has to wait for the one before, as in a chain, so that
 // numbers that were searched until they fell in one bucket cost little more than others.
-fn scan(store: &[[u64; 4]], n: usize, f: Fields, key: Fields, from: usize, kin: usize) -> Found
-    ensures { λ r. ⌜ Scans (memory (now (store .entry))) n f key from kin (r .node) (r .class) ⌝ }
+fn scan(store: &[[u64; 4]], n: usize, f: Fields, key: Fields, at: usize, class: usize) -> Found
+    ensures { λ r. ⌜ Scans (memory (now (store .entry))) n f key at class (r .node) (r .class) ⌝ }
 {
-    let mut at = from;
-    let mut class = kin;
-    while at != 0 {
-        let k = at - 1;
+    let mut below = at;
+    let mut kin = class;
+    while below != 0 {
+        let k = below - 1;
         match meet(store, k, f, key) {
-            Meeting::Own => return Found { node: k, class },
-            Meeting::Kin => class = class_at(store, k) as usize,
+            Meeting::Own => return Found {
+                node: k,
+                class: kin,
+            },
+            Meeting::Kin => kin = class_at(store, k) as usize,
             Meeting::Stranger => (),
         }
-        at = k;
+        below = k;
     }
-    Found { node: n, class }
+    Found {
+        node: n,
+        class: kin,
+    }
 }
 
 // A walk from the head of a chain. Each next is an older node; `least` makes that so in any memory.

@@ -7,7 +7,7 @@ use Rattle.store.proofs.index.key_of.Tie as tie
 
 returns : tie.Need-returns
 unfolding keyOf
-returns c = rw (c .before .first-key .ensures, c .second-key .ensures) refl
+returns c = rw (c .before .word-key .ensures, c .word-key2 .ensures) refl
 
 pub key-of-spec : {M : Type 1} → statement M
 key-of-spec = tie.close (tie.spec (λ c κs. search needs) (λ c κs. search needs) returns)

@@ -1,4 +1,4 @@
--- `scan` meets its contract. The invariant: all nodes from `at` on have been looked at. Assumes nothing.
+-- `scan` meets its contract. The invariant: all nodes from `below` on have been looked at. Assumes nothing.
 use mathlib.Core.Path.{_≡_, refl, _∙_}
 use native.Mathlib.Omega.{arith}
 use borrow.Author.Needs.{needs}
@@ -10,11 +10,11 @@ use Rattle.store.proofs.index.scan.Statement.{statement}
 use Rattle.store.proofs.index.scan.Tie as tie
 
 abbrev Inv-loop : tie.InvT-loop
-Inv-loop store n f key from kin at₀ class₀ at class =
-    key ≡ keyOf (classAt (memory store)) f → Passed (memory store) n f key from kin → Passed (memory store) n f key at class
+Inv-loop store n f key at class below₀ kin₀ below kin =
+    key ≡ keyOf (classAt (memory store)) f → Passed (memory store) n f key at class → Passed (memory store) n f key below kin
 
 abbrev μ-loop : tie.MeasureT-loop
-μ-loop store n f key from kin at₀ class₀ at class = at
+μ-loop store n f key at class below₀ kin₀ below kin = below
 
 pub scan-spec : {M : Type 1} → statement M
 scan-spec =
