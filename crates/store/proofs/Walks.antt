@@ -2,7 +2,7 @@
 use mathlib.Core.Path.{_≡_, refl, sym, ap, _∙_, subst}
 use mathlib.Core.Logic.{⊎-elim}
 use mathlib.Core.Bool.{Bool, true, false, cond}
-use Prim.Native.Nat.{ℕ, zero, suc, _-_, _*_, _%_, _≤_, _<_, min}
+use Prim.Native.Nat.{ℕ, zero, suc, _-_, _*_, _%_, _≤_, _<_}
 use native.Mathlib.Nat.{eq-or-lt-of-le}
 use native.Mathlib.Omega.{arith}
 use native.Mathlib.Decide.{ℕ-discrete, decLt}
@@ -175,16 +175,11 @@ module _ {m : Memory} {n : ℕ} (h : Holds m n) (f key : Fields) (k : key ≡ ke
 
   -- and goes on at the next of a node of the bucket
   pub goes-on : {at class class′ at′ : ℕ} → Chained m n f key bucket at class → (q : ℕ) → q ≡ at - 1 → (at ≡ 0 → ⊥) → Passed m n f key q class′
-      → at′ ≡ min (nextAt m q) q → Chained m n f key bucket at′ class′
-  goes-on {at} {class} {class′} c q d o p a = rw (a ∙ next-is) (skipped q class′ p)
-    where
-      next-is : min (nextAt m q) q ≡ latest (bucketAt m) bucket q
-      next-is =
-          let b : bucketAt m q ≡ bucket = ap (bucketAt m) d ∙ c .bucketed (omega arith) in
-          let l : q < n = omega (arith, c .passed .within) in
-          let x : nextAt m q ≡ latest (bucketAt m) bucket q = h .each q l .next ∙ ap (λ z. latest (bucketAt m) z q) b in
-          let w = latest-within (bucketAt m) bucket q in
-          omega arith
+      → at′ ≡ nextAt m q → Chained m n f key bucket at′ class′
+  goes-on {at} {class} {class′} c q d o p a =
+      let b : bucketAt m q ≡ bucket = ap (bucketAt m) d ∙ c .bucketed (omega arith) in
+      let l : q < n = omega (arith, c .passed .within) in
+      rw (a ∙ h .each q l .next ∙ ap (λ z. latest (bucketAt m) z q) b) (skipped q class′ p)
 
 -- ---- how a node meets what is sought, word by word
 

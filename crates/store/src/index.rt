@@ -13,7 +13,6 @@ use super::fields::with_node;
 use super::hash::hash_of;
 use super::node::Fields;
 use super::reading::class_at;
-use super::room::least;
 use super::words::first_at;
 use super::words::link_at;
 use super::words::put_link;
@@ -146,7 +145,7 @@ fn scan(store: &[[u64; 4]], n: usize, f: Fields, key: Fields, at: usize, class: 
     }
 }
 
-// A walk from the head of a chain. Each next is an older node; `least` makes that so in any memory.
+// A walk from the head of a chain. In a store each next is an older node; where it is not, or the chain is long, the rows are read.
 pub fn find(store: &[[u64; 4]], n: usize, f: Fields, key: Fields, head: usize) -> Found
     ensures { λ r. ⌜ Finds (memory (now (store .entry))) n f key head (r .node) (r .class) ⌝ }
 {
@@ -163,7 +162,10 @@ pub fn find(store: &[[u64; 4]], n: usize, f: Fields, key: Fields, head: usize) -
             Meeting::Kin => class = class_at(store, k) as usize,
             Meeting::Stranger => (),
         }
-        at = least(next_in(link_at(store, k)) as usize, k);
+        at = next_in(link_at(store, k)) as usize;
+        if k < at {
+            return scan(store, n, f, key, k, class);
+        }
         left = left - 1;
     }
     Found { node: n, class }
