@@ -16,7 +16,7 @@ use Rattle.store.specs.Words.{codeIn}
 use Rattle.store.specs.Memory.{Memory, room, fieldsOn, fieldsAt, headAt, homeAt, classAt, nextAt}
 use Rattle.store.specs.Index.{wordKey, keyOf, bucketOf, keyAt, bucketAt, headFor, latest}
 use Rattle.store.specs.Held.{Holds}
-use Rattle.store.specs.Walk.{Kinship, kin, stranger, Meets, Passed, Walked}
+use Rattle.store.specs.Walk.{Kinship, kin, stranger, Meets, Passed, Walked, Scans}
 use Rattle.store.proofs.Trees.{room-each}
 use Rattle.store.proofs.Places.{latest-within, latest-hit, latest-miss}
 use Rattle.store.proofs.Coding.{all-same}
@@ -112,6 +112,12 @@ module _ {m : Memory} {n : ℕ} {f key : Fields} {at class : ℕ} (p : Passed m 
         go : (keyAt m q ≡ key → ⊥) → Kinship m n key at class → Kinship m n key q class
         go x (kin j l e c) = kin j l e c
         go x (stranger c z) = stranger c (none-here x z)
+
+-- what is said of the same fields
+pub scanned : {m : Memory} {n : ℕ} {f f′ key key′ : Fields} {at class node class′ : ℕ} → f′ ≡ f → key′ ≡ key → Scans m n f′ key′ at class node class′
+    → Scans m n f key at class node class′
+scanned {m} {n} {f} {f′} {key} {key′} {at} {class} {node} {class′} e d s =
+    subst (λ g. Scans m n g key at class node class′) e (subst (λ x. Scans m n f′ x at class node class′) d s)
 
 -- ---- along a chain
 

@@ -145,6 +145,18 @@ fn scan(store: &[[u64; 4]], n: usize, f: Fields, key: Fields, at: usize, class: 
     }
 }
 
+// The same fields in another place. A struct is handed over in memory: by this the fields that are sought can stay in registers, and go to
+// memory only where a chain is left.
+fn copied(f: Fields) -> Fields
+    ensures { λ r. ⌜ r ≡ f ⌝ }
+{
+    Fields {
+        code: f.code,
+        first: f.first,
+        second: f.second,
+    }
+}
+
 // A walk from the head of a chain. In a store each next is an older node; where it is not, or the chain is long, the rows are read.
 pub fn find(store: &[[u64; 4]], n: usize, f: Fields, key: Fields, head: usize) -> Found
     ensures { λ r. ⌜ Finds (memory (now (store .entry))) n f key head (r .node) (r .class) ⌝ }
@@ -154,7 +166,7 @@ pub fn find(store: &[[u64; 4]], n: usize, f: Fields, key: Fields, head: usize) -
     let mut left = LONGEST;
     while at != 0 {
         if left == 0 {
-            return scan(store, n, f, key, at, class);
+            return scan(store, n, copied(f), copied(key), at, class);
         }
         let k = at - 1;
         match meet(store, k, f, key) {
@@ -164,7 +176,7 @@ pub fn find(store: &[[u64; 4]], n: usize, f: Fields, key: Fields, head: usize) -
         }
         at = next_in(link_at(store, k)) as usize;
         if k < at {
-            return scan(store, n, f, key, k, class);
+            return scan(store, n, copied(f), copied(key), k, class);
         }
         left = left - 1;
     }
