@@ -2,7 +2,7 @@
 use mathlib.Core.Path.{_≡_, refl, sym, ap, _∙_, subst}
 use mathlib.Core.Logic.{⊎-elim}
 use mathlib.Core.Bool.{Bool, true, false, cond}
-use Prim.Native.Nat.{ℕ, zero, suc, _-_, _*_, _%_, _≤_, _<_}
+use Prim.Native.Nat.{ℕ, zero, suc, _-_, _*_, _%_, _≤_, _<_, min}
 use native.Mathlib.Nat.{eq-or-lt-of-le}
 use native.Mathlib.Omega.{arith}
 use native.Mathlib.Decide.{ℕ-discrete, decLt}
@@ -16,7 +16,7 @@ use Rattle.store.specs.Words.{codeIn}
 use Rattle.store.specs.Memory.{Memory, room, fieldsOn, fieldsAt, headAt, homeAt, classAt, nextAt}
 use Rattle.store.specs.Index.{wordKey, keyOf, bucketOf, keyAt, bucketAt, headFor, latest}
 use Rattle.store.specs.Held.{Holds}
-use Rattle.store.specs.Walk.{Kinship, kin, stranger, Meets, Passed, Walked, Scans}
+use Rattle.store.specs.Walk.{Kinship, kin, stranger, Meets, Passed, Walked}
 use Rattle.store.proofs.Trees.{room-each}
 use Rattle.store.proofs.Places.{latest-within, latest-hit, latest-miss}
 use Rattle.store.proofs.Coding.{all-same}
@@ -113,12 +113,6 @@ module _ {m : Memory} {n : ℕ} {f key : Fields} {at class : ℕ} (p : Passed m 
         go x (kin j l e c) = kin j l e c
         go x (stranger c z) = stranger c (none-here x z)
 
--- what is said of the same fields
-pub scanned : {m : Memory} {n : ℕ} {f f′ key key′ : Fields} {at class node class′ : ℕ} → f′ ≡ f → key′ ≡ key → Scans m n f′ key′ at class node class′
-    → Scans m n f key at class node class′
-scanned {m} {n} {f} {f′} {key} {key′} {at} {class} {node} {class′} e d s =
-    subst (λ g. Scans m n g key at class node class′) e (subst (λ x. Scans m n f′ x at class node class′) d s)
-
 -- ---- along a chain
 
 -- besides, `at` is a node of the bucket, plus one, or 0
@@ -181,11 +175,16 @@ module _ {m : Memory} {n : ℕ} (h : Holds m n) (f key : Fields) (k : key ≡ ke
 
   -- and goes on at the next of a node of the bucket
   pub goes-on : {at class class′ at′ : ℕ} → Chained m n f key bucket at class → (q : ℕ) → q ≡ at - 1 → (at ≡ 0 → ⊥) → Passed m n f key q class′
-      → at′ ≡ nextAt m q → Chained m n f key bucket at′ class′
-  goes-on {at} {class} {class′} c q d o p a =
-      let b : bucketAt m q ≡ bucket = ap (bucketAt m) d ∙ c .bucketed (omega arith) in
-      let l : q < n = omega (arith, c .passed .within) in
-      rw (a ∙ h .each q l .next ∙ ap (λ z. latest (bucketAt m) z q) b) (skipped q class′ p)
+      → at′ ≡ min (nextAt m q) q → Chained m n f key bucket at′ class′
+  goes-on {at} {class} {class′} c q d o p a = rw (a ∙ next-is) (skipped q class′ p)
+    where
+      next-is : min (nextAt m q) q ≡ latest (bucketAt m) bucket q
+      next-is =
+          let b : bucketAt m q ≡ bucket = ap (bucketAt m) d ∙ c .bucketed (omega arith) in
+          let l : q < n = omega (arith, c .passed .within) in
+          let x : nextAt m q ≡ latest (bucketAt m) bucket q = h .each q l .next ∙ ap (λ z. latest (bucketAt m) z q) b in
+          let w = latest-within (bucketAt m) bucket q in
+          omega arith
 
 -- ---- how a node meets what is sought, word by word
 

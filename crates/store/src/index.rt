@@ -13,6 +13,7 @@ use super::fields::with_node;
 use super::hash::hash_of;
 use super::node::Fields;
 use super::reading::class_at;
+use super::room::least;
 use super::words::first_at;
 use super::words::link_at;
 use super::words::put_link;
@@ -145,19 +146,7 @@ fn scan(store: &[[u64; 4]], n: usize, f: Fields, key: Fields, at: usize, class: 
     }
 }
 
-// The same fields in another place. A struct is handed over in memory: by this the fields that are sought can stay in registers, and go to
-// memory only where a chain is left.
-fn copied(f: Fields) -> Fields
-    ensures { λ r. ⌜ r ≡ f ⌝ }
-{
-    Fields {
-        code: f.code,
-        first: f.first,
-        second: f.second,
-    }
-}
-
-// A walk from the head of a chain. In a store each next is an older node; where it is not, or the chain is long, the rows are read.
+// A walk from the head of a chain. Each next is an older node; `least` makes that so in any memory.
 pub fn find(store: &[[u64; 4]], n: usize, f: Fields, key: Fields, head: usize) -> Found
     ensures { λ r. ⌜ Finds (memory (now (store .entry))) n f key head (r .node) (r .class) ⌝ }
 {
@@ -166,7 +155,7 @@ pub fn find(store: &[[u64; 4]], n: usize, f: Fields, key: Fields, head: usize) -
     let mut left = LONGEST;
     while at != 0 {
         if left == 0 {
-            return scan(store, n, copied(f), copied(key), at, class);
+            return scan(store, n, f, key, at, class);
         }
         let k = at - 1;
         match meet(store, k, f, key) {
@@ -174,10 +163,7 @@ pub fn find(store: &[[u64; 4]], n: usize, f: Fields, key: Fields, head: usize) -
             Meeting::Kin => class = class_at(store, k) as usize,
             Meeting::Stranger => (),
         }
-        at = next_in(link_at(store, k)) as usize;
-        if k < at {
-            return scan(store, n, copied(f), copied(key), k, class);
-        }
+        at = least(next_in(link_at(store, k)) as usize, k);
         left = left - 1;
     }
     Found { node: n, class }

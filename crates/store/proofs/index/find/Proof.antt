@@ -6,7 +6,7 @@ use borrow.Author.Needs.{needs}
 use Rattle.store.specs.Memory.{memory, room, classAt, nextOn}
 use Rattle.store.specs.Index.{keyOf, bucketOf, headFor}
 use Rattle.store.specs.Held.{Holds}
-use Rattle.store.proofs.Walks.{Chained, begins, goes-on, found, past-kin, past-stranger, ends, scanned}
+use Rattle.store.proofs.Walks.{Chained, begins, goes-on, found, past-kin, past-stranger, ends}
 use Rattle.store.proofs.index.find.Statement.{statement}
 use Rattle.store.proofs.index.find.Tie as tie
 
@@ -18,16 +18,6 @@ Inv-loop store n f key head at₀ class₀ left₀ at class left =
 abbrev μ-loop : tie.MeasureT-loop
 μ-loop store n f key head at₀ class₀ left₀ at class left = at
 
-returns-3 : tie.Need-returns-3 Inv-loop μ-loop
-returns-3 c =
-    λ h k e.
-    let p = c .before .before .before .before .before .before .before .before .before .before .loop .inv h k e in
-    scanned (c .before .before .copied3 .ensures) (c .before .copied4 .ensures) (c .scan2 .ensures) k
-    (⊎-elim
-    (λ w. past-kin (p .passed) _ refl (c .before .before .before .before .before .before .before .before .before .loop-test .taken) (w .1 .given .1) (c .before .before .before .before .before .before .before .meet .ensures k) (w .3 ∙ w .2 .ensures))
-    (λ w. past-stranger (p .passed) _ refl (c .before .before .before .before .before .before .before .before .before .loop-test .taken) k (w .1 .given .1) (c .before .before .before .before .before .before .before .meet .ensures k) (w .2))
-    (c .before .before .before .before .before .before .match .came))
-
 loop-again : tie.Need-loop-again Inv-loop μ-loop
 unfolding nextOn
 loop-again c =
@@ -38,7 +28,7 @@ loop-again c =
     (λ w. past-kin (p .passed) _ refl (c .before .before .before .before .before .before .loop-test .taken) (w .1 .given .1) (c .before .before .before .before .meet .ensures k) (w .3 ∙ w .2 .ensures))
     (λ w. past-stranger (p .passed) _ refl (c .before .before .before .before .before .before .loop-test .taken) k (w .1 .given .1) (c .before .before .before .before .meet .ensures k) (w .2))
     (c .before .before .before .match .came))
-    (rw (c .before .next-in .ensures, c .before .before .link-at .ensures) refl)
+    (c .least .ensures ∙ rw (c .before .next-in .ensures, c .before .before .link-at .ensures) refl)
 
 pub find-spec : {M : Type 1} → statement M
 find-spec =
@@ -48,9 +38,7 @@ find-spec =
     μ-loop
     (λ c. λ h k e. begins h _ _ k _ refl _ e)
     (λ c κs. search needs)
-    (λ c κs. search needs)
-    (λ c κs. search needs)
-    (λ c. λ h k e. scanned (c .before .before .copied .ensures) (c .before .copied2 .ensures) (c .scan .ensures) k (c .before .before .before .before .before .loop .inv h k e .passed))
+    (λ c. λ h k e. c .scan .ensures k (c .before .before .before .loop .inv h k e .passed))
     (λ c. search needs)
     (λ c κs. search needs)
     (λ c. search needs)
@@ -61,10 +49,7 @@ find-spec =
     (λ c κs. search needs)
     (λ c κs. search needs)
     (λ c κs. search needs)
-    (λ c κs. search needs)
-    (λ c κs. search needs)
-    returns-3
     (λ c. search needs)
-    (λ c. omega (arith, c .if2 .left, c .before .before .before .before .before .before .loop-test .taken))
+    (λ c. omega (arith, c .least .ensures, c .before .before .before .before .before .before .loop-test .taken))
     loop-again
     (λ c. λ h k e. ends (c .before .loop .inv h k e .passed) (c .loop-test .left)))
