@@ -106,8 +106,7 @@ fn substitute_texts(
     let listed = read_listing(list, true, store, desk, table);
     match listed {
         Listing::Read { root, swaps } => {
-            let nodes = standing(desk);
-            let built = substitute_variables(store, desk, table, swaps, root, nodes);
+            let built = substitute_variables(store, desk, table, swaps, root);
             write_answer(store, desk, table, out, built)
         }
         Listing::Refused(why) => Written::Refused(why),

@@ -11,6 +11,10 @@ tableWords = 4608
 abbrev pub swapsFrom : ℕ
 swapsFrom = 1024
 
+-- while its nodes are substituted: what they became stands from here on, a word each
+abbrev pub resultsFrom : ℕ
+resultsFrom = 1536
+
 -- a sheet: variables from 0 on, three words each; cells from here on, two each
 abbrev pub cellsFrom : ℕ
 cellsFrom = 768

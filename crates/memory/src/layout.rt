@@ -13,6 +13,9 @@ pub const TABLE_WORDS: usize = 4608;
 // A listing that is read: word i is the node of node line i. An s line has two words from here on, its variable and its node.
 pub const SWAPS_FROM: usize = 1024;
 
+// While its nodes are substituted: word k from here on is 0, or 1 and the number of the node that node k became.
+pub const RESULTS_FROM: usize = 1536;
+
 // A sheet: a variable has three words, from 0 on: its number and its value. A cell has two from here on: region and index in
 // one, and its real.
 pub const CELLS_FROM: usize = 768;

@@ -41,7 +41,7 @@ pub record Got (l : Lent) (x : ℕ) (l′ : Lent) : Type 0 where
 pub older : {l l′ : Lent} {x : ℕ} → Got l x l′ → {k : ℕ} → k < count (l .desk) → k < count (l′ .desk)
 older p o = omega (arith, p .grew, o)
 
-both : {l l₁ l₂ : Lent} → Step l l₁ → Step l₁ l₂ → Step l l₂
+pub both : {l l₁ l₂ : Lent} → Step l l₁ → Step l₁ l₂ → Step l l₂
 both p q = record {
   sound = q .sound;
   grew = omega (arith, p .grew, q .grew);

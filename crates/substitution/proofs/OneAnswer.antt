@@ -13,9 +13,9 @@ use Rattle.listing.specs.Tables.{Lists, swapTrees}
 use Rattle.substitution.specs.Substituting.{substitute}
 use Rattle.substitution.specs.Run.{Substitutes}
 
-pub one-substituted : {table : List ℕ} {swaps node below : ℕ} {l l₁ l₂ : Lent} (r r′ : ℕ) → swaps ≤ 256 → Lists l table 0 swaps → node < count (l .desk) → node < below
-    → Substitutes table swaps node below r l l₁ → Substitutes table swaps node below r′ l l₂ → OneAnswer r r′ l₁ l₂
-one-substituted r r′ few t i b p q = one-answer r r′ (p few t i b) (q few t i b)
+pub one-substituted : {table : List ℕ} {swaps node : ℕ} {l l₁ l₂ : Lent} (r r′ : ℕ) → swaps ≤ 256 → Lists l table 0 swaps → node < count (l .desk)
+    → Substitutes table swaps node r l l₁ → Substitutes table swaps node r′ l l₂ → OneAnswer r r′ l₁ l₂
+one-substituted r r′ few t i p q = one-answer r r′ (p few t i) (q few t i)
 
 -- substituting is refused as storing is, and never by INCOMPLETE: so the answer is one word
 complete : (swaps : List Swap) (t : Tree) (σ : State) → Complete (substitute swaps t σ)
@@ -25,7 +25,7 @@ complete swaps (functionCall f t) σ = complete-then _ _ (complete swaps t σ) �
 complete swaps (prefixed o t) σ = complete-then _ _ (complete swaps t σ) λ u τ. complete-stored _ τ
 complete swaps (infixed o l r) σ = complete-then _ _ (complete swaps l σ) λ u τ. complete-then _ _ (complete swaps r τ) λ v υ. complete-stored _ υ
 
-pub one-node : {table : List ℕ} {swaps node below : ℕ} {l l₁ l₂ : Lent} (r r′ : ℕ) → swaps ≤ 256 → Lists l table 0 swaps → node < count (l .desk) → node < below
-    → Substitutes table swaps node below r l l₁ → Substitutes table swaps node below r′ l l₂ → r ≡ r′
-one-node {table} {swaps} {node} {l = l} r r′ few t i b p q =
-    one-word r r′ (complete (swapTrees (l .rows) table swaps) (treeIn l node) (stateIn l)) (p few t i b) (q few t i b)
+pub one-node : {table : List ℕ} {swaps node : ℕ} {l l₁ l₂ : Lent} (r r′ : ℕ) → swaps ≤ 256 → Lists l table 0 swaps → node < count (l .desk)
+    → Substitutes table swaps node r l l₁ → Substitutes table swaps node r′ l l₂ → r ≡ r′
+one-node {table} {swaps} {node} {l = l} r r′ few t i p q =
+    one-word r r′ (complete (swapTrees (l .rows) table swaps) (treeIn l node) (stateIn l)) (p few t i) (q few t i)

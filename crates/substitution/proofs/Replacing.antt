@@ -1,10 +1,9 @@
--- What substituting does at a node, by its operands: each return of `substitute_variables` and of what it calls. Assumes nothing.
+-- What substituting does at a node, by its operands: each return of `substitute_node` and of what it calls. Assumes nothing.
 use mathlib.Core.Path.{_≡_, refl, sym, ap, _∙_, subst}
 use mathlib.Core.List.{List, [], _∷_}
-use Prim.Native.Nat.{ℕ, _+_, _*_, _≤_, _<_}
+use Prim.Native.Nat.{ℕ, _≤_, _<_}
 use native.Mathlib.Omega.{arith}
 use native.Mathlib.Decide.{decLt}
-use lib.ListN.{getD}
 use denote.Enum.Declared.{tagOf}
 use types.Run.{OneOf, miss}
 use Rattle.expression.specs.Trees.{Tree, leaf, number, pi, variable, cell, functionCall, prefixed, infixed}
@@ -14,17 +13,15 @@ use Rattle.expression.specs.Nodes.{grown, Within, operandsOf, withOperands}
 use Rattle.store.specs.Storing.{State, Answer, gives, andThen, intern}
 use Rattle.store.specs.Memory.{Memory, expressionAt, treeAt, treeOf}
 use Rattle.store.specs.Desk.{count, refusedFrom}
-use Rattle.store.specs.Held.{Lent, treeIn, stateIn, Built}
-use Rattle.store.proofs.Building.{Got, older, named, turned, stays, then-node, then-refused}
-use Rattle.memory.proofs.Values.{upTo-alike}
+use Rattle.store.specs.Held.{Lent, treeIn, stateIn, Step, Built}
+use Rattle.store.proofs.Building.{Got, older, both, named, turned, stays, got, then-node, then-refused}
 use Rattle.expression.proofs.Under.{IsNothing, IsOne, IsTwo, nothing-under, one-under, two-under, within-one, within-two}
-use Rattle.memory.specs.Layout.{swapsFrom}
 use Rattle.listing.specs.Listings as Listings
-use Rattle.listing.specs.Listings.{swap, names, nothing, swapFor}
-use Rattle.listing.specs.Tables.{Lists, swapTrees}
+use Rattle.listing.specs.Listings.{names, nothing, swapFor}
 use Rattle.expression.specs.declared.node.Operands.{Operands}
 use Rattle.substitution.specs.Substituting.{putIn, putInLeaf, substitute}
-use Rattle.substitution.specs.Run.{PutsIn, Rebuilds}
+use Rattle.substitution.specs.Run.{PutsIn, Settled, Knows, Rebuilds, Replaced}
+use Rattle.substitution.proofs.Settling.{built-settled, knows-on, knows-more}
 use Rattle.store.proofs.Stored.{within-node, tree-of-node}
 
 -- ---- the tree of an operation on other operands
@@ -169,39 +166,56 @@ module _ (m : Memory) {n node : ℕ} (l : node < n) (e : Expression) (tree : tre
         let q : leaf (variable v) ≡ treeAt m node = (rw told at tree) in
         (l, λ s. variable-put (sym q ∙ ap (putIn v) p) s)
 
--- ---- the s lines after a step
-
-module _ {l l′ : Lent} {table : List ℕ} {swaps i : ℕ} (li : Lists l table 0 swaps) (p : Got l i l′) where
-  lists-on : Lists l′ table 0 swaps
-  lists-on = record { sound = p .sound; nodes = λ k o. absurd (omega (arith, o)); named = λ k o. older p (li .named k o); ascends = li .ascends }
-
-  swaps-on : swapTrees (l′ .rows) table swaps ≡ swapTrees (l .rows) table swaps
-  swaps-on = upTo-alike swaps _ _ (λ k o. ap (swap (getD table (swapsFrom + 2 * k) 0)) (p .stays (getD table (swapsFrom + 2 * k + 1) 0) (li .named k o)))
-
 -- ---- an operation on what its last operand became
 
-rebuilt-built : {want : Answer} {l l₁ l₂ : Lent} (e : Expression) (left : ℕ) (t : Tree) (x r : ℕ) → Built want x l l₁
-    → (Got l x l₁ → LeftIn e (l₁ .rows) (count (l₁ .desk)) left t) → Rebuilds e left x r l₁ l₂ → Built (andThen want (λ u s. intern (wrap e t u) s)) r l l₂
-rebuilt-built {want} {l} {l₁} {l₂} e left t x r b f q = go (decLt x refusedFrom)
-  where
-    go : Dec (x < refusedFrom) → Built (andThen want (λ u s. intern (wrap e t u) s)) r l l₂
-    go (yes h) =
-        then-node (λ u s. intern (wrap e t u) s) b h λ p.
-        named (ap (λ u. intern u (stateIn l₁)) (rebuilt-tree (l₁ .rows) e left x ∙ wrap-left e (l₁ .rows) (count (l₁ .desk)) left t (treeIn l₁ x) (f p)))
-        (q .added h (p .sound) (within-rebuilt e (l₁ .rows) (count (l₁ .desk)) left x t (f p) (p .inside)))
-    go (no h) =
-        let o : refusedFrom ≤ x = omega (arith, h) in
-        turned (sym (q .passed o .0)) (subst (λ l₂. Built (andThen want (λ u s. intern (wrap e t u) s)) x l l₂) (sym (q .passed o .1)) (then-refused (λ u s. intern (wrap e t u) s) b o))
+module _ {node left last r : ℕ} {e : Expression} {l l′ : Lent} {table table′ : List ℕ} (q : Rebuilds node e left last r l l′ table table′) where
+  last-node : r < refusedFrom → last < refusedFrom
+  last-node h = go (decLt last refusedFrom)
+    where
+      go : Dec (last < refusedFrom) → last < refusedFrom
+      go (yes y) = y
+      go (no y) = absurd (omega (arith, h, y, q .passed (omega (arith, y)) .0))
 
--- ---- the returns of `substitute_variables`
+  rebuilt-added : {l₀ : Lent} (t : Tree) → last < refusedFrom → Got l₀ last l → LeftIn e (l .rows) (count (l .desk)) left t
+      → Built (intern (wrap e t (treeIn l last)) (stateIn l)) r l l′
+  rebuilt-added t h p i =
+      named (ap (λ u. intern u (stateIn l)) (rebuilt-tree (l .rows) e left last ∙ wrap-left e (l .rows) (count (l .desk)) left t (treeIn l last) i))
+      (q .added h (p .sound) (within-rebuilt e (l .rows) (count (l .desk)) left last t i (p .inside)))
 
-module _ {l : Lent} {table : List ℕ} {swaps node : ℕ} (li : Lists l table 0 swaps) (o : node < count (l .desk)) {e : Expression} (e-is : e ≡ expressionAt (l .rows) node)
-    {operands : Operands} (o-is : operands ≡ operandsOf e) where
+  rebuilt-built : {want : Answer} {l₀ : Lent} (t : Tree) → Built want last l₀ l → (Got l₀ last l → LeftIn e (l .rows) (count (l .desk)) left t)
+      → Built (andThen want (λ u s. intern (wrap e t u) s)) r l₀ l′
+  rebuilt-built {want} {l₀} t b f = go (decLt last refusedFrom)
+    where
+      go : Dec (last < refusedFrom) → Built (andThen want (λ u s. intern (wrap e t u) s)) r l₀ l′
+      go (yes h) = then-node (λ u s. intern (wrap e t u) s) b h λ p. rebuilt-added t h p (f p)
+      go (no h) =
+          let o : refusedFrom ≤ last = omega (arith, h) in
+          turned (sym (q .passed o .0)) (subst (λ l′. Built (andThen want (λ u s. intern (wrap e t u) s)) last l₀ l′) (sym (q .passed o .1)) (then-refused (λ u s. intern (wrap e t u) s) b o))
+
+  -- what the operation became is settled, and remembered for its node
+  rebuilt-known : {given : List Listings.Swap} {nodes swaps : ℕ} {t : Tree} (u : Tree) → Knows given nodes swaps l table → node < nodes → treeIn l node ≡ t → r < refusedFrom
+      → Built (intern u (stateIn l)) r l l′ → ((l″ : Lent) → Step l l″ → substitute given t (stateIn l″) ≡ intern u (stateIn l″))
+      → Settled given l′ t (treeIn l′ r) × Knows given nodes swaps l′ table′
+  rebuilt-known {given} {nodes} {swaps} {t} u k o tree h b f =
+      let settled = built-settled u b h t f in
+      let now : treeIn l′ node ≡ t = b .step .stays node (omega (arith, o, k .stand)) ∙ tree in (
+        settled,
+        subst (λ table′. Knows given nodes swaps l′ table′) (sym (q .noted .became h))
+            (knows-more (knows-on k (b .step)) node r o (b .inside h) (subst (λ t. Settled given l′ t (treeIn l′ r)) (sym now) settled)),
+      )
+
+-- ---- the returns of `substitute_node`
+
+module _ {given : List Listings.Swap} {nodes swaps node : ℕ} {l : Lent} {table : List ℕ} (k : Knows given nodes swaps l table) (o : node < nodes) {e : Expression}
+    (e-is : e ≡ expressionAt (l .rows) node) {operands : Operands} (o-is : operands ≡ operandsOf e) where
+  stands : node < count (l .desk)
+  stands = omega (arith, o, k .stand)
+
   in-node : Within node e
-  in-node = within-node (li .sound .holds) o e-is refl
+  in-node = within-node (k .lists .sound .holds) stands e-is refl
 
   of-tree : treeOf (l .rows) e ≡ treeIn l node
-  of-tree = tree-of-node (li .sound .holds) o e-is refl
+  of-tree = tree-of-node (k .lists .sound .holds) stands e-is refl
 
   pub one-inside : {a : ℕ} → operands ≡ Operands.One a → a < node
   one-inside {a} told = within-one node e a (sym o-is ∙ told) in-node
@@ -209,40 +223,76 @@ module _ {l : Lent} {table : List ℕ} {swaps node : ℕ} (li : Lists l table 0 
   pub two-inside : {a b : ℕ} → operands ≡ Operands.Two a b → (a < node) × (b < node)
   two-inside {a} {b} told = within-two node e a b (sym o-is ∙ told) in-node
 
-  of-node : {w : Answer} → w ≡ substitute (swapTrees (l .rows) table swaps) (treeOf (l .rows) e) (stateIn l)
-      → w ≡ substitute (swapTrees (l .rows) table swaps) (treeIn l node) (stateIn l)
-  of-node p = p ∙ ap (λ t. substitute (swapTrees (l .rows) table swaps) t (stateIn l)) of-tree
+  of-node : (s : State) {w : Answer} → w ≡ substitute given (treeOf (l .rows) e) s → w ≡ substitute given (treeIn l node) s
+  of-node s p = p ∙ ap (λ t. substitute given t s) of-tree
 
-  pub leaf-built : {r : ℕ} → swaps ≤ 256 → operands ≡ Operands.Nothing → PutsIn table swaps e node r
-      → Built (substitute (swapTrees (l .rows) table swaps) (treeIn l node) (stateIn l)) r l l
-  leaf-built few told puts = let p = puts l few li o of-tree (sym o-is ∙ told) in stays (li .sound) (p .0) (p .1 (stateIn l))
+  pub leaf-replaced : {r : ℕ} → operands ≡ Operands.Nothing → PutsIn table swaps e node r → Replaced given nodes swaps node r l l table
+  leaf-replaced {r} told puts =
+      let p = puts l (k .few) (k .lists) stands of-tree (sym o-is ∙ told) in
+      let put : (s : State) → gives (treeIn l r) s ≡ substitute given (treeIn l node) s = λ s. p .1 s ∙ ap (λ given. substitute given (treeIn l node) s) (k .same) in
+      record { built = stays (k .lists .sound) (p .0) (put (stateIn l)); settled = λ _. record { again = λ l′ _. sym (put (stateIn l′)) }; knows = λ _. k }
 
-  pub one-built : {a x r : ℕ} {l₁ l₂ : Lent} → operands ≡ Operands.One a
-      → Built (substitute (swapTrees (l .rows) table swaps) (treeIn l a) (stateIn l)) x l l₁ → Rebuilds e 0 x r l₁ l₂
-      → Built (substitute (swapTrees (l .rows) table swaps) (treeIn l node) (stateIn l)) r l l₂
-  unfolding from-one
-  one-built {a} {x} {r} {l₁} told b q =
-      let z = sym o-is ∙ told in
-      named (of-node (one-step (swapTrees (l .rows) table swaps) (l .rows) (stateIn l) e a (leaf pi) z))
-      (rebuilt-built e 0 (leaf pi) x r b (λ p. left-none e a z (l₁ .rows) (count (l₁ .desk)) 0 (leaf pi)) q)
+  module _ {a x r : ℕ} {l₁ l₂ : Lent} {table₁ table₂ : List ℕ} (told : operands ≡ Operands.One a) (first : Replaced given nodes swaps a x l l₁ table₁)
+      (q : Rebuilds node e 0 x r l₁ l₂ table₁ table₂) where
+    as-one : (s : State) → andThen (substitute given (treeIn l a) s) (from-one given (l .rows) s e (leaf pi)) ≡ substitute given (treeIn l node) s
+    as-one s = of-node s (one-step given (l .rows) s e a (leaf pi) (sym o-is ∙ told))
 
-  module _ {a b left : ℕ} {l₁ : Lent} (told : operands ≡ Operands.Two a b)
-      (first : Built (substitute (swapTrees (l .rows) table swaps) (treeIn l a) (stateIn l)) left l l₁) where
-    as-two : andThen (substitute (swapTrees (l .rows) table swaps) (treeIn l a) (stateIn l)) (from-left (swapTrees (l .rows) table swaps) (l .rows) (stateIn l) e b)
-        ≡ substitute (swapTrees (l .rows) table swaps) (treeIn l node) (stateIn l)
-    as-two = of-node (two-step (swapTrees (l .rows) table swaps) (l .rows) (stateIn l) e a b (sym o-is ∙ told))
+    none : LeftIn e (l₁ .rows) (count (l₁ .desk)) 0 (leaf pi)
+    none = left-none e a (sym o-is ∙ told) (l₁ .rows) (count (l₁ .desk)) 0 (leaf pi)
 
-    pub two-refused : refusedFrom ≤ left → Built (substitute (swapTrees (l .rows) table swaps) (treeIn l node) (stateIn l)) left l l₁
-    two-refused h = named as-two (then-refused (from-left (swapTrees (l .rows) table swaps) (l .rows) (stateIn l) e b) first h)
+    one-known : r < refusedFrom → Settled given l₂ (treeIn l node) (treeIn l₂ r) × Knows given nodes swaps l₂ table₂
+    unfolding from-one andThen
+    one-known h =
+        let y = last-node q h in
+        let p = got (first .built) y in
+        rebuilt-known q (wrap e (leaf pi) (treeIn l₁ x)) (first .knows y) o (p .stays node stands) h (rebuilt-added q (leaf pi) y p none) λ l″ step.
+        sym (as-one (stateIn l″)) ∙ ap (λ w. andThen w (from-one given (l .rows) (stateIn l″) e (leaf pi))) (first .settled y .again l″ step)
 
-    pub two-built : {y r : ℕ} {l₂ l₃ : Lent} → left < refusedFrom
-        → (Lists l₁ table 0 swaps → b < count (l₁ .desk) → Built (substitute (swapTrees (l₁ .rows) table swaps) (treeIn l₁ b) (stateIn l₁)) y l₁ l₂)
-        → Rebuilds e left y r l₂ l₃ → Built (substitute (swapTrees (l .rows) table swaps) (treeIn l node) (stateIn l)) r l l₃
-    unfolding from-left from-one
-    two-built {y} {r} {l₂} h second q =
-        named as-two (then-node (from-left (swapTrees (l .rows) table swaps) (l .rows) (stateIn l) e b) first h λ p.
-        let inside : b < count (l .desk) = omega (arith, two-inside told .1, o) in
-        let same : substitute (swapTrees (l₁ .rows) table swaps) (treeIn l₁ b) (stateIn l₁) ≡ substitute (swapTrees (l .rows) table swaps) (treeIn l b) (stateIn l₁)
-        = λ v. substitute (swaps-on li p v) (p .stays b inside v) (stateIn l₁) in
-        rebuilt-built e left (treeIn l₁ left) y r (named same (second (lists-on li p) (older p inside)))
-        (λ p₂. left-in e (l₂ .rows) (count (l₂ .desk)) left (treeIn l₁ left) (older p₂ (p .inside)) (p₂ .stays left (p .inside))) q)
+    pub one-replaced : Replaced given nodes swaps node r l l₂ table₂
+    unfolding from-one
+    one-replaced = record { built = named (as-one (stateIn l)) (rebuilt-built q (leaf pi) (first .built) (λ p. none)); settled = λ h. one-known h .0; knows = λ h. one-known h .1 }
+
+  module _ {a b left : ℕ} {l₁ : Lent} {table₁ : List ℕ} (told : operands ≡ Operands.Two a b) (first : Replaced given nodes swaps a left l l₁ table₁) where
+    as-two : (s : State) → andThen (substitute given (treeIn l a) s) (from-left given (l .rows) s e b) ≡ substitute given (treeIn l node) s
+    as-two s = of-node s (two-step given (l .rows) s e a b (sym o-is ∙ told))
+
+    pub two-refused : refusedFrom ≤ left → Replaced given nodes swaps node left l l₁ table₁
+    two-refused h = record {
+      built = named (as-two (stateIn l)) (then-refused (from-left given (l .rows) (stateIn l) e b) (first .built) h);
+      settled = λ z. absurd (omega (arith, h, z));
+      knows = λ z. absurd (omega (arith, h, z));
+    }
+
+    module _ {y r : ℕ} {l₂ l₃ : Lent} {table₂ table₃ : List ℕ} (h : left < refusedFrom)
+        (next : Knows given nodes swaps l₁ table₁ → Replaced given nodes swaps b y l₁ l₂ table₂) (q : Rebuilds node e left y r l₂ l₃ table₂ table₃) where
+      second : Replaced given nodes swaps b y l₁ l₂ table₂
+      second = next (first .knows h)
+
+      p : Got l left l₁
+      p = got (first .built) h
+
+      right-stays : treeIn l₁ b ≡ treeIn l b
+      right-stays = p .stays b (omega (arith, two-inside told .1, stands))
+
+      left-stands : Got l₁ y l₂ → LeftIn e (l₂ .rows) (count (l₂ .desk)) left (treeIn l₁ left)
+      left-stands p₂ = left-in e (l₂ .rows) (count (l₂ .desk)) left (treeIn l₁ left) (older p₂ (p .inside)) (p₂ .stays left (p .inside))
+
+      two-known : r < refusedFrom → Settled given l₃ (treeIn l node) (treeIn l₃ r) × Knows given nodes swaps l₃ table₃
+      unfolding from-left from-one andThen
+      two-known z =
+          let i = last-node q z in
+          let p₂ = got (second .built) i in
+          let tree : treeIn l₂ node ≡ treeIn l node = p₂ .stays node (older p stands) ∙ p .stays node stands in
+          rebuilt-known q (wrap e (treeIn l₁ left) (treeIn l₂ y)) (second .knows i) o tree z (rebuilt-added q (treeIn l₁ left) i p₂ (left-stands p₂)) λ l″ step.
+          sym (as-two (stateIn l″)) ∙ ap (λ w. andThen w (from-left given (l .rows) (stateIn l″) e b)) (first .settled h .again l″ (both (second .built .step) step))
+          ∙ ap (λ t. andThen (substitute given t (stateIn l″)) (from-one given (l .rows) (stateIn l″) e (treeIn l₁ left))) (sym right-stays)
+          ∙ ap (λ w. andThen w (from-one given (l .rows) (stateIn l″) e (treeIn l₁ left))) (second .settled i .again l″ step)
+
+      pub two-replaced : Replaced given nodes swaps node r l l₃ table₃
+      unfolding from-left from-one
+      two-replaced = record {
+        built = named (as-two (stateIn l)) (then-node (from-left given (l .rows) (stateIn l) e b) (first .built) h λ p.
+            rebuilt-built q (treeIn l₁ left) (named (ap (λ t. substitute given t (stateIn l₁)) right-stays) (second .built)) left-stands);
+        settled = λ z. two-known z .0;
+        knows = λ z. two-known z .1;
+      }

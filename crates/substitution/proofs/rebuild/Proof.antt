@@ -9,8 +9,18 @@ pub rebuild-spec : {M : Type 1} → statement M
 rebuild-spec =
     tie.close
     (tie.spec
-    (λ c. record { added = λ h. absurd (omega (arith, h, c .if1 .taken)); passed = λ h. (refl, refl) })
+    (λ c. record {
+      added = λ h. absurd (omega (arith, h, c .if1 .taken));
+      passed = λ h. (refl, refl);
+      noted = record { became = λ h. absurd (omega (arith, h, c .if1 .taken)); refusal = λ h. refl };
+    })
+    (λ c κs. search needs)
     (λ c κs. search needs)
     (λ c κs. search needs)
     (λ c. search needs)
-    (λ c. record { added = λ h. rw (← c .before .before .with-operands .ensures) (c .before .add .ensures); passed = λ h. absurd (omega (arith, h, c .before .before .before .before .before .if1 .left)) }))
+    (λ c. search needs)
+    (λ c. record {
+      added = λ h. rw (← c .before .before .before .before .before .before .with-operands .ensures) (c .before .before .before .before .before .add .ensures);
+      passed = λ h. absurd (omega (arith, h, c .before .before .before .before .before .before .before .before .before .if1 .left));
+      noted = c .before .before .remember .ensures;
+    }))
