@@ -20,6 +20,7 @@ use Rattle.complex.specs.Equality.{identical, identicalDoubles}
 use Rattle.sheet.specs.Rows.{Variable, variable, Cell, cell, Row, row, Lookup, found, missing, valueOf, cellValue, functionValue}
 use Rattle.expression.specs.Codes.{operationCode, operationOf}
 use Rattle.expression.proofs.Numbering.{operation-code-back}
+use Rattle.sheet.specs.Index.{wordAt, nameIn}
 use Rattle.sheet.specs.Table.{numberAt, variableAt, cellAt, rowAt, Comparable, Held, wordsOf, rowMatches}
 use Rattle.sheet.proofs.Ordering.{plain-key}
 
@@ -80,7 +81,7 @@ row-test t o x y j c =
     let xi : bitsOf (doubleOf (getD t (7 * j + functionsFrom + 1 + 1) 0)) ≡ getD t (7 * j + functionsFrom + 1 + 1) 0 = bits-back _ (c .operands (7 * j + functionsFrom + 1 + 1) (omega arith) (omega arith)) in
     let yr : bitsOf (doubleOf (getD t (7 * j + functionsFrom + 3) 0)) ≡ getD t (7 * j + functionsFrom + 3) 0 = bits-back _ (c .operands (7 * j + functionsFrom + 3) (omega arith) (omega arith)) in
     let yi : bitsOf (doubleOf (getD t (7 * j + functionsFrom + 3 + 1) 0)) ≡ getD t (7 * j + functionsFrom + 3 + 1) 0 = bits-back _ (c .operands (7 * j + functionsFrom + 3 + 1) (omega arith) (omega arith)) in
-    rw (number-back (getD t (7 * j + functionsFrom) 0) (c .named .0) (c .named .1), xr, xi, yr, yi)
+    rw (number-back (nameIn (wordAt t j)) (c .named .0) (c .named .1), xr, xi, yr, yi)
 
 -- ---- what a search found
 

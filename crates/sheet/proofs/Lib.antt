@@ -1,7 +1,9 @@
 -- The laws that the proofs of this crate cite.
 mod Seeking
+mod Indexing
 mod Ordering
 mod Placing
+mod Entering
 mod Parsing
 mod Taking
 mod Finding

@@ -1,5 +1,5 @@
 -- A row more in the table: it reads back as what was put, and all other rows are as they were. Assumes nothing.
-use mathlib.Core.Path.{_≡_, _∙_}
+use mathlib.Core.Path.{_≡_, ap, _∙_}
 use mathlib.Core.List.{List}
 use Prim.Native.Nat.{ℕ, _+_, _*_, _/_, _%_, _≤_, _<_}
 use native.Mathlib.Omega.{arith}
@@ -8,6 +8,7 @@ use lib.ListN.{length, getD, set, length-set}
 use lib.Seq.{getD-set-same, getD-set-other}
 use lib.Ieee.{binary64}
 use lib.Ieee.Bits.{ofBits-fits}
+use borrow.Author.Tests.{eqb-true}
 use Rattle.complex.specs.Bits.{bitsOf, doubleOf, Canonical}
 use Rattle.complex.proofs.Doubles.{double-back, read-canonical}
 use Rattle.memory.specs.Layout.{cellsFrom, functionsFrom}
@@ -15,20 +16,21 @@ use Rattle.sheet.specs.declared.fields.Words.{Words}
 use Rattle.sheet.specs.Seen.{numberOf}
 use Rattle.sheet.specs.Rows.{variable, cell, row}
 use Rattle.expression.specs.Codes.{operationOf}
-use Rattle.sheet.specs.Table.{numberAt, variableAt, cellAt, rowAt, Comparable, withNumber, withVariable, withCell, withRow}
+use Rattle.sheet.specs.Index.{wordAt, nameIn}
+use Rattle.sheet.specs.Table.{numberAt, variableAt, cellAt, rowAt, Comparable, withNumber, withVariable, withCell, withRow, canonicalWords, Outside, Alike}
+use Rattle.sheet.proofs.Seeking.{both}
+use Rattle.sheet.proofs.Indexing.{same-name, Owns}
 
--- from t to t′ only the words from `low` to below `high` may differ
-pub record Outside (t t′ : List ℕ) (low high : ℕ) : Type 0 where
-  pub below : (i : ℕ) → i < low → getD t′ i 0 ≡ getD t i 0
-  pub beyond : (i : ℕ) → high ≤ i → getD t′ i 0 ≡ getD t i 0
+abbrev words : ℕ → ℕ → Words
+words re im = record { re = re; im = im }
 
-set-outside : (t : List ℕ) (k v low high : ℕ) → low ≤ k → k < high → Outside t (set t k v) low high
+pub set-outside : (t : List ℕ) (k v low high : ℕ) → low ≤ k → k < high → Outside t (set t k v) low high
 set-outside t k v low high l h = record {
   below = λ i m. getD-set-other t k i v 0 λ q. omega arith;
   beyond = λ i m. getD-set-other t k i v 0 λ q. omega arith;
 }
 
-then-outside : {t t′ t″ : List ℕ} {low high : ℕ} → Outside t t′ low high → Outside t′ t″ low high → Outside t t″ low high
+pub then-outside : {t t′ t″ : List ℕ} {low high : ℕ} → Outside t t′ low high → Outside t′ t″ low high → Outside t t″ low high
 then-outside p q = record { below = λ i m. q .below i m ∙ p .below i m; beyond = λ i m. q .beyond i m ∙ p .beyond i m }
 
 -- ---- a number
@@ -63,9 +65,6 @@ module _ {t t′ : List ℕ} {low high : ℕ} (o : Outside t t′ low high) wher
   same-number : (i : ℕ) → i + 1 < low → numberAt t′ i ≡ numberAt t i
   same-number i l = rw (o .below i (omega arith), o .below (i + 1) l)
 
-  same-number-beyond : (i : ℕ) → high ≤ i → numberAt t′ i ≡ numberAt t i
-  same-number-beyond i l = rw (o .beyond i l, o .beyond (i + 1) (omega arith))
-
   pub same-variable : (j : ℕ) → 3 * j + 2 < low → variableAt t′ j ≡ variableAt t j
   same-variable j l = rw (o .below (3 * j) (omega arith), same-number (3 * j + 1) (omega arith))
 
@@ -75,25 +74,22 @@ module _ {t t′ : List ℕ} {low high : ℕ} (o : Outside t t′ low high) wher
   pub same-cell-beyond : (j : ℕ) → high ≤ 2 * j + cellsFrom → cellAt t′ j ≡ cellAt t j
   same-cell-beyond j l = rw (o .beyond (2 * j + cellsFrom) (omega arith), o .beyond (2 * j + cellsFrom + 1) (omega arith))
 
-  pub same-row : (j : ℕ) → 7 * j + functionsFrom + 6 < low → rowAt t′ j ≡ rowAt t j
-  same-row j l =
-      rw (o .below (7 * j + functionsFrom) (omega arith), same-number (7 * j + functionsFrom + 1) (omega arith), same-number (7 * j + functionsFrom + 3) (omega arith), same-number (7 * j + functionsFrom + 5) (omega arith))
+  pub alike-below : (j : ℕ) → 7 * j + functionsFrom + 6 < low → Alike t t′ j
+  alike-below j l = record { low = ap (λ w. w % 1048576) (o .below (7 * j + functionsFrom) (omega arith)); rest = λ i m k. o .below i (omega arith) }
 
-  pub same-row-beyond : (j : ℕ) → high ≤ 7 * j + functionsFrom → rowAt t′ j ≡ rowAt t j
-  same-row-beyond j l =
-      rw (o .beyond (7 * j + functionsFrom) (omega arith), same-number-beyond (7 * j + functionsFrom + 1) (omega arith), same-number-beyond (7 * j + functionsFrom + 3) (omega arith), same-number-beyond (7 * j + functionsFrom + 5) (omega arith))
+  pub alike-beyond : (j : ℕ) → high ≤ 7 * j + functionsFrom → Alike t t′ j
+  alike-beyond j l = record { low = ap (λ w. w % 1048576) (o .beyond (7 * j + functionsFrom) l); rest = λ i m k. o .beyond i (omega arith) }
 
-  pub same-comparable : (j : ℕ) → 7 * j + functionsFrom + 6 < low → Comparable t j → Comparable t′ j
-  same-comparable j l c = record {
-    named = rw (o .below (7 * j + functionsFrom) (omega arith)) (c .named);
-    operands = λ i m k. rw (o .below i (omega arith)) (c .operands i m k);
-  }
+module _ {t t′ : List ℕ} {j : ℕ} (a : Alike t t′ j) where
+  alike-number : (i : ℕ) → 7 * j + functionsFrom < i → i + 1 < 7 * j + functionsFrom + 7 → numberAt t′ i ≡ numberAt t i
+  alike-number i m k = rw (a .rest i m (omega arith), a .rest (i + 1) (omega arith) k)
 
-  pub same-comparable-beyond : (j : ℕ) → high ≤ 7 * j + functionsFrom → Comparable t j → Comparable t′ j
-  same-comparable-beyond j l c = record {
-    named = rw (o .beyond (7 * j + functionsFrom) (omega arith)) (c .named);
-    operands = λ i m k. rw (o .beyond i (omega arith)) (c .operands i m k);
-  }
+  pub same-row : rowAt t′ j ≡ rowAt t j
+  same-row =
+      rw (same-name a, alike-number (7 * j + functionsFrom + 1) (omega arith) (omega arith), alike-number (7 * j + functionsFrom + 3) (omega arith) (omega arith), alike-number (7 * j + functionsFrom + 5) (omega arith) (omega arith))
+
+  pub same-comparable : Comparable t j → Comparable t′ j
+  same-comparable c = record { named = rw (same-name a) (c .named); operands = λ i m k. rw (a .rest i m (omega arith)) (c .operands i m k) }
 
 -- ---- a variable more
 
@@ -137,6 +133,9 @@ module _ (t : List ℕ) (n k real : ℕ) where
         rw (cell-key, cell-real, q, r, canonical-back real)
 
 -- ---- a function value more
+
+same-words : {w v : Words} → w .re ≡ v .re → w .im ≡ v .im → w ≡ v
+same-words {w} {v} e d = ap (λ a. words a (w .im)) e ∙ ap (words (v .re)) d
 
 module _ (t : List ℕ) (n k : ℕ) (x y z : Words) where
   named : List ℕ
@@ -186,43 +185,66 @@ module _ (t : List ℕ) (n k : ℕ) (x y z : Words) where
   unfolding secondly
   secondly-length = number-length firstly (7 * n + functionsFrom + 3) y ∙ firstly-length
 
+  pub row-length : length (withRow t n k x y z) ≡ length t
+  unfolding withRow named firstly secondly
+  row-length = number-length secondly (7 * n + functionsFrom + 5) z ∙ secondly-length
+
   module _ (h : 7 * n + functionsFrom + 6 < length t) where
     pub row-name : getD (withRow t n k x y z) (7 * n + functionsFrom) 0 ≡ k
     unfolding named
     row-name = after-name .below (7 * n + functionsFrom) (omega arith) ∙ getD-set-same t (7 * n + functionsFrom) k 0 (omega arith)
 
-    row-x : numberAt (withRow t n k x y z) (7 * n + functionsFrom + 1) ≡ numberOf x
+    row-xre : getD (withRow t n k x y z) (7 * n + functionsFrom + 1) 0 ≡ bitsOf (doubleOf (x .re))
     unfolding firstly
-    row-x = same-number after-first (7 * n + functionsFrom + 1) (omega arith) ∙ number-there named (7 * n + functionsFrom + 1) x (omega (arith, named-length))
+    row-xre = after-first .below (7 * n + functionsFrom + 1) (omega arith) ∙ number-first named (7 * n + functionsFrom + 1) x (omega (arith, named-length))
 
-    row-y : numberAt (withRow t n k x y z) (7 * n + functionsFrom + 3) ≡ numberOf y
+    row-xim : getD (withRow t n k x y z) (7 * n + functionsFrom + 1 + 1) 0 ≡ bitsOf (doubleOf (x .im))
+    unfolding firstly
+    row-xim = after-first .below (7 * n + functionsFrom + 1 + 1) (omega arith) ∙ number-second named (7 * n + functionsFrom + 1) x (omega (arith, named-length))
+
+    row-yre : getD (withRow t n k x y z) (7 * n + functionsFrom + 3) 0 ≡ bitsOf (doubleOf (y .re))
     unfolding secondly
-    row-y = same-number after-second (7 * n + functionsFrom + 3) (omega arith) ∙ number-there firstly (7 * n + functionsFrom + 3) y (omega (arith, firstly-length))
+    row-yre = after-second .below (7 * n + functionsFrom + 3) (omega arith) ∙ number-first firstly (7 * n + functionsFrom + 3) y (omega (arith, firstly-length))
+
+    row-yim : getD (withRow t n k x y z) (7 * n + functionsFrom + 3 + 1) 0 ≡ bitsOf (doubleOf (y .im))
+    unfolding secondly
+    row-yim = after-second .below (7 * n + functionsFrom + 3 + 1) (omega arith) ∙ number-second firstly (7 * n + functionsFrom + 3) y (omega (arith, firstly-length))
 
     row-value : numberAt (withRow t n k x y z) (7 * n + functionsFrom + 5) ≡ numberOf z
     unfolding withRow named firstly secondly
     row-value = number-there secondly (7 * n + functionsFrom + 5) z (omega (arith, secondly-length))
 
-    pub row-there : rowAt (withRow t n k x y z) n ≡ row (operationOf k) (numberOf x) (numberOf y) (numberOf z)
-    row-there = rw (row-name, row-x, row-y, row-value)
+    pub row-there : rowAt (withRow t n k x y z) n ≡ row (operationOf (nameIn k)) (numberOf x) (numberOf y) (numberOf z)
+    row-there = rw (row-name, row-xre, row-xim, row-yre, row-yim, row-value, canonical-back (x .re), canonical-back (x .im), canonical-back (y .re), canonical-back (y .im))
 
     operand : (i b : ℕ) → getD (withRow t n k x y z) i 0 ≡ bitsOf (doubleOf b) → Canonical (getD (withRow t n k x y z) i 0)
     operand i b e = rw e (read-canonical b)
 
-    pub row-comparable : 0 < k → k < 6 → Comparable (withRow t n k x y z) n
-    unfolding firstly secondly
+    pub row-comparable : 0 < nameIn k → nameIn k < 6 → Comparable (withRow t n k x y z) n
     row-comparable p l = record {
       named = rw row-name (p, l);
       operands = λ i m u. elim (ℕ-discrete i (7 * n + functionsFrom + 1)) [
-        | yes e ↦ rw e (operand (7 * n + functionsFrom + 1) (x .re) (after-first .below (7 * n + functionsFrom + 1) (omega arith) ∙ number-first named (7 * n + functionsFrom + 1) x (omega (arith, named-length))))
+        | yes e ↦ rw e (operand (7 * n + functionsFrom + 1) (x .re) row-xre)
         | no a ↦ elim (ℕ-discrete i (7 * n + functionsFrom + 1 + 1)) [
-          | yes e ↦ rw e (operand (7 * n + functionsFrom + 1 + 1) (x .im) (after-first .below (7 * n + functionsFrom + 1 + 1) (omega arith) ∙ number-second named (7 * n + functionsFrom + 1) x (omega (arith, named-length))))
+          | yes e ↦ rw e (operand (7 * n + functionsFrom + 1 + 1) (x .im) row-xim)
           | no b ↦ elim (ℕ-discrete i (7 * n + functionsFrom + 3)) [
-            | yes e ↦ rw e (operand (7 * n + functionsFrom + 3) (y .re) (after-second .below (7 * n + functionsFrom + 3) (omega arith) ∙ number-first firstly (7 * n + functionsFrom + 3) y (omega (arith, firstly-length))))
-            | no d ↦
-                let e : i ≡ 7 * n + functionsFrom + 3 + 1 = omega arith in
-                rw e (operand (7 * n + functionsFrom + 3 + 1) (y .im) (after-second .below (7 * n + functionsFrom + 3 + 1) (omega arith) ∙ number-second firstly (7 * n + functionsFrom + 3) y (omega (arith, firstly-length))))
+            | yes e ↦ rw e (operand (7 * n + functionsFrom + 3) (y .re) row-yre)
+            | no d ↦ let e : i ≡ 7 * n + functionsFrom + 3 + 1 = omega arith in rw e (operand (7 * n + functionsFrom + 3 + 1) (y .im) row-yim)
           ]
         ]
       ];
+    }
+
+    -- what matches the row has its name and its operands
+    pub row-owns : Owns (withRow t n k x y z) n (nameIn k) (canonicalWords x) (canonicalWords y)
+    row-owns = record {
+      own = λ name′ x′ y′ e.
+          let p = both _ _ e in
+          let q = both _ _ (p .1) in
+          let u = both _ _ (q .0) in
+          let v = both _ _ (q .1) in (
+            eqb-true _ _ (p .0) ∙ ap nameIn row-name,
+            same-words (eqb-true _ _ (u .0) ∙ row-xre) (eqb-true _ _ (u .1) ∙ row-xim),
+            same-words (eqb-true _ _ (v .0) ∙ row-yre) (eqb-true _ _ (v .1) ∙ row-yim),
+          );
     }

@@ -33,6 +33,7 @@ reading-begins text t h = record {
     numbers = record { each = λ j l. absurd (omega arith) };
     pairs = record { each = λ j l. absurd (omega arith) };
     operands = λ j l. absurd (omega arith);
+    index = record { leads = λ name x y r f l. absurd (omega arith) };
   };
   left = begins sheetLine sheet-shortens _ text;
 }

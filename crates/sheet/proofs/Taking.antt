@@ -24,9 +24,11 @@ use Rattle.sheet.specs.declared.lines.Step.{Step}
 use Rattle.sheet.specs.Seen.{numberOf}
 use Rattle.sheet.specs.Rows.{variable, cell, row, Rows, rows, aboveNumber, abovePair, lineNumber, formed, counted, variableFields, cellFields, rowFields, fieldsAfter, variableLine, cellLine, functionLine, sheetLine}
 use Rattle.expression.specs.Codes.{operationOf}
-use Rattle.sheet.specs.Table.{numberAt, variableAt, cellAt, rowAt, rowsOf, lineOf, numberKey, pairKey, Held, Takes, withVariable, withCell, withRow, above, variableMay, cellMay}
+use Rattle.sheet.specs.Table.{numberAt, variableAt, cellAt, rowAt, rowsOf, lineOf, numberKey, pairKey, Held, Takes, withVariable, withCell, Outside, Entered, above, variableMay, cellMay}
 use Rattle.sheet.proofs.Ordering.{none-upTo, variables-above, cells-above, above-last}
-use Rattle.sheet.proofs.Placing.{Outside, same-variable, same-cell, same-cell-beyond, same-row, same-row-beyond, same-comparable, same-comparable-beyond, variable-outside, variable-key, variable-there, cell-outside, cell-key, cell-there, row-outside, row-there, row-comparable}
+use Rattle.sheet.proofs.Seeking.{both}
+use Rattle.sheet.proofs.Indexing.{indexed-same}
+use Rattle.sheet.proofs.Placing.{same-variable, same-cell, same-cell-beyond, alike-beyond, same-row, same-comparable, variable-outside, variable-key, variable-there, cell-outside, cell-key, cell-there}
 
 abbrev counts : ℕ → ℕ → ℕ → Counts
 counts v m f = record { variables = v; cells = m; functions = f }
@@ -121,11 +123,6 @@ module _ (t : List ℕ) (n : Counts) (line : ℕ) (here : line ≡ lineOf n) (fi
 
 -- ---- a row more
 
-both : (a b : Bool) → true ≡ a && b → true ≡ b
-both true b e = e
-both false true e = refl
-both false false e = e
-
 module _ (text t : List ℕ) (n : Counts) (h : Held t n) (room : tableWords ≤ length t) (line : ℕ) (here : line ≡ lineOf n) (first : ℕ) (bs : List ℕ) where
   module _ (k : ℕ) (w : Words) (next : ℕ) (few : n .variables < 256) (e : is (variable k (numberOf w)) (drop next text) ≡ fieldsAfter first bs variableFields) where
     module _ (f : true ≡ variableMay t n k) where
@@ -138,7 +135,7 @@ module _ (text t : List ℕ) (n : Counts) (h : Held t n) (room : tableWords ≤ 
           rw (
             upTo-grown (n .variables) (variableAt (withVariable t (n .variables) k w)) (variableAt t) (variable k (numberOf w)) (λ j l. same-variable changed j (omega arith)) (variable-there t (n .variables) k w (omega arith)),
             upTo-alike (n .cells) (cellAt (withVariable t (n .variables) k w)) (cellAt t) (λ j l. same-cell-beyond changed j (omega arith)),
-            upTo-alike (n .functions) (rowAt (withVariable t (n .variables) k w)) (rowAt t) (λ j l. same-row-beyond changed j (omega arith)),
+            upTo-alike (n .functions) (rowAt (withVariable t (n .variables) k w)) (rowAt t) (λ j l. same-row (alike-beyond changed j (omega arith))),
           )
 
       variable-held : Held (withVariable t (n .variables) k w) (counts (n .variables + 1) (n .cells) (n .functions))
@@ -146,9 +143,10 @@ module _ (text t : List ℕ) (n : Counts) (h : Held t n) (room : tableWords ≤ 
         variables = omega arith;
         cells = h .cells;
         functions = h .functions;
-        numbers = ascends-more _ _ (n .variables) k (h .numbers) (above-last (numberKey t) (n .variables) k (sym (both (eqb (n .functions) 0) (above (numberKey t) (n .variables) k) (both (eqb (n .cells) 0) _ f)))) (λ j l. changed .below (3 * j) (omega arith)) (variable-key t (n .variables) k w (omega arith));
+        numbers = ascends-more _ _ (n .variables) k (h .numbers) (above-last (numberKey t) (n .variables) k (both (eqb (n .functions) 0) (above (numberKey t) (n .variables) k) (both (eqb (n .cells) 0) _ (sym f) .1) .1)) (λ j l. changed .below (3 * j) (omega arith)) (variable-key t (n .variables) k w (omega arith));
         pairs = ascends-same _ _ (n .cells) (h .pairs) (λ j l. changed .beyond (2 * j + cellsFrom) (omega arith));
-        operands = λ j l. same-comparable-beyond changed j (omega arith) (h .operands j l);
+        operands = λ j l. same-comparable (alike-beyond changed j (omega arith)) (h .operands j l);
+        index = indexed-same (h .index) λ i l. changed .beyond i (omega arith);
       }
 
       pub variable-taken : next ≤ length text → Takes text (withVariable t (n .variables) k w) n (variableLine (rowsOf t n) first bs) (Step.Next (counts (n .variables + 1) (n .cells) (n .functions)) next)
@@ -174,7 +172,7 @@ module _ (text t : List ℕ) (n : Counts) (h : Held t n) (room : tableWords ≤ 
           rw (
             upTo-alike (n .variables) (variableAt (withCell t (n .cells) key real)) (variableAt t) (λ j l. same-variable p j (omega (arith, h .variables))),
             upTo-grown (n .cells) (cellAt (withCell t (n .cells) key real)) (cellAt t) (cell region index (doubleOf real)) (λ j l. same-cell p j (omega arith)) (cell-there t (n .cells) key real (omega arith) region index refl small),
-            upTo-alike (n .functions) (rowAt (withCell t (n .cells) key real)) (rowAt t) (λ j l. same-row-beyond p j (omega arith)),
+            upTo-alike (n .functions) (rowAt (withCell t (n .cells) key real)) (rowAt t) (λ j l. same-row (alike-beyond p j (omega arith))),
           )
 
       cell-held : Held (withCell t (n .cells) key real) (counts (n .variables) (n .cells + 1) (n .functions))
@@ -184,8 +182,9 @@ module _ (text t : List ℕ) (n : Counts) (h : Held t n) (room : tableWords ≤ 
         cells = omega arith;
         functions = h .functions;
         numbers = ascends-same _ _ (n .variables) (h .numbers) (λ j l. p .below (3 * j) (omega (arith, h .variables)));
-        pairs = ascends-more _ _ (n .cells) key (h .pairs) (above-last (pairKey t) (n .cells) key (sym (both (eqb (n .functions) 0) (above (pairKey t) (n .cells) key) f))) (λ j l. p .below (2 * j + cellsFrom) (omega arith)) (cell-key t (n .cells) key real (omega arith));
-        operands = λ j l. same-comparable-beyond p j (omega arith) (h .operands j l);
+        pairs = ascends-more _ _ (n .cells) key (h .pairs) (above-last (pairKey t) (n .cells) key (both (eqb (n .functions) 0) (above (pairKey t) (n .cells) key) (sym f) .1)) (λ j l. p .below (2 * j + cellsFrom) (omega arith)) (cell-key t (n .cells) key real (omega arith));
+        operands = λ j l. same-comparable (alike-beyond p j (omega arith)) (h .operands j l);
+        index = indexed-same (h .index) λ i l. p .beyond i (omega arith);
       }
 
       pub cell-taken : next ≤ length text → Takes text (withCell t (n .cells) (region * 4294967296 + index) real) n (cellLine (rowsOf t n) first bs) (Step.Next (counts (n .variables) (n .cells + 1) (n .functions)) next)
@@ -196,34 +195,33 @@ module _ (text t : List ℕ) (n : Counts) (h : Held t n) (room : tableWords ≤ 
         inside = inside;
       }
 
-  module _ (k : ℕ) (x y z : Words) (next : ℕ) (few : n .functions < 256) (named : (0 < k) × (k < 6))
-      (e : is (row (operationOf k) (numberOf x) (numberOf y) (numberOf z)) (drop next text) ≡ fieldsAfter first bs rowFields) where
-    q : Outside t (withRow t (n .functions) k x y z) (7 * n .functions + functionsFrom) (7 * n .functions + functionsFrom + 7)
-    q = row-outside t (n .functions) k x y z
-
-    row-rows : rowsOf (withRow t (n .functions) k x y z) (counts (n .variables) (n .cells) (n .functions + 1))
+  module _ (k : ℕ) (x y z : Words) (next : ℕ) (few : n .functions < 256)
+      (e : is (row (operationOf k) (numberOf x) (numberOf y) (numberOf z)) (drop next text) ≡ fieldsAfter first bs rowFields)
+      {t′ : List ℕ} (q : Entered t t′ (n .functions) k x y z) where
+    row-rows : rowsOf t′ (counts (n .variables) (n .cells) (n .functions + 1))
         ≡ rows (upTo (n .variables) (variableAt t)) (upTo (n .cells) (cellAt t)) (upTo (n .functions) (rowAt t) ++ (row (operationOf k) (numberOf x) (numberOf y) (numberOf z) ∷ []))
     row-rows =
         rw (
-          upTo-alike (n .variables) (variableAt (withRow t (n .functions) k x y z)) (variableAt t) (λ j l. same-variable q j (omega (arith, h .variables))),
-          upTo-alike (n .cells) (cellAt (withRow t (n .functions) k x y z)) (cellAt t) (λ j l. same-cell q j (omega (arith, h .cells))),
-          upTo-grown (n .functions) (rowAt (withRow t (n .functions) k x y z)) (rowAt t) (row (operationOf k) (numberOf x) (numberOf y) (numberOf z)) (λ j l. same-row q j (omega arith)) (row-there t (n .functions) k x y z (omega arith)),
+          upTo-alike (n .variables) (variableAt t′) (variableAt t) (λ j l. same-variable (q .outside) j (omega (arith, h .variables))),
+          upTo-alike (n .cells) (cellAt t′) (cellAt t) (λ j l. same-cell (q .outside) j (omega (arith, h .cells))),
+          upTo-grown (n .functions) (rowAt t′) (rowAt t) (row (operationOf k) (numberOf x) (numberOf y) (numberOf z)) (λ j l. same-row (q .kept j l)) (q .there),
         )
 
-    row-held : Held (withRow t (n .functions) k x y z) (counts (n .variables) (n .cells) (n .functions + 1))
+    row-held : Held t′ (counts (n .variables) (n .cells) (n .functions + 1))
     row-held = record {
       variables = h .variables;
       cells = h .cells;
       functions = omega arith;
-      numbers = ascends-same _ _ (n .variables) (h .numbers) (λ j l. q .below (3 * j) (omega (arith, h .variables)));
-      pairs = ascends-same _ _ (n .cells) (h .pairs) (λ j l. q .below (2 * j + cellsFrom) (omega (arith, h .cells)));
+      numbers = ascends-same _ _ (n .variables) (h .numbers) (λ j l. q .outside .below (3 * j) (omega (arith, h .variables)));
+      pairs = ascends-same _ _ (n .cells) (h .pairs) (λ j l. q .outside .below (2 * j + cellsFrom) (omega (arith, h .cells)));
       operands = λ j l. elim (decLt j (n .functions)) [
-        | yes b ↦ same-comparable q j (omega arith) (h .operands j b)
-        | no b ↦ let i : j ≡ n .functions = omega arith in rw i (row-comparable t (n .functions) k x y z (omega arith) (named .0) (named .1))
+        | yes b ↦ same-comparable (q .kept j b) (h .operands j b)
+        | no b ↦ let i : j ≡ n .functions = omega arith in rw i (q .comparable)
       ];
+      index = q .indexed (h .index);
     }
 
-    pub row-taken : next ≤ length text → Takes text (withRow t (n .functions) k x y z) n (functionLine (rowsOf t n) first bs) (Step.Next (counts (n .variables) (n .cells) (n .functions + 1)) next)
+    pub row-taken : next ≤ length text → Takes text t′ n (functionLine (rowsOf t n) first bs) (Step.Next (counts (n .variables) (n .cells) (n .functions + 1)) next)
     unfolding functionLine
     row-taken inside = record {
       answer = ap (λ s. goes s (drop next text)) row-rows ∙ taken _ 256 (n .functions) _ _ _ line (number-is t n line here first bs) (length-upTo (n .functions) (rowAt t)) _ _ (drop next text) few e refl;

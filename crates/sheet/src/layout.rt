@@ -2,11 +2,18 @@
 // Doubles are stored with one pattern for every NaN, so that operands are compared as words.
 ghost use mathlib.Core.Path.{_≡_};
 ghost use Prim.Native.Nat.{_<_, _≤_};
+ghost use lib.ListN.{length};
 ghost use Rattle.memory.specs.Layout.{tableWords};
 ghost use Rattle.complex.specs.Bits.{bitsOf, doubleOf};
-ghost use Rattle.sheet.specs.Table.{Held, withNumber, withVariable, withCell, withRow, variableMay, cellMay};
+ghost use Rattle.sheet.specs.Table.{Held, canonicalWords, withNumber, withVariable, withCell, withRow, Entered, variableMay, cellMay};
 use super::Counts;
 use super::fields::Words;
+use super::index::bucket_of;
+use super::index::head_of;
+use super::index::linked;
+use super::index::put_head;
+use super::index::word_at;
+use super::search::walk;
 use complex::bits::from_bits;
 use complex::bits::to_bits;
 use memory::layout::CELLS_FROM;
@@ -47,15 +54,44 @@ pub fn put_cell(table: &mut [u64], count: usize, key: u64, real: u64)
     put(table, at + 1, canonical(real));
 }
 
-pub fn put_row(table: &mut [u64], count: usize, name: u64, x: Words, y: Words, value: Words)
+// The words of a row, the first of them as it is.
+fn write_row(table: &mut [u64], count: usize, word: u64, x: Words, y: Words, value: Words)
     requires { ⌜ count < 256 ⌝ }
-    ensures { λ _. ⌜ now (table .exit) ≡ withRow (now (table .entry)) count name x y value ⌝ }
+    ensures { λ _. ⌜ now (table .exit) ≡ withRow (now (table .entry)) count word x y value ⌝ }
 {
     let at = 7 * count + FUNCTIONS_FROM;
-    put(table, at, name);
+    put(table, at, word);
     put_number(table, at + 1, x);
     put_number(table, at + 3, y);
     put_number(table, at + 5, value);
+}
+
+fn canonical_words(words: Words) -> Words
+    ensures { λ r. ⌜ r ≡ canonicalWords words ⌝ }
+{
+    Words {
+        re: canonical(words.re),
+        im: canonical(words.im),
+    }
+}
+
+// A row more. It becomes the head of its chain, unless a row with its name and operands stands: the first one counts, so that chains
+// have no row twice.
+pub fn put_row(table: &mut [u64], count: usize, name: u64, x: Words, y: Words, value: Words)
+    requires { ⌜ (count < 256) × (tableWords ≤ length (now table)) × (0 < name) × (name < 6) ⌝ }
+    ensures { λ _. ⌜ Entered (now (table .entry)) (now (table .exit)) count name x y value ⌝ }
+{
+    let first = canonical_words(x);
+    let second = canonical_words(y);
+    let bucket = bucket_of(name, first, second);
+    let head = head_of(table, count, bucket);
+    let stands = walk(table, count, head, name, first, second);
+    let word = linked(word_at(table, count), name, head, bucket);
+    write_row(table, count, word, x, y, value);
+    if stands < count {
+        return;
+    }
+    put_head(table, bucket, count + 1);
 }
 
 // Variables stand before all other lines, each above the last.

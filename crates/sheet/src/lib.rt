@@ -20,6 +20,7 @@ use search::find_row;
 use search::words_of;
 
 mod fields;
+mod index;
 mod layout;
 mod lines;
 mod search;

@@ -1,10 +1,14 @@
-// The first function value for a name and operands.
+// The first function value for a name and operands: a walk through the chain of their bucket.
 ghost use mathlib.Core.Path.{_≡_};
 ghost use Prim.Native.Nat.{_<_, _≤_};
 ghost use Rattle.memory.specs.Layout.{tableWords};
 ghost use Rattle.memory.specs.Keys.{First};
-ghost use Rattle.sheet.specs.Table.{wordsOf, pairMatches, rowMatches};
+ghost use Rattle.sheet.specs.Index.{bucketOf, headFor};
+ghost use Rattle.sheet.specs.Table.{wordsOf, pairMatches, rowMatches, Indexed};
 use super::fields::Words;
+use super::index::bucket_of;
+use super::index::head_of;
+use super::index::next_of;
 use complex::Complex;
 use complex::bits::to_bits;
 use memory::layout::FUNCTIONS_FROM;
@@ -36,7 +40,7 @@ fn row_matches(table: &[u64], j: usize, name: u64, x: Words, y: Words) -> bool
     ensures { λ r. ⌜ r ≡ rowMatches (now (table .entry)) name x y j ⌝ }
 {
     let at = 7 * j + FUNCTIONS_FROM;
-    if read(table, at) != name {
+    if read(table, at) % 8 != name {
         return false;
     }
     if !pair_at(table, at + 1, x) {
@@ -45,19 +49,30 @@ fn row_matches(table: &[u64], j: usize, name: u64, x: Words, y: Words) -> bool
     pair_at(table, at + 3, y)
 }
 
+// From the head of a chain on. Each next is an older row, so that in the rows of a sheet the walk ends, and in any memory.
+pub fn walk(table: &[u64], count: usize, head: usize, name: u64, x: Words, y: Words) -> usize
+    requires { ⌜ (count ≤ 256) × (head ≤ count) ⌝ }
+    ensures { λ r. ⌜ (r ≤ count) × (Indexed (now (table .entry)) count → head ≡ headFor (now (table .entry)) count (bucketOf name x y) → First (rowMatches (now (table .entry)) name x y) count r) ⌝ }
+{
+    let mut at = head;
+    while at != 0 {
+        let j = at - 1;
+        if row_matches(table, j, name, x, y) {
+            return j;
+        }
+        at = next_of(table, j);
+    }
+    count
+}
+
 // The number of the first row for this name and these operands, or the count.
 pub fn find_row(table: &[u64], count: usize, name: u64, x: Words, y: Words) -> usize
-    ensures { λ r. ⌜ (r < count → r < 256) × (count ≤ 256 → First (rowMatches (now (table .entry)) name x y) count r) ⌝ }
+    ensures { λ r. ⌜ (r < count → r < 256) × (count ≤ 256 → Indexed (now (table .entry)) count → First (rowMatches (now (table .entry)) name x y) count r) ⌝ }
 {
     if MOST_FUNCTIONS < count {
         return count;
     }
-    let mut j: usize = 0;
-    while j < count {
-        if row_matches(table, j, name, x, y) {
-            return j;
-        }
-        j += 1;
-    }
-    j
+    let bucket = bucket_of(name, x, y);
+    let head = head_of(table, count, bucket);
+    walk(table, count, head, name, x, y)
 }
