@@ -1,11 +1,13 @@
 -- Halving among ascending keys: what each turn needs. Assumes nothing.
-use mathlib.Core.Path.{_≡_, sym}
+use mathlib.Core.Path.{_≡_, sym, ap}
+use mathlib.Core.List.{List}
 use Prim.Native.Nat.{ℕ, _+_, _*_, _≤_, _<_}
 use native.Mathlib.Nat.{mul-le-mul-right}
 use native.Mathlib.Omega.{arith}
 use native.Mathlib.Decide.{decLt, ℕ-discrete}
+use lib.ListN.{getD}
 use borrow.Author.Tests.{eq-eqb, ne-eqb}
-use Rattle.memory.specs.Keys.{Ascends, First, holds}
+use Rattle.memory.specs.Keys.{keyAt, Ascends, First, holds}
 use Rattle.memory.proofs.Ascending.{rises}
 
 -- what stands there is above the key if it is neither it nor below it
@@ -15,6 +17,20 @@ below-key {stands} {there} {key} e n l = elim (ℕ-discrete stands key) [ yes q 
 -- the place of a key is small
 pub place-small : (step middle : ℕ) → step ≤ 7 → middle < 1024 → step * middle ≤ 7168
 place-small step middle s m = omega (arith, mul-le-mul-right {m = step} {n = 7} middle s)
+
+pub first-key : (t : List ℕ) (from step : ℕ) → keyAt t from step 0 ≡ getD t from 0
+first-key t from step = let e : step * 0 + from ≡ from = omega arith in ap (λ i. getD t i 0) e
+
+-- a key below the first is none of them
+pub below-first : (keys : ℕ → ℕ) (count key : ℕ) → key < keys 0 → Ascends keys count → First (holds keys key) count count
+below-first keys count key l a = record {
+  within = omega arith;
+  hit = λ m. absurd (omega arith);
+  before = λ j m. ne-eqb key (keys j) λ q. elim (decLt 0 j) [
+    | yes b ↦ omega (arith, rises keys count a 0 j b m)
+    | no b ↦ let e : j ≡ 0 = omega arith in omega (arith, l, rw e at q)
+  ];
+}
 
 -- before `low` the keys are below the one that is sought, from `high` on above it
 pub record Split (keys : ℕ → ℕ) (count key low high : ℕ) : Type 0 where

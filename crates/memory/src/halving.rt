@@ -1,4 +1,5 @@
-// Where a key stands among ascending keys of rows in a lent table, by halving.
+// Where a key stands among ascending keys of rows in a lent table: at its distance from the lowest, if no key is left out, else by
+// halving.
 ghost use Prim.Native.Nat.{_<_, _≤_};
 ghost use Rattle.memory.specs.Keys.{keyAt, Ascends, First, holds};
 use super::read;
@@ -13,6 +14,17 @@ pub fn search(table: &[u64], from: usize, step: usize, count: usize, key: u64) -
 {
     if MOST < count {
         return count;
+    }
+    let lowest = read(table, from);
+    if key < lowest {
+        return count;
+    }
+    let distance = key - lowest;
+    if distance < count as u64 {
+        let guess = distance as usize;
+        if read(table, step * guess + from) == key {
+            return guess;
+        }
     }
     let mut low: usize = 0;
     let mut high = count;

@@ -20,5 +20,5 @@ pub const RESULTS_FROM: usize = 1536;
 // one, and its real.
 pub const CELLS_FROM: usize = 768;
 
-// A function value has seven words from here on: its name's number, two operands and its value.
+// A function value has seven words from here on: its name's number and its place in an index, two operands and its value.
 pub const FUNCTIONS_FROM: usize = 2816;
