@@ -1,6 +1,6 @@
-// The index of the function values: chains of rows by a hash of name and operands, newest first. The first word of row j has four
-// fields: the number of the row's name, the next row of its chain, the bucket that is its home, and the head of bucket j. Heads and
-// nexts are numbers of rows plus one, so that 0 says none.
+// The index of the function values: chains of rows by a hash of name and operands, newest first. It stands in the first words of the
+// rows. That of row j has the number of the row's name (3 bits), the next row of its chain (9), the bucket that is its home (8), and above
+// these the head of bucket j. Heads and nexts are numbers of rows plus one, so that 0 says none.
 ghost use mathlib.Core.Path.{_≡_};
 ghost use Prim.Native.Nat.{_+_, _*_, _<_, _≤_, min};
 ghost use lib.ListN.{set};
@@ -12,8 +12,8 @@ use memory::layout::FUNCTIONS_FROM;
 use memory::put;
 use memory::read;
 
-// A word more in a hash: the product of the word's halves, each moved on, its own upper half added to the lower. The hash moves the one
-// half, so that each word is spread by those before it.
+// A word more in a hash: the product of its halves, the lower moved on by the hash so far and the upper by a number; then the product's upper
+// half is added to its lower.
 fn spread(hash: u64, word: u64, by: u64) -> u64
     requires { ⌜ (hash < 8589934592) × (by < 4294967296) ⌝ }
     ensures { λ r. ⌜ (r ≡ Index.spread hash word by) × (r < 8589934592) ⌝ }
@@ -24,7 +24,7 @@ fn spread(hash: u64, word: u64, by: u64) -> u64
     product / 4294967296 + product % 4294967296
 }
 
-// One of 256 buckets.
+// The bucket of a name and operands, one of 256. The numbers only spread them.
 pub fn bucket_of(name: u64, x: Words, y: Words) -> usize
     ensures { λ r. ⌜ (r ≡ bucketOf name x y) × (r < 256) ⌝ }
 {
@@ -62,7 +62,7 @@ pub fn head_of(table: &[u64], count: usize, bucket: usize) -> usize
     }
 }
 
-// The row after row j in its chain, always an older one or none, in any memory.
+// What follows row j in its chain, plus one: in any memory an older row, or none.
 pub fn next_of(table: &[u64], j: usize) -> usize
     requires { ⌜ j < 256 ⌝ }
     ensures { λ r. ⌜ r ≡ min (nextIn (wordAt (now (table .entry)) j)) j ⌝ }

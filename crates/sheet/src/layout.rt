@@ -75,8 +75,7 @@ fn canonical_words(words: Words) -> Words
     }
 }
 
-// A row more. It becomes the head of its chain, unless a row with its name and operands stands: the first one counts, so that chains
-// have no row twice.
+// A row more. It becomes the head of its chain, unless a row with its name and operands stands: then that one counts, as the first.
 pub fn put_row(table: &mut [u64], count: usize, name: u64, x: Words, y: Words, value: Words)
     requires { ⌜ (count < 256) × (tableWords ≤ length (now table)) × (0 < name) × (name < 6) ⌝ }
     ensures { λ _. ⌜ Entered (now (table .entry)) (now (table .exit)) count name x y value ⌝ }

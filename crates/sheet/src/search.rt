@@ -49,7 +49,8 @@ fn row_matches(table: &[u64], j: usize, name: u64, x: Words, y: Words) -> bool
     pair_at(table, at + 3, y)
 }
 
-// From the head of a chain on. Each next is an older row, so that in the rows of a sheet the walk ends, and in any memory.
+// From the head of a chain on to the row for this name and these operands, or the count. Each step leads to an older row, so the walk ends
+// in any memory.
 pub fn walk(table: &[u64], count: usize, head: usize, name: u64, x: Words, y: Words) -> usize
     requires { ⌜ (count ≤ 256) × (head ≤ count) ⌝ }
     ensures { λ r. ⌜ (r ≤ count) × (Indexed (now (table .entry)) count → head ≡ headFor (now (table .entry)) count (bucketOf name x y) → First (rowMatches (now (table .entry)) name x y) count r) ⌝ }
