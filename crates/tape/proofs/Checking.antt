@@ -248,9 +248,6 @@ module _ (m n : ℕ) where
 pub so : {r t b : Bool} → r ≡ t → r ≡ b → t ≡ b
 so p q = sym p ∙ q
 
-pub taken : {k : ℕ} {s s′ : Step} → k ≡ takes s → s ≡ s′ → k ≡ takes s′
-taken p q = p ∙ ap takes q
-
 pub is-bad : {r want : Checked} {k : ℕ} → r ≡ Checked.Bad k → r ≡ want → false ≡ isSound want
 unfolding isSound
 is-bad p q = ap isSound (sym p ∙ q)

@@ -1,5 +1,6 @@
 -- The laws that the proofs of this crate, and where `pub` of its callers, cite.
 pub mod Checking
+pub mod Ways
 pub mod Demand
 pub mod Depth
 pub mod Prefixes

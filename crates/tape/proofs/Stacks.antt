@@ -8,11 +8,8 @@ use native.Mathlib.Numerals.{add-one}
 use native.Mathlib.Omega.{arith}
 use lib.ListN.{length, getD, set, drop}
 use borrow.Author.Tests.{lt-ltb}
-use denote.Enum.Declared.{tagOf}
-use types.Run.{OneOf}
 use Rattle.complex.specs.declared.Complex.{Complex}
-use Rattle.sheet.specs.Rows.{Rows}
-use Rattle.evaluation.proofs.Evaluation.{the-type}
+use Rattle.sheet.specs.Rows.{Rows, missing}
 use Rattle.evaluation.specs.declared.Evaluation.{Evaluation}
 use Rattle.steps.specs.declared.Step.{Step}
 use Rattle.steps.specs.declared.Fields.{Fields}
@@ -20,7 +17,8 @@ use Rattle.steps.specs.Steps.{fieldsIn, stepOf}
 use Rattle.tape.specs.declared.Checked.{Checked}
 use Rattle.tape.specs.Tapes.{fieldsOfAll, count, stepsIn, takes, after, checkFrom, check}
 use Rattle.tape.specs.Playing.{Outcome, stands, push, andThen, result, step, run, played}
-use Rattle.tape.specs.Run.{filler, stackOf, valueOf}
+use Rattle.tape.specs.Run.{filler, stackOf, valueOf, seenValue}
+use Rattle.tape.proofs.Ways.{known-some, Lacks, missing-lacks}
 use Rattle.tape.proofs.Checking.{on-sound, one-left, remaining, none-left, all-left, sound-is}
 
 -- ---- the array
@@ -126,6 +124,10 @@ module _ {bs : List ℕ} {i depth : ℕ} (h : Left bs i depth) (l : i < count bs
       let p : takes s ≡ takes (stepOf f) = ap takes t in
       record { enough = omega (arith, p, a .enough); room = omega (arith, p, a .room, a .counted) }
 
+  -- it is known
+  pub some-opcode : 0 < f .opcode
+  some-opcode = known-some f (on-sound i depth f rest next-is .0 .known)
+
   pub left-on : Left bs (i + 1) (depth - takes s + 1)
   unfolding rest
   left-on =
@@ -154,10 +156,6 @@ module _ {bs : List ℕ} {i depth : ℕ} (h : Left bs i depth) (l : i < count bs
     value-read {x} {y} p q v = v ∙ value-second rows s x y (getD xs (suc slot) filler) (λ two. q (omega (arith, two, taken .enough, h .few))) ∙ ap (λ a. valueOf rows s a (getD xs (suc slot) filler)) p
 
 -- ---- what the player answers
-
--- an answer that is no value
-abbrev pub Lacks : Evaluation → Type 0
-Lacks w = OneOf (1 ∷ 2 ∷ []) (tagOf the-type w)
 
 stops : (w : Evaluation) (stack : List Complex) (next : List Complex → Outcome) → Lacks w → w ≡ result (andThen (push w stack) next)
 unfolding push andThen result
@@ -207,8 +205,8 @@ module _ {bs : List ℕ} {i depth : ℕ} (h : Left bs i depth) (l : i < count bs
         ∙ (rw (lt-ltb (length (stackOf xs (depth - k))) 64 o) refl)
         ∙ ap stands (sym (ap (stackOf (set xs (depth - k) z)) (add-one (depth - k)) ∙ stack-push xs (depth - k) z (omega (arith, long, slot-is .room))))
 
-    pub player-stops : Lacks value → value ≡ played rows bs
-    player-stops k = play-stops rows bs value _ _ runs k
+    pub player-stops : seenValue (valueOf rows s (getD xs (depth - k) filler) y) ≡ missing → value ≡ played rows bs
+    player-stops m = play-stops rows bs value _ _ runs (missing-lacks value (ap seenValue v ∙ m))
 
 -- at the end one value is left
 pub play-ends : (rows : Rows) (bs : List ℕ) (i depth : ℕ) (xs : List Complex) {z : Complex} → Left bs i depth → count bs ≤ i → Same rows bs i xs depth → z ≡ getD xs 0 filler

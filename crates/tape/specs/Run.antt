@@ -7,12 +7,13 @@ use lib.ListN.{length, getD}
 use lib.Ieee.{nan}
 use Rattle.complex.specs.declared.Complex.{Complex}
 use Rattle.expression.specs.Trees.{number, pi, variable, cell}
+use Rattle.expression.specs.declared.InfixOperator.{InfixOperator}
 use Rattle.expression.specs.declared.node.Expression.{Expression}
 use Rattle.store.specs.Memory.{Memory, treeAt}
 use Rattle.store.specs.Held.{Holds}
 use Rattle.text.specs.Put.{Put}
 use Rattle.writing.specs.declared.Written.{Written}
-use Rattle.sheet.specs.Rows.{Rows}
+use Rattle.sheet.specs.Rows.{Rows, Lookup, found, missing}
 use Rattle.evaluation.specs.declared.Evaluation.{Evaluation}
 use Rattle.evaluation.specs.Evaluating.{calculateFunction, calculateInfix, calculatePrefix, leafValue}
 use Rattle.steps.specs.declared.Step.{Step}
@@ -75,3 +76,23 @@ valueOf rows (Step.Memory region index) x y = leafValue rows (cell region index)
 valueOf rows (Step.Function f) x y = calculateFunction rows f x
 valueOf rows (Step.Prefix o) x y = Evaluation.Value (calculatePrefix o x)
 valueOf rows (Step.Infix o) x y = calculateInfix rows o x y
+
+-- as far as it is a value
+unfoldable pub seenValue : Evaluation → Lookup
+seenValue (Evaluation.Value z) = found z
+seenValue Evaluation.Incomplete = missing
+seenValue (Evaluation.Need operation x y) = missing
+
+-- whether a step's value is asked of the sheet's t rows
+unfoldable pub asks : Step → Bool
+asks (Step.Number z) = false
+asks Step.Pi = false
+asks (Step.Variable v) = false
+asks (Step.Memory region index) = false
+asks (Step.Function f) = true
+asks (Step.Prefix o) = false
+asks (Step.Infix InfixOperator.Plus) = false
+asks (Step.Infix InfixOperator.Minus) = false
+asks (Step.Infix InfixOperator.Star) = false
+asks (Step.Infix InfixOperator.Slash) = false
+asks (Step.Infix InfixOperator.Caret) = true

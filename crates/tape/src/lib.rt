@@ -2,13 +2,12 @@
 ghost use mathlib.Core.Path.{_≡_};
 ghost use Prim.Native.Nat.{_*_, _≤_};
 ghost use lib.ListN.{length};
+ghost use Rattle.steps.specs.Steps.{stepOf};
 ghost use Rattle.tape.specs.Tapes as Tapes;
 ghost use Rattle.tape.specs.Run.{valuesAfter, isSound};
 use steps::Fields;
-use steps::Step;
 use steps::bytes::fields_at;
 use steps::is_known;
-use steps::step_of;
 
 pub mod compile;
 pub mod play;
@@ -31,17 +30,14 @@ pub enum Picked {
 }
 
 // How many values a step takes from the stack; each step leaves one.
-pub fn takes(s: Step) -> usize
-    ensures { λ r. ⌜ (r ≡ Tapes.takes s) × (r ≤ 2) ⌝ }
+pub fn taken(f: Fields) -> usize
+    ensures { λ r. ⌜ (r ≡ Tapes.takes (stepOf f)) × (r ≤ 2) ⌝ }
 {
-    match s {
-        Step::Number(_) => 0,
-        Step::Pi => 0,
-        Step::Variable(_) => 0,
-        Step::Memory(_, _) => 0,
-        Step::Function(_) => 1,
-        Step::Prefix(_) => 1,
-        Step::Infix(_) => 2,
+    let opcode = f.opcode;
+    match opcode {
+        1 | 2 | 3 | 4 => 0,
+        5 | 6 => 1,
+        _ => 2,
     }
 }
 
@@ -53,11 +49,11 @@ fn values_after(values: usize, f: Fields) -> usize
     if !is_known(f) {
         return 0;
     }
-    let taken = takes(step_of(f));
-    if values < taken {
+    let k = taken(f);
+    if values < k {
         return 0;
     }
-    let left = values - taken;
+    let left = values - k;
     if MOST_VALUES <= left {
         return 0;
     }

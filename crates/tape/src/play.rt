@@ -1,26 +1,38 @@
 // Playing a sound tape: a stack of 64 complex numbers, and a step after another up to the first lack.
 ghost use mathlib.Core.Path.{_≡_};
+ghost use mathlib.Core.Bool.{true, false};
 ghost use Prim.Native.Nat.{suc, _<_};
-ghost use Rattle.sheet.specs.Table.{rowsOf, Held};
+ghost use Rattle.complex.specs.declared.Complex.{Complex as Number};
+ghost use Rattle.sheet.specs.Rows.{Rows, missing};
+ghost use Rattle.sheet.specs.Table.{rowsOf, seenFound, Held};
+ghost use Rattle.evaluation.specs.declared.Evaluation.{Evaluation as Answer};
+ghost use Rattle.steps.specs.Steps.{stepOf};
 ghost use Rattle.tape.specs.declared.Checked.{Checked};
 ghost use Rattle.tape.specs.Tapes.{check};
 ghost use Rattle.tape.specs.Playing.{played};
-ghost use Rattle.tape.specs.Run.{valueOf};
-use super::takes;
+ghost use Rattle.tape.specs.Run.{valueOf, seenValue, asks};
+use super::taken;
 use complex::Complex;
+use complex::add;
+use complex::bits::from_bits;
 use complex::constants::pi;
 use complex::constants::zero;
+use complex::div;
+use complex::mul;
+use complex::sub;
 use evaluation::Evaluation;
-use evaluation::bound_value;
 use evaluation::calculate::calculate_function;
 use evaluation::calculate::calculate_infix;
 use evaluation::calculate::calculate_prefix;
+use expression::ExpressionFunction;
+use expression::InfixOperator;
+use expression::PrefixOperator;
 use sheet::Counts;
+use sheet::Found;
 use sheet::cell;
 use sheet::variable;
-use steps::Step;
+use steps::Fields;
 use steps::bytes::fields_at;
-use steps::step_of;
 
 // "The stack is sixty-four complex numbers and a count."
 pub struct Player {
@@ -28,19 +40,108 @@ pub struct Player {
     pub depth: usize,
 }
 
-// What a step puts on the stack, in place of the values x and, above it, y, as far as it takes them.
-fn step(table: &[u64], counts: Counts, s: Step, x: Complex, y: Complex) -> Evaluation
-    ensures { λ r. ⌜ (Held (now (table .entry)) counts → r ≡ valueOf (rowsOf (now (table .entry)) counts) s x y) ⌝ }
+// A leaf's value, as far as the sheet has it.
+fn leaf(table: &[u64], counts: Counts, f: Fields) -> Found
+    requires { ⌜ (0 < f .opcode) × (f .opcode < 5) ⌝ }
+    ensures { λ r. ⌜ (Held (now (table .entry)) counts → (x y : Number) → seenFound r ≡ seenValue (valueOf (rowsOf (now (table .entry)) counts) (stepOf f) x y)) ⌝ }
 {
-    match s {
-        Step::Number(z) => Evaluation::Value(z),
-        Step::Pi => Evaluation::Value(pi()),
-        Step::Variable(number) => bound_value(variable(table, counts, number)),
-        Step::Memory(region, index) => bound_value(cell(table, counts, region, index)),
-        Step::Function(f) => calculate_function(table, counts, f, x),
-        Step::Prefix(o) => Evaluation::Value(calculate_prefix(o, x)),
-        Step::Infix(o) => calculate_infix(table, counts, x, o, y),
+    let opcode = f.opcode;
+    match opcode {
+        1 => Found::Value(Complex {
+            re: from_bits(f.re),
+            im: from_bits(f.im),
+        }),
+        2 => Found::Value(pi()),
+        3 => variable(table, counts, f.half),
+        _ => cell(table, counts, f.half, f.word),
     }
+}
+
+// Whether an operation's value is asked of the sheet: those of functions and of ^ are.
+fn is_asked(f: Fields) -> bool
+    requires { ⌜ 4 < f .opcode ⌝ }
+    ensures { λ r. ⌜ r ≡ asks (stepOf f) ⌝ }
+{
+    let opcode = f.opcode;
+    let sub = f.sub;
+    if opcode == 5 {
+        return true;
+    }
+    if opcode == 6 {
+        return false;
+    }
+    match sub {
+        1 | 2 | 3 | 4 => false,
+        _ => true,
+    }
+}
+
+// What the sheet answers for a function of x, or for x ^ y.
+fn asked(table: &[u64], counts: Counts, f: Fields, x: Complex, y: Complex) -> Evaluation
+    requires { ⌜ 4 < f .opcode ⌝ }
+    ensures { λ r. ⌜ (Held (now (table .entry)) counts → asks (stepOf f) ≡ true → r ≡ valueOf (rowsOf (now (table .entry)) counts) (stepOf f) x y) ⌝ }
+{
+    let opcode = f.opcode;
+    let code = f.sub as u64;
+    if opcode == 5 {
+        return calculate_function(table, counts, ExpressionFunction::from_code(code), x);
+    }
+    calculate_infix(table, counts, x, InfixOperator::from_code(code), y)
+}
+
+// A sign's value at x, or that of x and y by + - * /: three tests tell these apart, since a jump by a table is guessed
+// wrong more often.
+fn arithmetic(f: Fields, x: Complex, y: Complex) -> Complex
+    requires { ⌜ (4 < f .opcode) × (asks (stepOf f) ≡ false) ⌝ }
+    ensures { λ r. ⌜ ((rows : Rows) → Answer.Value r ≡ valueOf rows (stepOf f) x y) ⌝ }
+{
+    let opcode = f.opcode;
+    let code = f.sub;
+    if opcode == 6 {
+        return calculate_prefix(PrefixOperator::from_code(code as u64), x);
+    }
+    if code == 1 {
+        return add(x, y);
+    }
+    if code == 2 {
+        return sub(x, y);
+    }
+    if code == 3 {
+        return mul(x, y);
+    }
+    div(x, y)
+}
+
+// What a step puts on the stack, in place of the values x and, above it, y, as far as it takes them. An answer with more
+// cases would go through memory at every step.
+fn value_of(table: &[u64], counts: Counts, f: Fields, x: Complex, y: Complex) -> Found
+    requires { ⌜ 0 < f .opcode ⌝ }
+    ensures { λ r. ⌜ (Held (now (table .entry)) counts → seenFound r ≡ seenValue (valueOf (rowsOf (now (table .entry)) counts) (stepOf f) x y)) ⌝ }
+{
+    let opcode = f.opcode;
+    if opcode < 5 {
+        return leaf(table, counts, f);
+    }
+    if is_asked(f) {
+        let value = asked(table, counts, f, x, y);
+        let Evaluation::Value(z) = value else {
+            return Found::Nothing;
+        };
+        return Found::Value(z);
+    }
+    Found::Value(arithmetic(f, x, y))
+}
+
+// The lack of a step that has no value.
+fn lack(table: &[u64], counts: Counts, f: Fields, x: Complex, y: Complex) -> Evaluation
+    requires { ⌜ 0 < f .opcode ⌝ }
+    ensures { λ r. ⌜ (Held (now (table .entry)) counts → seenValue (valueOf (rowsOf (now (table .entry)) counts) (stepOf f) x y) ≡ missing → r ≡ valueOf (rowsOf (now (table .entry)) counts) (stepOf f) x y) ⌝ }
+{
+    let opcode = f.opcode;
+    if opcode < 5 {
+        return Evaluation::Incomplete;
+    }
+    asked(table, counts, f, x, y)
 }
 
 // The slot above one of the 64; the last one has none and stands for itself.
@@ -64,12 +165,14 @@ pub fn play(tape: &[u8], table: &[u64], counts: Counts) -> Evaluation
     };
     let mut i: usize = 0;
     while i < count {
-        let s = step_of(fields_at(tape, 24 * i));
-        let slot = player.depth - takes(s);
+        let f = fields_at(tape, 24 * i);
+        let slot = player.depth - taken(f);
         let next = above(slot);
-        let value = step(table, counts, s, player.stack[slot], player.stack[next]);
-        let Evaluation::Value(z) = value else {
-            return value;
+        let x = player.stack[slot];
+        let y = player.stack[next];
+        let found = value_of(table, counts, f, x, y);
+        let Found::Value(z) = found else {
+            return lack(table, counts, f, x, y);
         };
         player.stack[slot] = z;
         player.depth = slot + 1;

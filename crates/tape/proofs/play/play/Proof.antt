@@ -1,10 +1,12 @@
 -- `play` meets its contract: after each step the player has the definition's stack. Assumes nothing.
 use Prim.Native.Nat.{_-_}
-use mathlib.Core.Path.{refl, ap}
+use mathlib.Core.Path.{refl, sym, ap, _∙_}
 use lib.ListN.{getD}
 use Rattle.tape.specs.Run.{filler}
 use native.Mathlib.Omega.{arith}
-use Rattle.tape.proofs.Stacks.{slot-is, player-left, player-stops, play-ends}
+use Rattle.sheet.specs.Table.{seenFound}
+use Rattle.tape.proofs.Ways.{seen-is}
+use Rattle.tape.proofs.Stacks.{some-opcode, slot-is, player-left, player-stops, play-ends}
 use Rattle.tape.proofs.Standing.{stood-same, player-stands, Going, played-begins, player-goes}
 use borrow.Author.Needs.{needs}
 use Rattle.tape.proofs.play.play.Statement.{statement}
@@ -27,21 +29,22 @@ play-spec =
     (λ c. omega (arith, c .loop-test .taken, c .before .loop .inv .left .long))
     (λ c κs. omega (arith, c .loop-test .taken))
     (λ c κs. search needs)
-    (λ c κs. search needs)
-    (λ c. let t = slot-is (c .before .before .before .before .loop .inv .left) (c .before .before .before .loop-test .taken) (c .before .before .fields-at .ensures) (c .before .step-of .ensures) (c .takes .ensures .0) in omega (arith, t .enough, t .room))
-    (λ c κs. let t = slot-is (c .before .before .before .before .loop .inv .left) (c .before .before .before .loop-test .taken) (c .before .before .fields-at .ensures) (c .before .step-of .ensures) (c .takes .ensures .0) in omega (arith, t .enough, t .room))
-    (λ c. let t = slot-is (c .before .before .before .before .before .loop .inv .left) (c .before .before .before .before .loop-test .taken) (c .before .before .before .fields-at .ensures) (c .before .before .step-of .ensures) (c .before .takes .ensures .0) in omega (arith, t .enough, t .room))
-    (λ c. let t = slot-is (c .before .before .before .before .before .loop .inv .left) (c .before .before .before .before .loop-test .taken) (c .before .before .before .fields-at .ensures) (c .before .before .step-of .ensures) (c .before .takes .ensures .0) in omega (arith, t .enough, t .room))
-    (λ c. let t = slot-is (c .before .before .before .before .before .before .loop .inv .left) (c .before .before .before .before .before .loop-test .taken) (c .before .before .before .before .fields-at .ensures) (c .before .before .before .step-of .ensures) (c .before .before .takes .ensures .0) in omega (arith, t .enough, t .room))
+    (λ c. let t = slot-is (c .before .before .before .loop .inv .left) (c .before .before .loop-test .taken) (c .before .fields-at .ensures) refl (c .taken .ensures .0) in omega (arith, t .enough, t .room))
+    (λ c κs. let t = slot-is (c .before .before .before .loop .inv .left) (c .before .before .loop-test .taken) (c .before .fields-at .ensures) refl (c .taken .ensures .0) in omega (arith, t .enough, t .room))
+    (λ c. let t = slot-is (c .before .before .before .before .loop .inv .left) (c .before .before .before .loop-test .taken) (c .before .before .fields-at .ensures) refl (c .before .taken .ensures .0) in omega (arith, t .enough, t .room))
+    (λ c. let t = slot-is (c .before .before .before .before .loop .inv .left) (c .before .before .before .loop-test .taken) (c .before .before .fields-at .ensures) refl (c .before .taken .ensures .0) in omega (arith, t .enough, t .room))
+    (λ c. let t = slot-is (c .before .before .before .before .before .loop .inv .left) (c .before .before .before .before .loop-test .taken) (c .before .before .before .fields-at .ensures) refl (c .before .before .taken .ensures .0) in omega (arith, t .enough, t .room))
     (λ c. c .before .above .ensures .0)
-    (λ c κs. search needs)
+    (λ c κs. some-opcode (c .before .before .before .before .before .before .loop .inv .left) (c .before .before .before .before .before .loop-test .taken) (c .before .before .before .before .fields-at .ensures) refl)
     (λ c. search needs)
-    (λ c. λ h. player-stops (c .before .before .before .before .before .before .before .before .before .loop .inv .left) (c .before .before .before .before .before .before .before .before .loop-test .taken) (c .before .before .before .before .before .before .before .fields-at .ensures) (c .before .before .before .before .before .before .step-of .ensures) (c .before .before .before .before .before .takes .ensures .0) _ _ (stood-same (c .before .before .before .before .before .before .before .before .before .loop .inv .stood h)) _ (λ l. ap (λ k. getD (c .before .before .before .before .before .before .before .before .before .loop .player .stack) k filler) (c .before .before .before .before .above .ensures .1 (omega (arith, l)))) (c .before .step .ensures h) (c .match .keys2))
-    (λ c. let t = slot-is (c .before .before .before .before .before .before .before .before .before .before .before .loop .inv .left) (c .before .before .before .before .before .before .before .before .before .before .loop-test .taken) (c .before .before .before .before .before .before .before .before .before .fields-at .ensures) (c .before .before .before .before .before .before .before .before .step-of .ensures) (c .before .before .before .before .before .before .before .takes .ensures .0) in omega (arith, t .enough, t .room))
-    (λ c. let t = slot-is (c .before .before .before .before .before .before .before .before .before .before .before .loop .inv .left) (c .before .before .before .before .before .before .before .before .before .before .loop-test .taken) (c .before .before .before .before .before .before .before .before .before .fields-at .ensures) (c .before .before .before .before .before .before .before .before .step-of .ensures) (c .before .before .before .before .before .before .before .takes .ensures .0) in omega (arith, t .enough, t .room))
-    (λ c. let t = slot-is (c .before .before .before .before .before .before .before .before .before .before .before .loop .inv .left) (c .before .before .before .before .before .before .before .before .before .before .loop-test .taken) (c .before .before .before .before .before .before .before .before .before .fields-at .ensures) (c .before .before .before .before .before .before .before .before .step-of .ensures) (c .before .before .before .before .before .before .before .takes .ensures .0) in omega (arith, t .enough, t .room))
-    (λ c. omega (arith, c .before .before .before .before .before .before .before .before .before .before .loop-test .taken, c .before .before .before .before .before .before .before .before .before .before .before .loop .inv .left .long))
-    (λ c. omega (arith, c .before .before .before .before .before .before .before .before .before .before .loop-test .taken))
-    (λ c. player-goes _ _ (c .before .before .before .before .before .before .before .before .before .before .before .loop .inv) (player-left (c .before .before .before .before .before .before .before .before .before .before .before .loop .inv .left) (c .before .before .before .before .before .before .before .before .before .before .loop-test .taken) (c .before .before .before .before .before .before .before .before .before .fields-at .ensures) (c .before .before .before .before .before .before .before .before .step-of .ensures) (c .before .before .before .before .before .before .before .takes .ensures .0)) λ h. player-stands (c .before .before .before .before .before .before .before .before .before .before .before .loop .inv .left) (c .before .before .before .before .before .before .before .before .before .before .loop-test .taken) (c .before .before .before .before .before .before .before .before .before .fields-at .ensures) (c .before .before .before .before .before .before .before .before .step-of .ensures) (c .before .before .before .before .before .before .before .takes .ensures .0) _ _ (c .before .before .before .before .before .before .before .before .before .before .before .loop .inv .stood h) _ (λ l. ap (λ k. getD (c .before .before .before .before .before .before .before .before .before .before .before .loop .player .stack) k filler) (c .before .before .before .before .before .before .above .ensures .1 (omega (arith, l)))) (c .before .before .before .step .ensures h) (c .before .before .before .before .before .before .before .before .before .before .before .loop .inv .long) (c .before .value .given .1))
+    (λ c. search needs)
+    (λ c κs. some-opcode (c .before .before .before .before .before .before .before .before .before .loop .inv .left) (c .before .before .before .before .before .before .before .before .loop-test .taken) (c .before .before .before .before .before .before .before .fields-at .ensures) refl)
+    (λ c. λ h. let m = sym (c .before .before .before .value-of .ensures h) ∙ ap seenFound (c .before .enum-told .given .1) in player-stops (c .before .before .before .before .before .before .before .before .before .before .loop .inv .left) (c .before .before .before .before .before .before .before .before .before .loop-test .taken) (c .before .before .before .before .before .before .before .before .fields-at .ensures) refl (c .before .before .before .before .before .before .before .taken .ensures .0) _ _ (stood-same (c .before .before .before .before .before .before .before .before .before .before .loop .inv .stood h)) _ (λ l. ap (λ k. getD (c .before .before .before .before .before .before .before .before .before .before .loop .player .stack) k filler) (c .before .before .before .before .before .before .above .ensures .1 (omega (arith, l)))) (c .lack .ensures h m) m)
+    (λ c. let t = slot-is (c .before .before .before .before .before .before .before .before .before .before .loop .inv .left) (c .before .before .before .before .before .before .before .before .before .loop-test .taken) (c .before .before .before .before .before .before .before .before .fields-at .ensures) refl (c .before .before .before .before .before .before .before .taken .ensures .0) in omega (arith, t .enough, t .room))
+    (λ c. let t = slot-is (c .before .before .before .before .before .before .before .before .before .before .loop .inv .left) (c .before .before .before .before .before .before .before .before .before .loop-test .taken) (c .before .before .before .before .before .before .before .before .fields-at .ensures) refl (c .before .before .before .before .before .before .before .taken .ensures .0) in omega (arith, t .enough, t .room))
+    (λ c. let t = slot-is (c .before .before .before .before .before .before .before .before .before .before .loop .inv .left) (c .before .before .before .before .before .before .before .before .before .loop-test .taken) (c .before .before .before .before .before .before .before .before .fields-at .ensures) refl (c .before .before .before .before .before .before .before .taken .ensures .0) in omega (arith, t .enough, t .room))
+    (λ c. omega (arith, c .before .before .before .before .before .before .before .before .before .loop-test .taken, c .before .before .before .before .before .before .before .before .before .before .loop .inv .left .long))
+    (λ c. omega (arith, c .before .before .before .before .before .before .before .before .before .loop-test .taken))
+    (λ c. player-goes _ _ (c .before .before .before .before .before .before .before .before .before .before .loop .inv) (player-left (c .before .before .before .before .before .before .before .before .before .before .loop .inv .left) (c .before .before .before .before .before .before .before .before .before .loop-test .taken) (c .before .before .before .before .before .before .before .before .fields-at .ensures) refl (c .before .before .before .before .before .before .before .taken .ensures .0)) λ h. player-stands (c .before .before .before .before .before .before .before .before .before .before .loop .inv .left) (c .before .before .before .before .before .before .before .before .before .loop-test .taken) (c .before .before .before .before .before .before .before .before .fields-at .ensures) refl (c .before .before .before .before .before .before .before .taken .ensures .0) _ _ (c .before .before .before .before .before .before .before .before .before .before .loop .inv .stood h) _ (λ l. ap (λ k. getD (c .before .before .before .before .before .before .before .before .before .before .loop .player .stack) k filler) (c .before .before .before .before .before .before .above .ensures .1 (omega (arith, l)))) (seen-is _ (ap seenFound (sym (c .before .found .given .1)) ∙ c .before .before .before .value-of .ensures h)) (c .before .before .before .before .before .before .before .before .before .before .loop .inv .long) refl)
     (λ c. omega arith)
     (λ c. λ h. play-ends _ _ _ _ _ (c .before .before .loop .inv .left) (c .before .loop-test .left) (stood-same (c .before .before .loop .inv .stood h)) refl))
