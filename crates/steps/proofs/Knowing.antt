@@ -1,7 +1,7 @@
 -- Known fields are those of the step that they say, and a step is what its fields say. Assumes nothing.
 use mathlib.Core.Path.{_≡_, refl, sym, ap, subst, _∙_}
 use mathlib.Core.Bool.{Bool, true, false, _&&_}
-use Prim.Native.Nat.{ℕ, zero, suc, _≤_}
+use Prim.Native.Nat.{ℕ, zero, suc, _<_, _≤_}
 use native.Mathlib.Omega.{arith}
 use native.Mathlib.Decide.{decLt}
 use lib.Dec.{T, eqb}
@@ -101,6 +101,13 @@ pub as-infix : (f : Fields) → (((((((Unit {0} × (f .opcode ≡ 1 → ⊥)) ×
     → Step.Infix (infixOf (f .sub)) ≡ stepOf f
 unfolding stepOf
 as-infix f ((((((_, p), q), r), s), t), u) = rw (ne-eqb (f .opcode) 1 p, ne-eqb (f .opcode) 2 q, ne-eqb (f .opcode) 3 r, ne-eqb (f .opcode) 4 s, ne-eqb (f .opcode) 5 t, ne-eqb (f .opcode) 6 u) refl
+
+-- above 6, and 0
+pub as-last : (f : Fields) → 4 < f .opcode → ((Unit {0} × (f .opcode ≡ 5 → ⊥)) × (f .opcode ≡ 6 → ⊥)) → Step.Infix (infixOf (f .sub)) ≡ stepOf f
+as-last f l ((_, p), q) = as-infix f ((((((tt, λ e. omega (arith, l, e)), λ e. omega (arith, l, e)), λ e. omega (arith, l, e)), λ e. omega (arith, l, e)), p), q)
+
+pub as-none : (f : Fields) → (f .opcode ≡ 1 → ⊥) → f .opcode ≤ 4 → (((Unit {0} × (f .opcode ≡ 2 → ⊥)) × (f .opcode ≡ 3 → ⊥)) × (f .opcode ≡ 4 → ⊥)) → Step.Infix (infixOf (f .sub)) ≡ stepOf f
+as-none f n l (((_, p), q), r) = as-infix f ((((((tt, n), p), q), r), λ e. omega (arith, l, e)), λ e. omega (arith, l, e))
 
 -- known fields are those of the step that they say
 pub known-same : (f : Fields) → same f (fieldsOf (stepOf f)) ≡ known f

@@ -21,7 +21,7 @@ use Rattle.evaluation.specs.Evaluating.{bound, leafValue, calculateInfix}
 use Rattle.steps.specs.declared.Step.{Step}
 use Rattle.steps.specs.declared.Fields.{Fields}
 use Rattle.steps.specs.Steps.{known, stepOf}
-use Rattle.steps.proofs.Knowing.{Which, one, two, three, four, five, six, seven, other, which, as-infix}
+use Rattle.steps.proofs.Knowing.{Which, one, two, three, four, five, six, seven, other, which, as-infix, as-last}
 use Rattle.tape.specs.Tapes.{takes}
 use Rattle.tape.specs.Run.{valueOf, seenValue, asks}
 use Rattle.tape.proofs.Checking.{never}
@@ -128,8 +128,7 @@ module _ (f : Fields) where
   as-prefix e = rw e refl
 
   pub as-operator : 4 < f .opcode → (f .opcode ≡ 5 → ⊥) → (f .opcode ≡ 6 → ⊥) → stepOf f ≡ Step.Infix (infixOf (f .sub))
-  as-operator l p q =
-      sym (as-infix f ((((((tt, λ e. omega (arith, l, e)), λ e. omega (arith, l, e)), λ e. omega (arith, l, e)), λ e. omega (arith, l, e)), p), q))
+  as-operator l p q = sym (as-last f l ((tt, p), q))
 
   -- known fields have an opcode
   pub known-some : known f ≡ true → 0 < f .opcode
