@@ -127,7 +127,7 @@ one-put e at n b h q = rw (decimal-one n h, q) (put-byte e at (byteOf n))
 pub more-put : {e m : List ℕ} {at n p : ℕ} (b : ℕ) → 10 ≤ n → Put e at (inDecimal (n / 10)) p m → b ≡ byteOf (n % 10) → Put e at (inDecimal n) (p + 1) (set m p b)
 more-put {e} {m} {at} {n} {p} b h a q = rw (decimal-more n h, q) (put-then a (put-byte m p (byteOf (n % 10))))
 
--- two digits
+-- two digits, and three
 pub two-length : (n : ℕ) → 10 ≤ n → n < 100 → length (inDecimal n) ≡ 2
 two-length n l h = omega (arith, more-length n l, one-length (n / 10) (omega arith))
 
@@ -136,6 +136,17 @@ three-length n l h = omega (arith, more-length n (omega arith), two-length (n / 
 
 pub two-put : (e : List ℕ) (at n a b : ℕ) → 10 ≤ n → n < 100 → a ≡ byteOf (n / 10) → b ≡ byteOf (n % 10) → Put e at (inDecimal n) (at + 2) (set (set e at a) (at + 1) b)
 two-put e at n a b l h p q = let z : at + 1 + 1 ≡ at + 2 = omega arith in rw z at (more-put b l (one-put e at (n / 10) a (omega arith) p) q)
+
+pub three-put : (e : List ℕ) (at n a b d : ℕ) → 100 ≤ n → n < 1000 → a ≡ byteOf (n / 100) → b ≡ byteOf (n / 10 % 10) → d ≡ byteOf (n % 10)
+    → Put e at (inDecimal n) (at + 3) (set (set (set e at a) (at + 1) b) (at + 2) d)
+three-put e at n a b d l h p q r =
+    let z : at + 2 + 1 ≡ at + 3 = omega arith in
+    let y : n / 100 ≡ n / 10 / 10 = omega arith in
+    rw z at (more-put d (omega arith) (two-put e at (n / 10) a b (omega arith) (omega arith) (rw y at p) q) r)
+
+-- the byte of a digit, from a table: each digit that is not among the first is above them, and the last is left
+pub not-yet : {k d : ℕ} → k ≤ d → (d ≡ k → ⊥) → suc k ≤ d
+not-yet h n = omega (arith, h, n)
 
 -- ---- hex digits, from the last to the first
 

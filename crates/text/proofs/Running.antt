@@ -56,6 +56,77 @@ module _ {A : Type 0} (s : List ℕ) (x : A) (next stop : ℕ) where
   unfolding ended
   ended-is p h = rw (here s next (inside s next (omega (arith, h, p))), eq-eqb (getD s next 0) stop h)
 
+-- ---- a digit
+
+pub data Digit (b : ℕ) : Type 0 where
+  from-0-to-9 : 48 ≤ b → b ≤ 57 → digitOf b ≡ b - 48 → Digit b
+  from-A-to-F : 65 ≤ b → b ≤ 70 → digitOf b ≡ 10 + (b - 65) → Digit b
+  no-digit-at-all : ((48 ≤ b) × (b ≤ 57) → ⊥) → ((65 ≤ b) × (b ≤ 70) → ⊥) → digitOf b ≡ 16 → Digit b
+
+pub which-digit : (b : ℕ) → Digit b
+unfolding digitOf
+which-digit b = elim (decLt b 48) [
+  | yes l ↦ no-digit-at-all (λ h. omega (arith, h .0)) (λ h. omega (arith, h .0)) (rw (lt-leb 48 b l, lt-leb 65 b (omega arith)))
+  | no g ↦ elim (decLt b 58) [
+    | yes l ↦ from-0-to-9 (omega arith) (omega arith) (rw (le-leb 48 b (omega arith), le-leb b 57 (omega arith)))
+    | no g ↦ elim (decLt b 65) [
+      | yes l ↦ no-digit-at-all (λ h. omega (arith, h .1)) (λ h. omega (arith, h .0)) (rw (le-leb 48 b (omega arith), lt-leb b 57 (omega arith), lt-leb 65 b l))
+      | no g ↦ elim (decLt b 71) [
+        | yes l ↦ from-A-to-F (omega arith) (omega arith) (rw (le-leb 48 b (omega arith), lt-leb b 57 (omega arith), le-leb 65 b (omega arith), le-leb b 70 (omega arith)))
+        | no g ↦ no-digit-at-all (λ h. omega (arith, h .1)) (λ h. omega (arith, h .1)) (rw (le-leb 48 b (omega arith), lt-leb b 57 (omega arith), le-leb 65 b (omega arith), lt-leb b 70 (omega arith)))
+      ]
+    ]
+  ]
+]
+
+-- a difference that wraps round
+pub low-wraps : (b r : ℕ) → b < 2 ^ 8 → r < 2 ^ 8 → (r + 48) % 2 ^ 8 ≡ b → r ≡ lowDigit b
+unfolding lowDigit
+low-wraps b r hb hr e = elim (decLt b 48) [ yes l ↦ rw (lt-ltb b 48 l) (omega arith) | no g ↦ rw (le-ltb b 48 (omega arith)) (omega arith) ]
+
+pub high-wraps : (b r : ℕ) → b < 2 ^ 8 → r < 2 ^ 8 → (r + 65) % 2 ^ 8 ≡ b → r ≡ highDigit b
+unfolding highDigit
+high-wraps b r hb hr e = elim (decLt b 65) [ yes l ↦ rw (lt-ltb b 65 l) (omega arith) | no g ↦ rw (le-ltb b 65 (omega arith)) (omega arith) ]
+
+pub digit-low : (b : ℕ) {low : ℕ} → low ≡ lowDigit b → low < 10 → low ≡ digitOf b
+unfolding lowDigit
+digit-low b {low} q h = elim (decLt b 48) [
+  | yes l ↦ let k : low ≡ b + 208 = rw (lt-ltb b 48 l) at q in absurd (omega (arith, k, h))
+  | no g ↦ let k : low ≡ b - 48 = rw (le-ltb b 48 (omega arith)) at q in elim (which-digit b) [
+    | from-0-to-9 l u e ↦ k ∙ sym e
+    | from-A-to-F l u e ↦ absurd (omega (arith, k, h, l))
+    | no-digit-at-all p q e ↦ absurd (p (omega (arith, g), omega (arith, k, h)))
+  ]
+]
+
+pub digit-high : (b : ℕ) {high : ℕ} → high ≡ highDigit b → high < 6 → high + 10 ≡ digitOf b
+unfolding highDigit
+digit-high b {high} q h = elim (decLt b 65) [
+  | yes l ↦ let k : high ≡ b + 191 = rw (lt-ltb b 65 l) at q in absurd (omega (arith, k, h))
+  | no g ↦ let k : high ≡ b - 65 = rw (le-ltb b 65 (omega arith)) at q in elim (which-digit b) [
+    | from-0-to-9 l u e ↦ absurd (omega (arith, g, u))
+    | from-A-to-F l u e ↦ omega (arith, k, e)
+    | no-digit-at-all p q e ↦ absurd (q (omega (arith, g), omega (arith, g, k, h)))
+  ]
+]
+
+-- any other byte is no decimal digit, and no hex digit
+pub decimal-none : (b : ℕ) {low : ℕ} → low ≡ lowDigit b → 10 ≤ low → 10 ≤ digitOf b
+unfolding lowDigit
+decimal-none b {low} q h = elim (which-digit b) [
+  | from-0-to-9 l u e ↦ let k : low ≡ b - 48 = rw (le-ltb b 48 l) at q in absurd (omega (arith, k, h, u))
+  | from-A-to-F l u e ↦ omega (arith, e)
+  | no-digit-at-all p q e ↦ omega (arith, e)
+]
+
+pub digit-none : (b : ℕ) {low high : ℕ} → low ≡ lowDigit b → high ≡ highDigit b → 10 ≤ low → 6 ≤ high → 16 ≡ digitOf b
+unfolding highDigit
+digit-none b {low} {high} p q l h = elim (which-digit b) [
+  | from-0-to-9 m u e ↦ absurd (omega (arith, u, m, e, decimal-none b p l))
+  | from-A-to-F m u e ↦ let k : high ≡ b - 65 = rw (le-ltb b 65 m) at q in absurd (omega (arith, k, h, u))
+  | no-digit-at-all m u e ↦ sym e
+]
+
 -- ---- a run of decimal digits
 
 -- it goes on at a digit, and ends at any other byte and at the end of the text
@@ -93,11 +164,11 @@ pub record Going (s : List ℕ) (at limit first d v i : ℕ) : Type 0 where
   pub lead : at < i → first < 10
   pub inside : at < i → i ≤ length s
   pub start : at ≡ i → d ≡ first
-  pub digit : d ≡ digitOf (getD s i 0)
+  pub digit : d ≡ lowDigit (getD s i 0)
   pub place : i + length (run (drop i s)) ≡ at + length (run (drop at s))
   pub number : value v (run (drop i s)) ≡ value 0 (run (drop at s))
 
-pub begins : (s : List ℕ) (at limit d : ℕ) → d ≡ digitOf (getD s at 0) → Going s at limit d d 0 at
+pub begins : (s : List ℕ) (at limit d : ℕ) → d ≡ lowDigit (getD s at 0) → Going s at limit d d 0 at
 begins s at limit d e = record {
   from = omega arith;
   small = omega arith;
@@ -112,12 +183,12 @@ begins s at limit d e = record {
 
 module _ {s : List ℕ} {at limit f d v i : ℕ} (g : Going s at limit f d v i) where
   at-digit : d < 10 → run (drop i s) ≡ d ∷ run (drop (i + 1) s)
-  at-digit h = rw (g .digit) (run-more s i (rw (g .digit) at h))
+  at-digit h = let e = sym (digit-low (getD s i 0) (g .digit) h) in rw e at (run-more s i (omega (arith, e, h)))
 
   pub in-text : d < 10 → i < length s
-  in-text h = within s i (omega (arith, g .digit))
+  in-text h = within s i (omega (arith, digit-low (getD s i 0) (g .digit) h))
 
-  pub goes-on : (e : ℕ) → d < 10 → v * 10 + d < limit → e ≡ digitOf (getD s (i + 1) 0) → Going s at limit f e (v * 10 + d) (i + 1)
+  pub goes-on : (e : ℕ) → d < 10 → v * 10 + d < limit → e ≡ lowDigit (getD s (i + 1) 0) → Going s at limit f e (v * 10 + d) (i + 1)
   unfolding value
   goes-on e h m q = record {
     from = omega (arith, g .from);
@@ -138,7 +209,7 @@ module _ {s : List ℕ} {at limit f d v i : ℕ} (g : Going s at limit f d v i) 
   -- at any other byte
   module _ (stop : 10 ≤ d) where
     none-left : run (drop i s) ≡ []
-    none-left = run-none s i (omega (arith, g .digit, stop))
+    none-left = run-none s i (decimal-none (getD s i 0) (g .digit) stop)
 
     long : at + length (run (drop at s)) ≡ i
     long = omega (arith, rw none-left at (g .place))
@@ -154,13 +225,16 @@ module _ {s : List ℕ} {at limit f d v i : ℕ} (g : Going s at limit f d v i) 
     unfolding decimal spelt
     no-digit e = let z : run (drop at s) ≡ [] = rw e at none-left in sym (rw z)
 
-    module _ (first : f ≡ digitOf (getD s at 0)) (some : i ≡ at → ⊥) where
+    module _ (first : f ≡ lowDigit (getD s at 0)) (some : i ≡ at → ⊥) where
       tail : List ℕ
       tail = run (drop (at + 1) s)
 
       leads : run (drop at s) ≡ f ∷ tail
       unfolding tail
-      leads = rw first (run-more s at (omega (arith, first, g .lead (omega (arith, g .from, some)))))
+      leads =
+          let l = g .lead (omega (arith, g .from, some)) in
+          let e = sym (digit-low (getD s at 0) first l) in
+          rw e at (run-more s at (omega (arith, e, l)))
 
       tail-long : length tail ≡ i - at - 1
       tail-long = omega (arith, rw leads at long)
@@ -182,58 +256,6 @@ module _ {s : List ℕ} {at limit f d v i : ℕ} (g : Going s at limit f d v i) 
           let r = rw leads at rest-is in
           let q = rw leads at spells in
           sym (rw (leads, ne-eqb f 0 z, r, q, lt-ltb v limit (g .below (omega (arith, g .from, some)))))
-
--- ---- a digit
-
-pub data Digit (b : ℕ) : Type 0 where
-  from-0-to-9 : 48 ≤ b → b ≤ 57 → digitOf b ≡ b - 48 → Digit b
-  from-A-to-F : 65 ≤ b → b ≤ 70 → digitOf b ≡ 10 + (b - 65) → Digit b
-  no-digit-at-all : ((48 ≤ b) × (b ≤ 57) → ⊥) → ((65 ≤ b) × (b ≤ 70) → ⊥) → digitOf b ≡ 16 → Digit b
-
-pub which-digit : (b : ℕ) → Digit b
-unfolding digitOf
-which-digit b = elim (decLt b 48) [
-  | yes l ↦ no-digit-at-all (λ h. omega (arith, h .0)) (λ h. omega (arith, h .0)) (rw (lt-leb 48 b l, lt-leb 65 b (omega arith)))
-  | no g ↦ elim (decLt b 58) [
-    | yes l ↦ from-0-to-9 (omega arith) (omega arith) (rw (le-leb 48 b (omega arith), le-leb b 57 (omega arith)))
-    | no g ↦ elim (decLt b 65) [
-      | yes l ↦ no-digit-at-all (λ h. omega (arith, h .1)) (λ h. omega (arith, h .0)) (rw (le-leb 48 b (omega arith), lt-leb b 57 (omega arith), lt-leb 65 b l))
-      | no g ↦ elim (decLt b 71) [
-        | yes l ↦ from-A-to-F (omega arith) (omega arith) (rw (le-leb 48 b (omega arith), lt-leb b 57 (omega arith), le-leb 65 b (omega arith), le-leb b 70 (omega arith)))
-        | no g ↦ no-digit-at-all (λ h. omega (arith, h .1)) (λ h. omega (arith, h .1)) (rw (le-leb 48 b (omega arith), lt-leb b 57 (omega arith), le-leb 65 b (omega arith), lt-leb b 70 (omega arith)))
-      ]
-    ]
-  ]
-]
-
-pub digit-low : (b : ℕ) → b < 58 → lowDigit b ≡ digitOf b
-unfolding lowDigit
-digit-low b h = elim (which-digit b) [
-  | from-0-to-9 l g e ↦ rw (le-ltb b 48 l) (sym e)
-  | from-A-to-F l g e ↦ absurd (omega (arith, l))
-  | no-digit-at-all p q e ↦ elim (decLt b 48) [
-    | yes l ↦ rw (lt-ltb b 48 l) (sym e)
-    | no g ↦ absurd (p (omega arith, omega arith))
-  ]
-]
-
-pub digit-high : (b : ℕ) → 58 ≤ b → b < 71 → highDigit b ≡ digitOf b
-unfolding highDigit
-digit-high b l h = elim (which-digit b) [
-  | from-0-to-9 p q e ↦ absurd (omega (arith, q))
-  | from-A-to-F p q e ↦ rw (le-ltb b 65 p) (omega (arith, e, p))
-  | no-digit-at-all p q e ↦ elim (decLt b 65) [
-    | yes m ↦ rw (lt-ltb b 65 m) (sym e)
-    | no g ↦ absurd (q (omega arith, omega arith))
-  ]
-]
-
-pub digit-none : (b : ℕ) → 71 ≤ b → 16 ≡ digitOf b
-digit-none b h = elim (which-digit b) [
-  | from-0-to-9 l g e ↦ absurd (omega (arith, g))
-  | from-A-to-F l g e ↦ absurd (omega (arith, g))
-  | no-digit-at-all p q e ↦ sym e
-]
 
 -- ---- sixteen hex digits: what is left to be done is the whole, unless there was a byte that is none
 

@@ -1,6 +1,6 @@
 -- What the code's answer says, as what is read of a list of bytes. Only connecting.
 use mathlib.Core.Path.{_≡_}
-use Prim.Native.Nat.{ℕ, _-_, _≤_}
+use Prim.Native.Nat.{ℕ, _+_, _-_, _≤_}
 use mathlib.Core.Bool.{cond}
 use mathlib.Core.List.{List}
 use lib.ListN.{length, drop}
@@ -24,9 +24,10 @@ pub record Reads (want : Read ℕ) (text : List ℕ) (r : Number) : Type 0 where
   pub answer : seen text r ≡ want
   pub inside : Inside text r
 
--- the value of a byte as a digit 0-9, if it is below 58, and as a digit A-F, if it is below 71
+-- how far a byte is above that of 0, and above that of A, in the circle of the 256 bytes: below 10 for 0-9, below 6 for A-F (proofs/Running.antt,
+-- `digit-low`, `digit-high`, `digit-none`)
 unfoldable pub lowDigit : ℕ → ℕ
-lowDigit b = cond (ltb b 48) 16 (b - 48)
+lowDigit b = cond (ltb b 48) (b + 208) (b - 48)
 
 unfoldable pub highDigit : ℕ → ℕ
-highDigit b = cond (ltb b 65) 16 (b - 55)
+highDigit b = cond (ltb b 65) (b + 191) (b - 65)

@@ -4,6 +4,7 @@ ghost use Prim.Native.Nat.{_^_, _<_, _≤_, max};
 ghost use lib.ListN.{getD, drop};
 ghost use Rattle.text.specs.Reading.{digitOf, decimal, hex, starts, ended, decimalField, hexField};
 ghost use Rattle.text.specs.Seen.{seen, Reads, lowDigit, highDigit};
+use std::num::wrapping_sub_u8;
 
 // What is read at a place: a number and the place after it, or none such.
 pub enum Number {
@@ -18,32 +19,46 @@ pub fn byte_at(s: &[u8], i: usize) -> u8
     if i < s.len() { s[i] } else { 0 }
 }
 
-fn low_digit(b: u8) -> u64
+// How far a byte is above that of 0, in the circle of the 256 bytes: a digit 0-9 is below 10, any other byte is not.
+fn low_digit(b: u8) -> u8
     ensures { λ r. ⌜ r ≡ lowDigit b ⌝ }
 {
-    if b < 48 { 16 } else { (b as u64) - 48 }
+    wrapping_sub_u8(b, 48)
 }
 
-fn high_digit(b: u8) -> u64
+// The same from A on: A-F are below 6.
+fn high_digit(b: u8) -> u8
     ensures { λ r. ⌜ r ≡ highDigit b ⌝ }
 {
-    if b < 65 { 16 } else { (b as u64) - 55 }
+    wrapping_sub_u8(b, 65)
 }
 
 // The value of a digit 0-9 or A-F, and 16 for any other byte. Both are worked out before one is chosen, so that
-// nothing has to be foretold.
-pub fn digit(b: u8) -> u64
+// nothing has to be foretold, and in bytes, so that the processor takes 16 of them at once.
+fn hex_digit(b: u8) -> u8
     ensures { λ r. ⌜ r ≡ digitOf b ⌝ }
 {
     let low = low_digit(b);
     let high = high_digit(b);
-    if b < 58 {
+    if low < 10 {
         return low;
     }
-    if b < 71 { high } else { 16 }
+    if high < 6 { high + 10 } else { 16 }
 }
 
-fn greater(a: u64, b: u64) -> u64
+pub fn digit(b: u8) -> u64
+    ensures { λ r. ⌜ r ≡ digitOf b ⌝ }
+{
+    hex_digit(b) as u64
+}
+
+fn decimal_digit(b: u8) -> u64
+    ensures { λ r. ⌜ r ≡ lowDigit b ⌝ }
+{
+    low_digit(b) as u64
+}
+
+fn greater(a: u8, b: u8) -> u8
     ensures { λ r. ⌜ r ≡ max a b ⌝ }
 {
     if a < b { b } else { a }
@@ -54,7 +69,7 @@ pub fn read_decimal(s: &[u8], at: usize, limit: u64) -> Number
     requires { ⌜ limit ≤ 2 ^ 33 ⌝ }
     ensures { λ r. ⌜ Reads (decimal limit (drop at (now (s .entry)))) (now (s .entry)) r ⌝ }
 {
-    let first = digit(byte_at(s, at));
+    let first = decimal_digit(byte_at(s, at));
     let mut d = first;
     let mut v: u64 = 0;
     let mut i = at;
@@ -64,7 +79,7 @@ pub fn read_decimal(s: &[u8], at: usize, limit: u64) -> Number
             return Number::Bad;
         }
         i += 1;
-        d = digit(byte_at(s, i));
+        d = decimal_digit(byte_at(s, i));
     }
     if i == at {
         return Number::Bad;
@@ -88,11 +103,11 @@ pub fn read_hex(s: &[u8], at: usize) -> Number
         return Number::Bad;
     }
     let mut v: u64 = 0;
-    let mut worst: u64 = 0;
+    let mut worst: u8 = 0;
     let mut k: usize = 0;
     while k < 16 {
-        let d = digit(s[at + k]);
-        v = v * 16 + d % 16;
+        let d = hex_digit(s[at + k]);
+        v = v * 16 + (d % 16) as u64;
         worst = greater(worst, d);
         k += 1;
     }

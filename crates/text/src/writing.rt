@@ -7,15 +7,29 @@ ghost use lib.ListN.{length};
 ghost use Rattle.text.specs.Writing.{byteOf, inDecimal, inHex};
 ghost use Rattle.text.specs.Put.{Put};
 
-// The byte of a digit.
+// The byte of a digit, from a table: a test of each digit would have to be foretold.
 pub fn digit_byte(d: u64) -> u8
     requires { ⌜ d < 16 ⌝ }
     ensures { λ r. ⌜ r ≡ byteOf d ⌝ }
 {
-    if d < 10 {
-        return (48 + d) as u8;
+    match d {
+        0 => b'0',
+        1 => b'1',
+        2 => b'2',
+        3 => b'3',
+        4 => b'4',
+        5 => b'5',
+        6 => b'6',
+        7 => b'7',
+        8 => b'8',
+        9 => b'9',
+        10 => b'A',
+        11 => b'B',
+        12 => b'C',
+        13 => b'D',
+        14 => b'E',
+        _ => b'F',
     }
-    (55 + d) as u8
 }
 
 // How many bytes n takes in decimal.
@@ -64,6 +78,30 @@ fn write_two(out: &mut [u8], at: usize, n: u64) -> usize
     at + 2
 }
 
+fn write_three(out: &mut [u8], at: usize, n: u64) -> usize
+    requires { ⌜ (100 ≤ n) × (n < 1000) × (at + 3 ≤ length (now out)) ⌝ }
+    ensures { λ r. ⌜ Put (now (out .entry)) at (inDecimal n) r (now (out .exit)) ⌝ }
+{
+    out[at] = digit_byte(n / 100);
+    out[at + 1] = digit_byte(n / 10 % 10);
+    out[at + 2] = digit_byte(n % 10);
+    at + 3
+}
+
+// Any number, with a call for each digit.
+fn write_long(out: &mut [u8], at: usize, n: u64) -> usize
+    requires { ⌜ at + length (inDecimal n) ≤ length (now out) ⌝ }
+    ensures { λ r. ⌜ Put (now (out .entry)) at (inDecimal n) r (now (out .exit)) ⌝ }
+{
+    if n < 10 {
+        out[at] = digit_byte(n);
+        return at + 1;
+    }
+    let p = write_long(out, at, n / 10);
+    out[p] = digit_byte(n % 10);
+    p + 1
+}
+
 pub fn write_decimal(out: &mut [u8], at: usize, n: u64) -> usize
     requires { ⌜ at + length (inDecimal n) ≤ length (now out) ⌝ }
     ensures { λ r. ⌜ Put (now (out .entry)) at (inDecimal n) r (now (out .exit)) ⌝ }
@@ -75,9 +113,10 @@ pub fn write_decimal(out: &mut [u8], at: usize, n: u64) -> usize
     if n < 100 {
         return write_two(out, at, n);
     }
-    let p = write_decimal(out, at, n / 10);
-    out[p] = digit_byte(n % 10);
-    p + 1
+    if n < 1000 {
+        return write_three(out, at, n);
+    }
+    write_long(out, at, n)
 }
 
 // From the last digit to the first.

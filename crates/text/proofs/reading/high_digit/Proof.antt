@@ -1,16 +1,8 @@
 -- `high_digit` meets its contract. Assumes nothing.
-use mathlib.Core.Path.{sym}
-use borrow.Author.Tests.{lt-ltb, le-ltb}
-use Rattle.text.specs.Seen.{highDigit}
+use Rattle.text.proofs.Running.{high-wraps}
 use borrow.Author.Needs.{needs}
 use Rattle.text.proofs.reading.high_digit.Statement.{statement}
 use Rattle.text.proofs.reading.high_digit.Tie as tie
 
 pub high-digit-spec : {M : Type 1} → statement M
-unfolding highDigit
-high-digit-spec =
-    tie.close
-    (tie.spec
-    (λ c. search needs)
-    (λ c. sym (rw (lt-ltb _ _ (c .if1 .taken))))
-    (λ c. sym (rw (le-ltb _ _ (c .if1 .left)))))
+high-digit-spec = tie.close (tie.spec (λ c κs. search needs) (λ c. high-wraps _ _ (search needs) (search needs) (c .wrapping-sub-u8 .ensures)))
