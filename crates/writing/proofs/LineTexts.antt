@@ -1,21 +1,28 @@
--- The bytes of each kind of line, in the pieces in which they are written, and their lengths. Assumes nothing.
+-- The bytes of each kind of line, in the pieces in which they are written, and their lengths; and which line is that of a row. Assumes nothing.
 use mathlib.Core.Path.{_≡_, refl, sym, _∙_}
 use mathlib.Core.List.{List, [], _∷_, _++_, append-assoc}
-use Prim.Native.Nat.{ℕ, _+_, _≤_, _<_}
+use Prim.Native.Nat.{ℕ, zero, suc, _+_, _%_, _/_, _≤_, _<_}
 use native.Mathlib.Omega.{arith}
-use lib.ListN.{length, length-append}
+use lib.ListN.{length, getD, length-append}
 use Rattle.complex.specs.declared.Complex.{Complex}
 use Rattle.complex.specs.Bits.{bitsOf}
+use Rattle.complex.specs.Constants.{ofParts}
 use Rattle.expression.specs.declared.InfixOperator.{InfixOperator}
 use Rattle.expression.specs.declared.PrefixOperator.{PrefixOperator}
 use Rattle.expression.specs.declared.ExpressionFunction.{ExpressionFunction}
-use Rattle.expression.specs.Codes.{infixCode, prefixCode, functionCode}
+use Rattle.expression.specs.Codes.{infixCode, prefixCode, functionCode, infixOf, prefixOf, functionOf}
 use Rattle.expression.specs.declared.node.Expression.{Expression}
+use Rattle.expression.specs.Nodes.{operandsOf, withOperands}
+use Rattle.store.specs.declared.node.Fields.{Fields}
+use Rattle.store.specs.Nodes.{expressionAs, expressionOf}
+use Rattle.store.specs.Memory.{Memory, fieldsAt, expressionAt}
+use Rattle.listing.specs.Tables.{movedTo, moved}
 use Rattle.text.specs.Writing.{inDecimal, inHex, line}
+use Rattle.text.specs.Put.{Put}
 use Rattle.text.proofs.Putting.{hex-length, few-digits}
 use Rattle.spelling.specs.Names.{functionNames, prefixNames, infixNames, named}
 use Rattle.writing.specs.Order.{leafFields}
-use Rattle.writing.specs.Ordering.{textFields, lineText}
+use Rattle.writing.specs.Ordering.{textFields, lineText, lineAt}
 
 -- a field and the byte that ends it
 abbrev pub ending : List ℕ → ℕ → List ℕ
@@ -113,17 +120,82 @@ name-short ExpressionFunction.Cis = omega arith
 pub decimal-short : (n : ℕ) → n < 18446744073709551616 → length (inDecimal n) ≤ 20
 decimal-short n h = few-digits 19 n (omega (arith, h))
 
-pub variable-bound : {e : Expression} {v : ℕ} → e ≡ Expression.Variable v → v < 18446744073709551616 → length (lineText e) ≤ 23
-variable-bound {v = v} q h = rw (q, variable-length v) (omega (arith, decimal-short v h))
+pub number-short : (z : Complex) → length (lineText (Expression.Number z)) ≤ 64
+number-short z = omega (arith, number-length z)
 
-pub cell-bound : {e : Expression} {r i : ℕ} → e ≡ Expression.Address r i → r < 18446744073709551616 → i < 18446744073709551616 → length (lineText e) ≤ 44
-cell-bound {r = r} {i = i} q h o = rw (q, cell-length r i) (omega (arith, decimal-short r h, decimal-short i o))
+pub pi-short : length (lineText Expression.PiConstant) ≤ 64
+pi-short = omega (arith, pi-length)
 
-pub call-bound : {e : Expression} {f : ExpressionFunction} {a : ℕ} → e ≡ Expression.FunctionCall f a → a < 18446744073709551616 → length (lineText e) ≤ 28
-call-bound {f = f} {a = a} q h = rw (q, call-length f a) (omega (arith, decimal-short a h, name-short f))
+pub variable-short : (v : ℕ) → v < 18446744073709551616 → length (lineText (Expression.Variable v)) ≤ 64
+variable-short v h = omega (arith, variable-length v, decimal-short v h)
 
-pub prefix-bound : {e : Expression} {o : PrefixOperator} {a : ℕ} → e ≡ Expression.Prefix o a → a < 18446744073709551616 → length (lineText e) ≤ 25
-prefix-bound {o = o} {a = a} q h = rw (q, prefix-length o a) (omega (arith, decimal-short a h))
+pub cell-short : (r i : ℕ) → r < 18446744073709551616 → i < 18446744073709551616 → length (lineText (Expression.Address r i)) ≤ 64
+cell-short r i h o = omega (arith, cell-length r i, decimal-short r h, decimal-short i o)
 
-pub infix-bound : {e : Expression} {o : InfixOperator} {a b : ℕ} → e ≡ Expression.Infix o a b → a < 18446744073709551616 → b < 18446744073709551616 → length (lineText e) ≤ 46
-infix-bound {o = o} {a = a} {b = b} q h k = rw (q, infix-length o a b) (omega (arith, decimal-short a h, decimal-short b k))
+pub call-short : (f : ExpressionFunction) (a : ℕ) → a < 18446744073709551616 → length (lineText (Expression.FunctionCall f a)) ≤ 64
+call-short f a h = omega (arith, call-length f a, decimal-short a h, name-short f)
+
+pub prefix-short : (o : PrefixOperator) (a : ℕ) → a < 18446744073709551616 → length (lineText (Expression.Prefix o a)) ≤ 64
+prefix-short o a h = omega (arith, prefix-length o a, decimal-short a h)
+
+pub infix-short : (o : InfixOperator) (a b : ℕ) → a < 18446744073709551616 → b < 18446744073709551616 → length (lineText (Expression.Infix o a b)) ≤ 64
+infix-short o a b h k = omega (arith, infix-length o a b, decimal-short a h, decimal-short b k)
+
+pub short-room : (e : Expression) (at : ℕ) {room : ℕ} → length (lineText e) ≤ 64 → at + 64 ≤ room → at + length (lineText e) ≤ room
+short-room e at s h = omega (arith, s, h)
+
+-- ---- the line of a row, by its kind
+
+module _ (links : List ℕ) (f : Fields) where
+  pub row-number : {z : Complex} → f .code % 8 ≡ 1 → z ≡ ofParts (f .first) (f .second) → Expression.Number z ≡ moved links (expressionOf f)
+  unfolding expressionOf expressionAs movedTo operandsOf
+  row-number k q = rw (k, q) refl
+
+  pub row-pi : f .code % 8 ≡ 2 → Expression.PiConstant ≡ moved links (expressionOf f)
+  unfolding expressionOf expressionAs movedTo operandsOf
+  row-pi k = rw k refl
+
+  pub row-variable : f .code % 8 ≡ 3 → Expression.Variable (f .first % 65536) ≡ moved links (expressionOf f)
+  unfolding expressionOf expressionAs movedTo operandsOf
+  row-variable k = rw k refl
+
+  pub row-cell : f .code % 8 ≡ 4 → Expression.Address (f .first % 65536) (f .second % 4294967296) ≡ moved links (expressionOf f)
+  unfolding expressionOf expressionAs movedTo operandsOf
+  row-cell k = rw k refl
+
+  pub row-call : {g : ExpressionFunction} {a : ℕ} → f .code % 8 ≡ 5 → g ≡ functionOf (f .code / 8) → a ≡ getD links (f .first) 0 → Expression.FunctionCall g a ≡ moved links (expressionOf f)
+  unfolding expressionOf expressionAs movedTo operandsOf withOperands
+  row-call k q p = rw (k, q, p) refl
+
+  pub row-prefix : {o : PrefixOperator} {a : ℕ} → f .code % 8 ≡ 6 → o ≡ prefixOf (f .code / 8) → a ≡ getD links (f .first) 0 → Expression.Prefix o a ≡ moved links (expressionOf f)
+  unfolding expressionOf expressionAs movedTo operandsOf withOperands
+  row-prefix k q p = rw (k, q, p) refl
+
+  -- the last stands for any other too
+  moved-infix : (k o a b : ℕ)
+      → ((((((Unit {0} × (k ≡ 1 → ⊥)) × (k ≡ 2 → ⊥)) × (k ≡ 3 → ⊥)) × (k ≡ 4 → ⊥)) × (k ≡ 5 → ⊥)) × (k ≡ 6 → ⊥))
+      → Expression.Infix (infixOf o) (getD links a 0) (getD links b 0) ≡ moved links (expressionAs k o a b)
+  unfolding expressionAs movedTo operandsOf withOperands
+  moved-infix zero o a b h = refl
+  moved-infix (suc zero) o a b h = absurd (h .0 .0 .0 .0 .0 .1 refl)
+  moved-infix (suc (suc zero)) o a b h = absurd (h .0 .0 .0 .0 .1 refl)
+  moved-infix (suc (suc (suc zero))) o a b h = absurd (h .0 .0 .0 .1 refl)
+  moved-infix (suc (suc (suc (suc zero)))) o a b h = absurd (h .0 .0 .1 refl)
+  moved-infix (suc (suc (suc (suc (suc zero))))) o a b h = absurd (h .0 .1 refl)
+  moved-infix (suc (suc (suc (suc (suc (suc zero)))))) o a b h = absurd (h .1 refl)
+  moved-infix (suc (suc (suc (suc (suc (suc (suc k))))))) o a b h = refl
+
+  pub row-infix : {o : InfixOperator} {a b : ℕ}
+      → ((((((Unit {0} × (f .code % 8 ≡ 1 → ⊥)) × (f .code % 8 ≡ 2 → ⊥)) × (f .code % 8 ≡ 3 → ⊥)) × (f .code % 8 ≡ 4 → ⊥)) × (f .code % 8 ≡ 5 → ⊥)) × (f .code % 8 ≡ 6 → ⊥))
+      → o ≡ infixOf (f .code / 8) → a ≡ getD links (f .first) 0 → b ≡ getD links (f .second) 0 → Expression.Infix o a b ≡ moved links (expressionOf f)
+  unfolding expressionOf
+  row-infix h q p p′ = rw (q, p, p′) (moved-infix (f .code % 8) (f .code / 8) (f .first) (f .second) h)
+
+  pub row-written : {e : Expression} {out out′ : List ℕ} {at next : ℕ} → e ≡ moved links (expressionOf f) → length (lineText e) ≤ 64 → Put out at (lineText e) next out′
+      → Put out at (lineText (moved links (expressionOf f))) next out′ × (next ≤ at + 64)
+  row-written q s p = (rw (← q) p, omega (arith, s, p .place))
+
+-- and of the row of a line
+pub row-line : (rows : Memory) (table : List ℕ) (i : ℕ) {f : Fields} {node : ℕ} → f ≡ fieldsAt rows node → node ≡ getD table i 0 → moved (rows .link) (expressionOf f) ≡ lineAt rows table i
+unfolding lineAt expressionAt
+row-line rows table i p q = rw (p, q) refl

@@ -12,13 +12,14 @@ use expression::node::Operands;
 use expression::node::operands_of;
 use expression::node::with_operands;
 use expression::refusal::Refusal;
-use line::line_bound;
 use line::line_length;
 use line::write_line;
+use line::write_row;
 use memory::read;
 use order::NONE;
 use order::visit;
 use store::reading::expression_at;
+use store::reading::fields_at;
 use store::words::link_at;
 
 pub mod line;
@@ -80,7 +81,7 @@ fn write_lines(store: &[[u64; 4]], table: &[u64], count: usize, out: &mut [u8]) 
     at
 }
 
-// The same where there is room for the longest lines: they need not be measured.
+// The same where there is room for the longest lines: they need not be measured, and are written straight from their rows.
 fn write_lines_wide(store: &[[u64; 4]], table: &[u64], count: usize, out: &mut [u8]) -> usize
     requires { ⌜ (count ≤ 1024) × (64 * count ≤ length (now out)) ⌝ }
     ensures { λ r. ⌜ Put (now (out .entry)) 0 (linesText (memory (now (store .entry))) (now (table .entry)) count) r (now (out .exit)) ⌝ }
@@ -89,9 +90,8 @@ fn write_lines_wide(store: &[[u64; 4]], table: &[u64], count: usize, out: &mut [
     let mut at: usize = 0;
     let mut i: usize = 0;
     while i < count {
-        let e = line_at(store, table, i);
-        let _bound = line_bound(e);
-        at = write_line(out, at, e);
+        let node = read(table, i) as usize;
+        at = write_row(out, at, store, fields_at(store, node));
         i += 1;
     }
     at

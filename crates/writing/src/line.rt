@@ -4,10 +4,14 @@ ghost use mathlib.Core.List.{[], _∷_, _++_};
 ghost use Prim.Native.Nat.{_+_, _≤_};
 ghost use lib.ListN.{length};
 ghost use Rattle.expression.specs.declared.node.Expression.{Expression};
+ghost use Rattle.store.specs.Nodes.{expressionOf};
+ghost use Rattle.store.specs.Memory.{memory};
+ghost use Rattle.listing.specs.Tables.{moved};
 ghost use Rattle.spelling.specs.Names.{functionName};
 ghost use Rattle.text.specs.Put.{Put};
 ghost use Rattle.writing.specs.Ordering.{lineText};
 use complex::Complex;
+use complex::bits::from_bits;
 use complex::bits::to_bits;
 use expression::ExpressionFunction;
 use expression::InfixOperator;
@@ -19,6 +23,8 @@ use spelling::function_length;
 use spelling::infix_byte;
 use spelling::prefix_byte;
 use spelling::write_function;
+use store::node::Fields;
+use store::words::link_at;
 use text::writing::decimal_length;
 use text::writing::write_byte;
 use text::writing::write_decimal_field;
@@ -40,21 +46,6 @@ pub fn line_length(e: Expression) -> usize
         Expression::Infix(_, left, right) => {
             decimal_length(left as u64) + decimal_length(right as u64) + 6
         }
-    }
-}
-
-// No line is longer than 64 bytes, whatever its numbers are.
-pub fn line_bound(e: Expression) -> usize
-    ensures { λ r. ⌜ (length (lineText e) ≤ r) × (r ≤ 64) ⌝ }
-{
-    match e {
-        Expression::Number(_) => 36,
-        Expression::PiConstant => 2,
-        Expression::Variable(_number) => 23,
-        Expression::Address(_region, _index) => 44,
-        Expression::FunctionCall(_f, _child) => 28,
-        Expression::Prefix(_o, _child) => 25,
-        Expression::Infix(_o, _left, _right) => 46,
     }
 }
 
@@ -151,5 +142,41 @@ pub fn write_line(out: &mut [u8], at: usize, e: Expression) -> usize
         Expression::FunctionCall(f, child) => write_call(out, at, f, child),
         Expression::Prefix(o, child) => write_prefix(out, at, o, child),
         Expression::Infix(o, left, right) => write_infix(out, at, o, left, right),
+    }
+}
+
+// The line of a node, straight from its row, where there is room for the longest line: no line is longer than 64
+// bytes, whatever its numbers are. The lines of its operands stand in the links of their rows.
+pub fn write_row(out: &mut [u8], at: usize, store: &[[u64; 4]], f: Fields) -> usize
+    requires { ⌜ at + 64 ≤ length (now out) ⌝ }
+    ensures { λ r. ⌜ Put (now (out .entry)) at (lineText (moved (memory (now (store .entry)) .link) (expressionOf f))) r (now (out .exit)) ⌝ }
+    ensures short { λ r. ⌜ r ≤ at + 64 ⌝ }
+{
+    let kind = f.code % 8;
+    let operator = f.code / 8;
+    let first = f.first;
+    let second = f.second;
+    let left = link_at(store, first as usize) as usize;
+    let right = link_at(store, second as usize) as usize;
+    match kind {
+        1 => write_number(
+            out,
+            at,
+            Complex {
+                re: from_bits(first),
+                im: from_bits(second),
+            },
+        ),
+        2 => write_pi(out, at),
+        3 => write_variable(out, at, (first % 65536) as u16),
+        4 => write_cell(
+            out,
+            at,
+            (first % 65536) as u16,
+            (second % 4294967296) as u32,
+        ),
+        5 => write_call(out, at, ExpressionFunction::from_code(operator), left),
+        6 => write_prefix(out, at, PrefixOperator::from_code(operator), left),
+        _ => write_infix(out, at, InfixOperator::from_code(operator), left, right),
     }
 }

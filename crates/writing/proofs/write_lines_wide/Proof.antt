@@ -5,6 +5,7 @@ use Rattle.store.specs.Memory.{memory}
 use Rattle.text.specs.Put.{Put}
 use Rattle.text.proofs.Putting.{put-length}
 use Rattle.writing.specs.Ordering.{linesText}
+use Rattle.writing.proofs.LineTexts.{row-line}
 use Rattle.writing.proofs.Texts.{no-text, next-text, all-written}
 use borrow.Author.Needs.{needs}
 use Rattle.writing.proofs.write_lines_wide.Statement.{statement}
@@ -25,9 +26,9 @@ write-lines-wide-spec =
     (λ c. (omega arith, (no-text _ (c .before .before .args .table .now) _, omega arith)))
     (λ c κs. search needs)
     (λ c κs. search needs)
-    (λ c κs. omega (arith, c .before .line-bound .ensures .0, c .before .line-bound .ensures .1, c .before .before .before .before .loop .inv .1 .1, put-length (c .before .before .before .before .loop .inv .1 .0), c .before .before .before .before .before .before .before .pre .1))
+    (λ c κs. omega (arith, c .before .before .before .before .loop .inv .1 .1, put-length (c .before .before .before .before .loop .inv .1 .0), c .before .before .before .before .before .before .before .pre .1))
     (λ c. omega arith)
     (λ c. omega arith)
-    (λ c. (omega arith, (next-text _ (c .before .before .before .before .before .before .before .before .before .before .args .table .now) (c .before .before .before .before .before .before .before .loop .i) (c .before .before .before .before .before .before .before .loop .inv .1 .0) (rw (c .before .before .before .before .before .line-at .ensures) at (c .before .before .write-line .ensures)), omega (arith, c .before .before .write-line .ensures .place, c .before .before .before .before .line-bound .ensures .0, c .before .before .before .before .line-bound .ensures .1, c .before .before .before .before .before .before .before .loop .inv .1 .1))))
+    (λ c. (omega arith, (next-text _ (c .before .before .before .before .before .before .before .before .before .before .args .table .now) (c .before .before .before .before .before .before .before .loop .i) (c .before .before .before .before .before .before .before .loop .inv .1 .0) (rw (row-line (memory (c .before .before .before .before .before .before .before .before .before .before .args .store .now)) (c .before .before .before .before .before .before .before .before .before .before .args .table .now) (c .before .before .before .before .before .before .before .loop .i) (c .before .before .before .fields-at .ensures) (c .before .before .before .before .before .read .ensures)) at (c .before .before .write-row .ensures .0)), omega (arith, c .before .before .write-row .ensures .1, c .before .before .before .before .before .before .before .loop .inv .1 .1))))
     (λ c. put-length (c .before .loop .inv .1 .0))
     (λ c. (all-written _ (c .before .before .before .before .args .table .now) (c .before .loop .inv .0) (c .loop-test .left) (c .before .loop .inv .1 .0), omega (arith, c .before .loop .inv .1 .1, c .before .loop .inv .0))))
