@@ -16,3 +16,4 @@ mod Adding
 mod Keeping
 pub mod Stored
 pub mod OneAnswer
+pub mod Settling

@@ -8,3 +8,4 @@ pub mod Hash
 pub mod Index
 pub mod Held
 pub mod Walk
+pub mod Numbers

@@ -32,6 +32,7 @@ mod fields;
 mod hash;
 mod index;
 pub mod node;
+pub mod numbers;
 pub mod reading;
 mod room;
 pub mod words;
