@@ -105,7 +105,7 @@ fn answer(r: u64) -> Result<u64, Refusal> {
 }
 
 fn node(store: &Store, i: usize) -> Node {
-    let [tag, a, b, _] = store.rows[i];
+    let [_, tag, a, b] = store.rows[i];
     Node { code: tag % 64, a, b }
 }
 

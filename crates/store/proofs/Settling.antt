@@ -25,8 +25,7 @@ use Rattle.store.specs.declared.node.Fields.{Fields}
 use Rattle.store.specs.Nodes.{fields, expressionAs, expressionOf}
 use Rattle.store.specs.Memory.{Memory, room, fieldsOn, fieldsAt, expressionAt, treeAt, treeOf}
 use Rattle.store.specs.Held.{Holds}
-use Rattle.store.specs.Numbers.{NumberIn, IsNumber, numberAt, withNumber, Numbers, OverNumbers, Ordered, Settling}
-use Rattle.store.specs.Walk.{Tells}
+use Rattle.store.specs.Numbers.{Tells, NumberIn, IsNumber, numberAt, withNumber, Numbers, OverNumbers, Ordered, Settling}
 use Rattle.store.proofs.Trees.{tree-own, Room, room-each}
 
 -- ---- which nodes are numbers

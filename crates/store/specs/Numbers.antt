@@ -1,6 +1,7 @@
 -- Nodes that are numbers, and nodes that become numbers while others are worked out. Only connecting.
 use Prim.Native.Nat.{ℕ, _≤_, _<_}
 use mathlib.Core.Path.{_≡_}
+use mathlib.Core.Bool.{Bool, true, false}
 use mathlib.Core.Logic.{_⊎_}
 use lib.ListN.{getD}
 use Rattle.complex.specs.declared.Complex.{Complex}
@@ -13,6 +14,11 @@ use Rattle.expression.specs.Nodes.{operandsOf, Within}
 use Rattle.store.specs.declared.node.Fields.{Fields}
 use Rattle.store.specs.Nodes.{expressionOf}
 use Rattle.store.specs.Memory.{Memory, withRow, room, fieldsAt, expressionAt, treeAt}
+
+-- a Boolean answer to a question
+abbrev pub Tells : Bool → Type 0 → Type 0
+Tells true A = A
+Tells false A = A → ⊥
 
 -- node k has the fields of a number, and this is the one
 unfoldable pub NumberIn : Fields → Type 0

@@ -3,8 +3,7 @@
 ghost use mathlib.Core.Path.{_≡_};
 ghost use Rattle.complex.specs.Bits.{Fitting};
 ghost use Rattle.store.specs.Memory.{memory};
-ghost use Rattle.store.specs.Numbers.{IsNumber, numberAt, withNumber};
-ghost use Rattle.store.specs.Walk.{Tells};
+ghost use Rattle.store.specs.Numbers.{Tells, IsNumber, numberAt, withNumber};
 use super::words::first_at;
 use super::words::put_row;
 use super::words::second_at;
