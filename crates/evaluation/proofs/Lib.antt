@@ -1,5 +1,6 @@
 -- The laws that the proofs of this crate, and where `pub` of its callers, cite.
 pub mod Valued
+pub mod Settled
 mod Parts
 mod Examples
 pub mod OneAnswer

@@ -4,6 +4,7 @@ use mathlib.Core.List.{List}
 use Prim.Native.Nat.{ℕ, _<_}
 use Rattle.store.specs.Memory.{Memory}
 use Rattle.store.specs.Held.{Holds}
+use Rattle.store.proofs.Settling.{ordered}
 use Rattle.sheet.specs.declared.Counts.{Counts}
 use Rattle.sheet.specs.Rows.{Rows}
 use Rattle.sheet.specs.Table.{rowsOf, Held}
@@ -14,7 +15,7 @@ use Rattle.evaluation.specs.Run.{Evaluates, ReadsReal}
 module _ {m : Memory} {n : ℕ} (h : Holds m n) where
   pub one-evaluated : {table : List ℕ} {rows : Counts} {node below : ℕ} {r r′ : Evaluation} → Held table rows → node < n → node < below
       → Evaluates m table rows node below r → Evaluates m table rows node below r′ → r ≡ r′
-  one-evaluated t l b p q = p n h l b t ∙ sym (q n h l b t)
+  one-evaluated t l b p q = p n (ordered h) l b t ∙ sym (q n (ordered h) l b t)
 
   pub one-real : {node : ℕ} {r r′ : Real} → node < n → ReadsReal m node r → ReadsReal m node r′ → r ≡ r′
   one-real l p q = p n h l ∙ sym (q n h l)

@@ -1,5 +1,5 @@
--- What evaluating does at a node, by its kind: each return of `evaluate` and of what it calls. Assumes nothing.
-use mathlib.Core.Path.{_≡_, refl, sym, ap, _∙_}
+-- What evaluating does at a node whose operands are numbers, by its kind: each return of `value_of` and of what it calls. Assumes nothing.
+use mathlib.Core.Path.{_≡_, refl, sym, ap, _∙_, subst}
 use mathlib.Core.List.{[], _∷_}
 use mathlib.Core.Logic.{⊎-elim}
 use Prim.Native.Nat.{ℕ, _<_}
@@ -14,13 +14,14 @@ use Rattle.expression.specs.declared.PrefixOperator.{PrefixOperator}
 use Rattle.expression.specs.declared.ExpressionFunction.{ExpressionFunction}
 use Rattle.expression.specs.declared.refusal.Operation.{Operation}
 use Rattle.expression.specs.declared.node.Expression.{Expression}
-use Rattle.expression.specs.Nodes.{grown, Within}
+use Rattle.expression.specs.Nodes.{operandsOf, grown}
 use Rattle.store.specs.Memory.{Memory, expressionAt, treeAt, treeOf}
-use Rattle.store.specs.Held.{Holds}
-use Rattle.store.proofs.Stored.{tree-of-node}
+use Rattle.store.specs.Numbers.{IsNumber, numberAt, Numbers, OverNumbers, Ordered}
+use Rattle.store.proofs.Settling.{number-tree, tree-ordered}
 use Rattle.sheet.specs.declared.Found.{Found}
 use Rattle.sheet.specs.Rows.{Rows, valueOf, cellValue}
 use Rattle.sheet.specs.Table.{seenFound}
+use Rattle.expression.proofs.InfixOperator.{the-type as operators}
 use Rattle.evaluation.proofs.Evaluation.{the-type}
 use Rattle.evaluation.specs.declared.Evaluation.{Evaluation}
 use Rattle.evaluation.specs.Evaluating.{andThen, bound, asked, imaginaryUnit, cis, calculateFunction, calculateInfix, calculatePrefix, leafValue, evaluate}
@@ -42,6 +43,12 @@ passed-on next {w} p k = lacking w next k ∙ ap (λ v. andThen v next) p
 pub goes-on : (next : Complex → Evaluation) {w want : Evaluation} {z : Complex} → w ≡ want → w ≡ Evaluation.Value z → next z ≡ andThen want next
 unfolding andThen
 goes-on next p e = ap (λ v. andThen v next) (sym e ∙ p)
+
+-- ---- operators
+
+-- one that is not ^
+pub not-power : (o : InfixOperator) → OneOf (1 ∷ 2 ∷ 3 ∷ 4 ∷ []) (tagOf operators o) → o ≡ InfixOperator.Caret → ⊥
+not-power o k e = ⊎-elim (λ q. omega (arith, q)) (⊎-elim (λ q. omega (arith, q)) (⊎-elim (λ q. omega (arith, q)) λ q. omega (arith, q))) (subst (λ x. OneOf (1 ∷ 2 ∷ 3 ∷ 4 ∷ []) (tagOf operators x)) e k)
 
 -- ---- cis
 
@@ -67,51 +74,40 @@ module _ (rows : Rows) (x : Complex) where
       unfolding cis from-cosine from-both
       cis-is u i t s = rw (s, t, i) (goes-on (from-both cosine) (rw z₂ at q) u ∙ goes-on from-cosine (rw z₁ at p) v)
 
--- ---- the value of a node, by its kind
+-- ---- the value of a node whose operands are numbers, by its kind
 
-module _ {m : Memory} {n node : ℕ} (h : Holds m n) (l : node < n) {e : Expression} (e-is : e ≡ expressionAt m node) (rows : Rows) where
+pub number-value : (rows : Rows) (m : Memory) (k : ℕ) → IsNumber m k → evaluate rows (treeAt m k) ≡ Evaluation.Value (numberAt m k)
+unfolding evaluate leafValue
+number-value rows m k h = ap (evaluate rows) (number-tree m k h)
+
+-- an operand that is a number goes on with it
+with-number : (rows : Rows) (m : Memory) (k : ℕ) → IsNumber m k → {x : Complex} → x ≡ numberAt m k → (next : Complex → Evaluation)
+    → next x ≡ andThen (evaluate rows (treeAt m k)) next
+with-number rows m k h p next = goes-on next refl (number-value rows m k h ∙ ap Evaluation.Value (sym p))
+
+module _ {m : Memory} {n node : ℕ} (o : Ordered m n) (l : node < n) (over : OverNumbers m node) {e : Expression} (e-is : e ≡ expressionAt m node) (rows : Rows) where
   module _ {e′ : Expression} (told : e ≡ e′) where
     of-node : {r : Evaluation} → r ≡ evaluate rows (treeOf m e′) → r ≡ evaluate rows (treeAt m node)
-    of-node p = p ∙ ap (evaluate rows) (tree-of-node h l e-is told)
+    of-node p = p ∙ ap (evaluate rows) (tree-ordered o l e-is told)
 
-  module _ {f : ExpressionFunction} {a : ℕ} {x : Evaluation} (told : e ≡ Expression.FunctionCall f a) (p : x ≡ evaluate rows (treeAt m a)) where
-    pub function-lacks : Lacks x → x ≡ evaluate rows (treeAt m node)
-    unfolding evaluate grown
-    function-lacks k = of-node told (passed-on (calculateFunction rows f) p k)
+    numbers : Numbers m (operandsOf e′)
+    numbers = subst (λ x. Numbers m (operandsOf x)) (sym e-is ∙ told) over
 
-    pub function-is : {z : Complex} {r : Evaluation} → x ≡ Evaluation.Value z → r ≡ calculateFunction rows f z → r ≡ evaluate rows (treeAt m node)
-    unfolding evaluate grown
-    function-is v q = of-node told (q ∙ goes-on (calculateFunction rows f) p v)
+  pub function-is : {f : ExpressionFunction} {a : ℕ} {x : Complex} {r : Evaluation} → e ≡ Expression.FunctionCall f a → x ≡ numberAt m a
+      → r ≡ calculateFunction rows f x → r ≡ evaluate rows (treeAt m node)
+  unfolding evaluate grown operandsOf
+  function-is {f} {a} told p q = of-node told (q ∙ with-number rows m a (numbers told) p (calculateFunction rows f))
 
-  module _ {o : PrefixOperator} {a : ℕ} {x : Evaluation} (told : e ≡ Expression.Prefix o a) (p : x ≡ evaluate rows (treeAt m a)) where
-    pub prefix-lacks : Lacks x → x ≡ evaluate rows (treeAt m node)
-    unfolding evaluate grown
-    prefix-lacks k = of-node told (passed-on (λ z. Evaluation.Value (calculatePrefix o z)) p k)
+  pub prefix-is : {s : PrefixOperator} {a : ℕ} {x y : Complex} → e ≡ Expression.Prefix s a → x ≡ numberAt m a → y ≡ calculatePrefix s x
+      → Evaluation.Value y ≡ evaluate rows (treeAt m node)
+  unfolding evaluate grown operandsOf
+  prefix-is {s} {a} told p q = of-node told (ap Evaluation.Value q ∙ with-number rows m a (numbers told) p λ z. Evaluation.Value (calculatePrefix s z))
 
-    pub prefix-is : {z y : Complex} → x ≡ Evaluation.Value z → y ≡ calculatePrefix o z → Evaluation.Value y ≡ evaluate rows (treeAt m node)
-    unfolding evaluate grown
-    prefix-is v q = of-node told (ap Evaluation.Value q ∙ goes-on (λ z. Evaluation.Value (calculatePrefix o z)) p v)
-
-  module _ {o : InfixOperator} {a b : ℕ} {x : Evaluation} (told : e ≡ Expression.Infix o a b) (p : x ≡ evaluate rows (treeAt m a)) where
-    from-left : Complex → Evaluation
-    from-left z = andThen (evaluate rows (treeAt m b)) (calculateInfix rows o z)
-
-    pub left-lacks : Lacks x → x ≡ evaluate rows (treeAt m node)
-    unfolding evaluate grown from-left
-    left-lacks k = of-node told (passed-on from-left p k)
-
-    module _ {z : Complex} {y : Evaluation} (v : x ≡ Evaluation.Value z) (q : y ≡ evaluate rows (treeAt m b)) where
-      with-left : from-left z ≡ evaluate rows (treeAt m node)
-      unfolding evaluate grown from-left
-      with-left = of-node told (goes-on from-left p v)
-
-      pub right-lacks : Lacks y → y ≡ evaluate rows (treeAt m node)
-      unfolding from-left
-      right-lacks k = passed-on (calculateInfix rows o z) q k ∙ with-left
-
-      pub infix-is : {r : Complex} {s : Evaluation} → y ≡ Evaluation.Value r → s ≡ calculateInfix rows o z r → s ≡ evaluate rows (treeAt m node)
-      unfolding from-left
-      infix-is u t = t ∙ goes-on (calculateInfix rows o z) q u ∙ with-left
+  pub infix-is : {s : InfixOperator} {a b : ℕ} {x y : Complex} {r : Evaluation} → e ≡ Expression.Infix s a b → x ≡ numberAt m a → y ≡ numberAt m b
+      → r ≡ calculateInfix rows s x y → r ≡ evaluate rows (treeAt m node)
+  unfolding evaluate grown operandsOf
+  infix-is {s} {a} {b} {x} told p q t =
+      of-node told (t ∙ with-number rows m b (numbers told .1) q (calculateInfix rows s x) ∙ with-number rows m a (numbers told .0) p (λ z. andThen (evaluate rows (treeAt m b)) (calculateInfix rows s z)))
 
   pub variable-is : {v : ℕ} {r : Evaluation} → e ≡ Expression.Variable v → (found : Found) → seenFound found ≡ valueOf v (rows .variables) → r ≡ bound (seenFound found)
       → r ≡ evaluate rows (treeAt m node)

@@ -1,7 +1,10 @@
 // The value of an operation on values: arithmetic by `complex`, and what the sheet's rows give for sin, cos, exp, sqrt
 // and ^.
 ghost use mathlib.Core.Path.{_≡_};
+ghost use Rattle.sheet.specs.Rows.{Rows};
 ghost use Rattle.sheet.specs.Table.{rowsOf, Held};
+ghost use Rattle.expression.specs.declared.InfixOperator.{InfixOperator};
+ghost use Rattle.evaluation.specs.declared.Evaluation.{Evaluation};
 ghost use Rattle.evaluation.specs.Evaluating.{asked, cis, imaginaryUnit, calculateFunction, calculateInfix, calculatePrefix};
 use super::Evaluation;
 use complex::Complex;
@@ -74,6 +77,19 @@ pub fn calculate_function(
     }
 }
 
+// + - * / of two values; `^` is none of these, and is asked of the sheet.
+pub fn arithmetic(left: Complex, operator: InfixOperator, right: Complex) -> Complex
+    ensures { λ r. ⌜ ((rows : Rows) → (operator ≡ InfixOperator.Caret → ⊥) → Evaluation.Value r ≡ calculateInfix rows operator left right) ⌝ }
+{
+    match operator {
+        InfixOperator::Caret => left,
+        InfixOperator::Plus => add(left, right),
+        InfixOperator::Minus => sub(left, right),
+        InfixOperator::Slash => div(left, right),
+        InfixOperator::Star => mul(left, right),
+    }
+}
+
 pub fn calculate_infix(
     table: &[u64],
     counts: Counts,
@@ -83,13 +99,10 @@ pub fn calculate_infix(
 ) -> Evaluation
     ensures { λ r. ⌜ (Held (now (table .entry)) counts → r ≡ calculateInfix (rowsOf (now (table .entry)) counts) operator left right) ⌝ }
 {
-    match operator {
-        InfixOperator::Caret => ask(table, counts, Operation::Power, left, right),
-        InfixOperator::Plus => Evaluation::Value(add(left, right)),
-        InfixOperator::Minus => Evaluation::Value(sub(left, right)),
-        InfixOperator::Slash => Evaluation::Value(div(left, right)),
-        InfixOperator::Star => Evaluation::Value(mul(left, right)),
+    if let InfixOperator::Caret = operator {
+        return ask(table, counts, Operation::Power, left, right);
     }
+    Evaluation::Value(arithmetic(left, operator, right))
 }
 
 pub fn calculate_prefix(operator: PrefixOperator, value: Complex) -> Complex

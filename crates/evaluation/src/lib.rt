@@ -4,7 +4,7 @@ ghost use mathlib.Core.Path.{_≡_};
 ghost use Rattle.store.specs.Memory.{memory};
 ghost use Rattle.sheet.specs.Table.{seenFound};
 ghost use Rattle.evaluation.specs.Evaluating.{bound};
-ghost use Rattle.evaluation.specs.Run.{Evaluates};
+ghost use Rattle.evaluation.specs.Run.{Evaluates, EvaluatesLast};
 use calculate::calculate_function;
 use calculate::calculate_infix;
 use calculate::calculate_prefix;
@@ -12,14 +12,17 @@ use complex::Complex;
 use complex::constants::pi;
 use expression::node::Expression;
 use expression::refusal::Operation;
+use settling::settle;
 use sheet::Counts;
 use sheet::Found;
 use sheet::cell;
 use sheet::variable;
+use store::numbers::number_at;
 use store::reading::expression_at;
 
 pub mod calculate;
 pub mod real;
+mod settling;
 
 // "Evaluation answers a value, Incomplete, or the function value it lacks."
 pub enum Evaluation {
@@ -38,10 +41,36 @@ pub fn bound_value(found: Found) -> Evaluation
     }
 }
 
-// The value of a node, depth first, left before right, up to the first lack. A node's number is above those of its
-// operands, so `below` falls; a number that is not below it is no node of the store.
+// The value of a node whose operands are numbers.
+fn value_of(store: &[[u64; 4]], table: &[u64], counts: Counts, node: usize) -> Evaluation
+    ensures { λ r. ⌜ EvaluatesLast (memory (now (store .entry))) (now (table .entry)) counts node r ⌝ }
+{
+    let e = expression_at(store, node);
+    match e {
+        Expression::FunctionCall(function, child) => {
+            calculate_function(table, counts, function, number_at(store, child))
+        }
+        Expression::Infix(operator, left, right) => calculate_infix(
+            table,
+            counts,
+            number_at(store, left),
+            operator,
+            number_at(store, right),
+        ),
+        Expression::Prefix(operator, child) => {
+            Evaluation::Value(calculate_prefix(operator, number_at(store, child)))
+        }
+        Expression::Variable(number) => bound_value(variable(table, counts, number)),
+        Expression::Address(region, index) => bound_value(cell(table, counts, region, index)),
+        Expression::PiConstant => Evaluation::Value(pi()),
+        Expression::Number(z) => Evaluation::Value(z),
+    }
+}
+
+// The value of a node, or its first lack. The rows are used up: nodes become their values in them. A number that is not below
+// `below` is no node of the store.
 pub fn evaluate(
-    store: &[[u64; 4]],
+    store: &mut [[u64; 4]],
     table: &[u64],
     counts: Counts,
     node: usize,
@@ -52,36 +81,9 @@ pub fn evaluate(
     if below <= node {
         return Evaluation::Incomplete;
     }
-    let e = expression_at(store, node);
-    match e {
-        Expression::FunctionCall(function, child) => {
-            let x = evaluate(store, table, counts, child, node);
-            let Evaluation::Value(argument) = x else {
-                return x;
-            };
-            calculate_function(table, counts, function, argument)
-        }
-        Expression::Infix(operator, left, right) => {
-            let x = evaluate(store, table, counts, left, node);
-            let Evaluation::Value(l) = x else {
-                return x;
-            };
-            let y = evaluate(store, table, counts, right, node);
-            let Evaluation::Value(r) = y else {
-                return y;
-            };
-            calculate_infix(table, counts, l, operator, r)
-        }
-        Expression::Prefix(operator, child) => {
-            let x = evaluate(store, table, counts, child, node);
-            let Evaluation::Value(value) = x else {
-                return x;
-            };
-            Evaluation::Value(calculate_prefix(operator, value))
-        }
-        Expression::Variable(number) => bound_value(variable(table, counts, number)),
-        Expression::Address(region, index) => bound_value(cell(table, counts, region, index)),
-        Expression::PiConstant => Evaluation::Value(pi()),
-        Expression::Number(z) => Evaluation::Value(z),
+    let lack = settle(store, table, counts, node, below);
+    if lack == 0 {
+        return Evaluation::Value(number_at(store, node));
     }
+    value_of(store, table, counts, lack - 1)
 }

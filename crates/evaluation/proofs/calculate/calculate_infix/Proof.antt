@@ -1,8 +1,8 @@
--- `calculate_infix` meets its contract. Assumes nothing.
-use mathlib.Core.Path.{ap}
-use Rattle.evaluation.specs.declared.Evaluation.{Evaluation}
-use Rattle.evaluation.specs.Evaluating.{calculateInfix}
+-- `calculate_infix` meets its contract: ^ is asked for, all else is arithmetic. Assumes nothing.
 use borrow.Author.Needs.{needs}
+use Rattle.sheet.specs.Table.{rowsOf}
+use Rattle.evaluation.specs.Evaluating.{calculateInfix}
+use Rattle.evaluation.proofs.Valued.{not-power}
 use Rattle.evaluation.proofs.calculate.calculate_infix.Statement.{statement}
 use Rattle.evaluation.proofs.calculate.calculate_infix.Tie as tie
 
@@ -13,16 +13,6 @@ calculate-infix-spec =
     (tie.spec
     (λ c. search needs)
     (λ c κs. search needs)
-    (λ c. search needs)
-    (λ c κs. search needs)
-    (λ c. search needs)
-    (λ c κs. search needs)
-    (λ c. search needs)
-    (λ c κs. search needs)
-    (λ c. search needs)
-    (λ c κs. search needs)
     (λ c. λ h. rw (c .before .enum-told .given .1) (c .ask .ensures h))
-    (λ c. λ h. rw (c .before .enum-told2 .given .1) (ap Evaluation.Value (c .add .ensures)))
-    (λ c. λ h. rw (c .before .enum-told3 .given .1) (ap Evaluation.Value (c .sub .ensures)))
-    (λ c. λ h. rw (c .before .enum-told4 .given .1) (ap Evaluation.Value (c .div .ensures)))
-    (λ c. λ h. rw (c .before .enum-told5 .given .1) (ap Evaluation.Value (c .mul .ensures))))
+    (λ c κs. search needs)
+    (λ c. λ h. c .arithmetic .ensures (rowsOf (c .before .before .before .args .table .now) (c .before .before .before .args .counts)) (not-power _ (c .before .match .keys2))))
