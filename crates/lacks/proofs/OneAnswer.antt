@@ -4,6 +4,7 @@ use mathlib.Core.List.{List}
 use Prim.Native.Nat.{ℕ, _<_}
 use Rattle.store.specs.Memory.{Memory}
 use Rattle.store.specs.Held.{Holds}
+use Rattle.store.proofs.Settling.{ordered}
 use Rattle.sheet.specs.declared.Counts.{Counts}
 use Rattle.sheet.specs.Table.{Held}
 use Rattle.calls.specs.Lent.{Work}
@@ -11,9 +12,9 @@ use Rattle.lacks.specs.declared.Missing.{Missing}
 use Rattle.lacks.specs.Lacking.{NamesInJob, NamesOnTape}
 use Rattle.lacks.specs.Run.{Names}
 
-pub one-named : {m : Memory} {n : ℕ} → Holds m n → {table : List ℕ} {rows : Counts} {node below : ℕ} {r r′ : Missing} → Held table rows → node < n → node < below
-    → Names m table rows node below r → Names m table rows node below r′ → r ≡ r′
-one-named {n = n} h t l b p q = p n h l b t ∙ sym (q n h l b t)
+pub one-named : {m : Memory} {n : ℕ} → Holds m n → {table : List ℕ} {rows : Counts} {node below : ℕ} {m₁ m₂ : Memory} {r r′ : Missing} → Held table rows → node < n → node < below
+    → Names m m₁ table rows node below r → Names m m₂ table rows node below r′ → r ≡ r′
+one-named {n = n} h t l b p q = p n (ordered h) l b t .answer ∙ sym (q n (ordered h) l b t .answer)
 
 pub one-named-in-job : (list values : List ℕ) (w : Work) {r r′ : Missing} {w₁ w₂ : Work} → NamesInJob list values w r w₁ → NamesInJob list values w r′ w₂
     → _≡_ {A = Missing × Work} (r, w₁) (r′, w₂)

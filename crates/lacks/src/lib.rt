@@ -7,11 +7,13 @@ ghost use Rattle.store.specs.Memory.{memory};
 ghost use Rattle.sheet.specs.Table.{seenFound};
 ghost use Rattle.calls.specs.Lent.{work, capacity};
 ghost use Rattle.lacks.specs.Lacking.{unlessBound, missingInJob, NamesInJob};
-ghost use Rattle.lacks.specs.Run.{Names};
+ghost use Rattle.lacks.specs.Run.{Names, NamesAt, NamesBelow};
 use calls::Job;
 use calls::frame::clear_work;
 use calls::frame::read_job;
+use complex::constants::zero;
 use expression::node::Expression;
+use expression::node::Operands;
 use memory::layout::DESK_WORDS;
 use memory::layout::TABLE_WORDS;
 use sheet::Counts;
@@ -19,7 +21,9 @@ use sheet::Found;
 use sheet::cell;
 use sheet::variable;
 use store::desk::standing;
+use store::numbers::put_number;
 use store::reading::expression_at;
+use store::reading::operands_at;
 
 pub mod tapes;
 
@@ -39,30 +43,12 @@ fn unless_bound(name: Missing, found: Found) -> Missing
     }
 }
 
-// Of a node, depth first, left before right. A node is above its operands, so `below` falls, as in evaluating.
-pub fn first_missing(
-    store: &[[u64; 4]],
-    table: &[u64],
-    counts: Counts,
-    node: usize,
-    below: usize,
-) -> Missing
-    ensures { λ r. ⌜ Names (memory (now (store .entry))) (now (table .entry)) counts node below r ⌝ }
+// Of a node itself: its operands are left out.
+fn missing_at(store: &[[u64; 4]], table: &[u64], counts: Counts, node: usize) -> Missing
+    ensures { λ r. ⌜ NamesAt (memory (now (store .entry))) (now (table .entry)) counts node r ⌝ }
 {
-    if below <= node {
-        return Missing::Nothing;
-    }
     let e = expression_at(store, node);
     match e {
-        Expression::FunctionCall(_, child) => first_missing(store, table, counts, child, node),
-        Expression::Prefix(_, child) => first_missing(store, table, counts, child, node),
-        Expression::Infix(_, left, right) => {
-            let x = first_missing(store, table, counts, left, node);
-            let Missing::Nothing = x else {
-                return x;
-            };
-            first_missing(store, table, counts, right, node)
-        }
         Expression::Variable(number) => {
             unless_bound(Missing::Variable(number), variable(table, counts, number))
         }
@@ -70,9 +56,52 @@ pub fn first_missing(
             Missing::Cell(region, index),
             cell(table, counts, region, index),
         ),
-        Expression::PiConstant => Missing::Nothing,
-        Expression::Number(_) => Missing::Nothing,
+        _ => Missing::Nothing,
     }
+}
+
+// "Depth first, left before right."
+fn missing_below(store: &mut [[u64; 4]], table: &[u64], counts: Counts, node: usize) -> Missing
+    ensures { λ r. ⌜ NamesBelow (memory (now (store .entry))) (memory (now (store .exit))) (now (table .entry)) counts node r ⌝ }
+{
+    let operands = operands_at(store, node);
+    match operands {
+        Operands::Nothing => Missing::Nothing,
+        Operands::One(child) => first_missing(store, table, counts, child, node),
+        Operands::Two(left, right) => {
+            let x = first_missing(store, table, counts, left, node);
+            let Missing::Nothing = x else {
+                return x;
+            };
+            first_missing(store, table, counts, right, node)
+        }
+    }
+}
+
+// A node that lacks nothing becomes a number, so that whoever comes to it again goes no further. A node is above its operands, so
+// `below` falls, as in evaluating.
+pub fn first_missing(
+    store: &mut [[u64; 4]],
+    table: &[u64],
+    counts: Counts,
+    node: usize,
+    below: usize,
+) -> Missing
+    ensures { λ r. ⌜ Names (memory (now (store .entry))) (memory (now (store .exit))) (now (table .entry)) counts node below r ⌝ }
+{
+    if below <= node {
+        return Missing::Nothing;
+    }
+    let own = missing_at(store, table, counts, node);
+    let Missing::Nothing = own else {
+        return own;
+    };
+    let x = missing_below(store, table, counts, node);
+    let Missing::Nothing = x else {
+        return x;
+    };
+    put_number(store, node, zero());
+    x
 }
 
 fn missing_in_texts(

@@ -15,7 +15,7 @@ missing-in-texts-spec =
     (λ c. search needs)
     (λ c. search needs)
     (λ c. search needs)
-    (λ c. job-names (c .before .before .before .before .before .before .before .before .before .before .before .before .before .before .before .before .before .before .args .store .now) (c .before .before .before .before .before .before .before .before .before .before .before .read-job .ensures) (c .before .before .before .before .before .before .job .given .1) (c .before .before .before .standing .ensures) (c .first-missing .ensures))
+    (λ c. job-names (c .before .before .before .before .before .before .before .before .before .before .before .before .before .before .before .before .before .before .before .args .store .now) (c .before .before .before .before .before .before .before .before .before .before .before .before .read-job .ensures) (c .before .before .before .before .before .before .before .job .given .1) (c .before .before .before .before .standing .ensures) (c .before .first-missing .ensures))
     (λ c. search needs)
     (λ c. search needs)
     (λ c. refused-nothing (c .before .before .before .before .before .before .before .before .before .before .before .before .args .store .now) (c .before .before .before .before .before .read-job .ensures) (c .enum-told .given .1)))
