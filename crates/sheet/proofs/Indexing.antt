@@ -18,8 +18,10 @@ use Rattle.sheet.proofs.Seeking.{both-ways, leads-some, leads-kept, Wal
 
 -- ---- a hash
 
-pub product-fits : {a b : ℕ} → a < 4294967296 → b < 4294967296 → a * b < 18446744073709551616
-product-fits {a} {b} l o = let w = mul-le-mul {n₁ = a} {m₁ = b} {n₂ = 4294967295} {m₂ = 4294967295} (omega (arith, l)) (omega (arith, o)) in omega arith
+-- the two factors of a word in a hash
+pub factors-fit : (a b : ℕ) → (a % 4294967296 + 1) * (b % 2147483648 + 2147483648) < 18446744073709551616
+factors-fit a b =
+    let w = mul-le-mul {n₁ = a % 4294967296 + 1} {m₁ = b % 2147483648 + 2147483648} {n₂ = 4294967296} {m₂ = 4294967295} (omega arith) (omega arith) in omega (arith, w)
 
 pub folded-small : (p : ℕ) → p < 18446744073709551616 → p / 4294967296 + p % 4294967296 < 8589934592
 folded-small p l = omega arith

@@ -82,3 +82,28 @@ module _ {next : ℕ → ℕ} {test : ℕ → Bool} {n at : ℕ} (w : Walking ne
       go : Sought test n → First test n n
       go (none f) = record { within = omega arith; hit = λ l. absurd (omega arith); before = f }
       go (some r m f) = absurd (leads-some (w .leads r f m) z)
+
+-- ---- from the front
+
+pub record Passed (test : ℕ → Bool) (count j : ℕ) : Type 0 where
+  pub inside : j ≤ count
+  pub before : (i : ℕ) → i < j → test i ≡ false
+
+pub passed-begins : (test : ℕ → Bool) (count : ℕ) → Passed test count 0
+passed-begins test count = record { inside = omega arith; before = λ i l. absurd (omega arith) }
+
+module _ {test : ℕ → Bool} {count j : ℕ} (h : Passed test count j) where
+  pub passed-hits : j < count → test j ≡ true → First test count j
+  passed-hits l e = record { within = omega arith; hit = λ _. e; before = h .before }
+
+  pub passed-more : j < count → test j ≡ false → Passed test count (j + 1)
+  passed-more l e = record {
+    inside = omega arith;
+    before = λ i m. elim (decLt i j) [
+      | yes b ↦ h .before i b
+      | no b ↦ let q : i ≡ j = omega arith in rw q e
+    ];
+  }
+
+  pub passed-ends : count ≤ j → First test count j
+  passed-ends l = record { within = h .inside; hit = λ m. absurd (omega arith); before = h .before }

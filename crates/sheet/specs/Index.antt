@@ -38,8 +38,8 @@ headed w head = w % 1048576 + 1048576 * (head % 512)
 -- a word more in a hash; the numbers only spread the keys
 unfoldable pub spread : (hash word by : ℕ) → ℕ
 spread hash word by =
-    (word % 4294967296 + hash) % 4294967296 * ((word / 4294967296 + by) % 4294967296) / 4294967296
-    + (word % 4294967296 + hash) % 4294967296 * ((word / 4294967296 + by) % 4294967296) % 4294967296
+    ((word % 4294967296 + hash) % 4294967296 + 1) * ((word / 4294967296 + by) % 2147483648 + 2147483648) / 4294967296
+    + ((word % 4294967296 + hash) % 4294967296 + 1) * ((word / 4294967296 + by) % 2147483648 + 2147483648) % 4294967296
 
 -- one of 256 buckets
 unfoldable pub bucketOf : (name : ℕ) (x y : Words) → ℕ

@@ -12,14 +12,14 @@ use memory::layout::FUNCTIONS_FROM;
 use memory::put;
 use memory::read;
 
-// A word more in a hash: the product of its halves, the lower moved on by the hash so far and the upper by a number; then the product's upper
-// half is added to its lower.
+// A word more in a hash: a product of the word's halves, each moved on, so that none of them makes it vanish; its own upper half is added
+// to the lower. The hash moves the one half, so that each word is spread by those before it.
 fn spread(hash: u64, word: u64, by: u64) -> u64
     requires { ⌜ (hash < 8589934592) × (by < 4294967296) ⌝ }
     ensures { λ r. ⌜ (r ≡ Index.spread hash word by) × (r < 8589934592) ⌝ }
 {
-    let low = (word % 4294967296 + hash) % 4294967296;
-    let high = (word / 4294967296 + by) % 4294967296;
+    let low = (word % 4294967296 + hash) % 4294967296 + 1;
+    let high = (word / 4294967296 + by) % 2147483648 + 2147483648;
     let product = low * high;
     product / 4294967296 + product % 4294967296
 }

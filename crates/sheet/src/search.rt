@@ -16,6 +16,9 @@ use memory::read;
 
 const MOST_FUNCTIONS: usize = 256;
 
+// So many rows of a chain are walked; in a full sheet chains of more than 6 are rare.
+const LONGEST: usize = 8;
+
 pub fn words_of(x: Complex) -> Words
     ensures { λ r. ⌜ r ≡ wordsOf x ⌝ }
 {
@@ -49,19 +52,39 @@ fn row_matches(table: &[u64], j: usize, name: u64, x: Words, y: Words) -> bool
     pair_at(table, at + 3, y)
 }
 
+// Row by row from the first on. No row has to wait for the one before, as in a chain.
+fn scan(table: &[u64], count: usize, name: u64, x: Words, y: Words) -> usize
+    requires { ⌜ count ≤ 256 ⌝ }
+    ensures { λ r. ⌜ First (rowMatches (now (table .entry)) name x y) count r ⌝ }
+{
+    let mut j: usize = 0;
+    while j < count {
+        if row_matches(table, j, name, x, y) {
+            return j;
+        }
+        j += 1;
+    }
+    j
+}
+
 // From the head of a chain on to the row for this name and these operands, or the count. Each step leads to an older row, so the walk ends
-// in any memory.
+// in any memory. A long chain is left: rows that were searched until they fell in one bucket cost no more than a look at all rows.
 pub fn walk(table: &[u64], count: usize, head: usize, name: u64, x: Words, y: Words) -> usize
     requires { ⌜ (count ≤ 256) × (head ≤ count) ⌝ }
     ensures { λ r. ⌜ (r ≤ count) × (Indexed (now (table .entry)) count → head ≡ headFor (now (table .entry)) count (bucketOf name x y) → First (rowMatches (now (table .entry)) name x y) count r) ⌝ }
 {
     let mut at = head;
+    let mut steps: usize = 0;
     while at != 0 {
+        if LONGEST <= steps {
+            return scan(table, count, name, x, y);
+        }
         let j = at - 1;
         if row_matches(table, j, name, x, y) {
             return j;
         }
         at = next_of(table, j);
+        steps += 1;
     }
     count
 }
