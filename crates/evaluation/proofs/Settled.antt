@@ -13,8 +13,7 @@ use Rattle.expression.specs.Trees.{Tree, leaf, number}
 use Rattle.expression.specs.Nodes.{operandsOf, grown}
 use Rattle.expression.proofs.Under.{IsOne, IsTwo, one-under, two-under}
 use Rattle.store.specs.Memory.{Memory, expressionAt, treeAt}
-use Rattle.store.specs.Numbers.{IsNumber, numberAt, withNumber, Numbers, OverNumbers, Ordered, Settling}
-use Rattle.store.specs.Walk.{Tells}
+use Rattle.store.specs.Numbers.{Tells, IsNumber, numberAt, withNumber, Numbers, OverNumbers, Ordered, Settling}
 use Rattle.store.proofs.Trees.{tree-own}
 use Rattle.store.proofs.Settling.{Compositional, put-is-number, settles, settles-nothing, settles-both, stays-number, over-numbers}
 use Rattle.sheet.specs.Rows.{Rows}
