@@ -10,27 +10,41 @@ use oracle::{
 use std::collections::HashSet;
 
 const PLACES: u64 = 4096; // of the store
-const MULTIPLIER: u64 = 1013904223; // of the first word's low half, in `linear_bucket`
+const MULTIPLIER: u64 = 1013904223; // of the first word's low half, in the hash that the library had at first
 
 // A node as its key has it: the code, and two words.
 type Key = [u64; 3];
 
-// A copy of `bucket_of` of crates/store/src/index.rt.
-fn bucket(key: Key) -> u64 {
-    linear_bucket(key)
+fn low(word: u64) -> u64 {
+    word % (1 << 32)
 }
 
-// The one that the library had at first. It is linear, so that colliding numbers are computed and need not be sought.
-fn linear_bucket([code, first, second]: Key) -> u64 {
-    let low = |word: u64| word % (1 << 32);
-    let [a, b] = [low(first) * MULTIPLIER + (first >> 32) * 747796405, low(second) * 829304459 + (second >> 32) * 1061234557];
-    let hash = low(code % 64 * 640531527 + low(a) + low(b));
-    (hash * PLACES) >> 31
+// A product that no word makes vanish, of crates/store/src/hash.rt.
+fn product(x: u64, y: u64) -> u64 {
+    (low(x) + 1) * (y % (1 << 31) + (1 << 31))
 }
 
-// Where the search for a t row begins: crates/sheet/src/search.rt. It begins at the first row, so all rows collide.
-pub fn row_bucket(_: Asked) -> u64 {
-    0
+// A copy of `bucket_of` of crates/store/src/index.rt with `hash_of` of hash.rt there.
+fn bucket([code, first, second]: Key) -> u64 {
+    let (p, q) = (
+        product(low(first) + 1013904223, (first >> 32) + code % 64 * 640531527),
+        product(low(second) + 747796405, (second >> 32) + 829304459),
+    );
+    let x = low((p >> 32) + low(q)) + low(low(first) + (first >> 32));
+    let y = low(low(p) + (q >> 32)) + low(low(second) + (second >> 32));
+    let r = product(x, y);
+    (low((r >> 32) + low(r)) * PLACES) >> 31
+}
+
+// A copy of `bucket_of` of crates/sheet/src/index.rt.
+pub fn row_bucket(asked: Asked) -> u64 {
+    let by = [1779033703, 1013904243, 1359893119, 528734635];
+    let spread = |hash: u64, (word, by): (u64, u64)| {
+        let p = (low(low(word) + hash) + 1) * (((word >> 32) + by) % (1 << 31) + (1 << 31));
+        (p >> 32) + low(p)
+    };
+    let hash = asked.operands.into_iter().zip(by).fold(asked.operation as u64 * 668265263, spread);
+    low(low(hash) * 2246822519) >> 24
 }
 
 fn number_key(z: Complex64) -> Key {
@@ -71,8 +85,8 @@ pub fn after(before: &[Node], nodes: &[Node]) -> Vec<Node> {
     before.iter().copied().chain(shifted).collect()
 }
 
-// Numbers whose first words differ by multiples of the multiplier's inverse, so that the sums of `linear_bucket` are a row of
-// neighbours: 1024 of them fall into one or two buckets.
+// Numbers that collided under the hash that the library had at first. It was linear, so that they are computed and need not be sought:
+// their first words differ by multiples of the multiplier's inverse, and the hashes are a row of neighbours.
 pub fn linear_numbers(count: usize) -> Vec<Node> {
     let inverse = (0..5).fold(1u64, |x, _| x.wrapping_mul(2u64.wrapping_sub(MULTIPLIER.wrapping_mul(x)))) % (1 << 32);
     let number = |k: u64| Complex64::new(f64::from_bits((0x3FF << 52) + inverse * k % (1 << 32)), 0.0);
