@@ -125,7 +125,7 @@ module _ {A : Type 0} (f : Listing → A) (rootwise : (root : Tree) (swaps : Lis
   from-1024 : (room : ℕ) → 1024 ≤ room → f (listing false list (fresh 1024 0)) ≡ f (listing false list (fresh room 0))
   from-1024 room ample = beside _ _ (never-full 1024 (omega arith) false list) (more-room false list 1024 room ample)
 
-  alike : (room room′ : ℕ) → 1024 ≤ room → 1024 ≤ room′ → f (listing false list (fresh room 0)) ≡ f (listing false list (fresh room′ 0))
+  pub alike : (room room′ : ℕ) → 1024 ≤ room → 1024 ≤ room′ → f (listing false list (fresh room 0)) ≡ f (listing false list (fresh room′ 0))
   alike room room′ ample ample′ = sym (from-1024 room ample) ∙ from-1024 room′ ample′
 
 -- ---- the calls

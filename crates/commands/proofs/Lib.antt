@@ -2,6 +2,7 @@
 pub mod Choosing
 pub mod Requests
 pub mod Resulting
+pub mod Rooms
 pub mod Answering
 pub mod FirstWord
 pub mod Accepted

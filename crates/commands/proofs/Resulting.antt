@@ -242,17 +242,9 @@ pub parted-is : (room : ℕ) (list values out : List ℕ) {r : Outcome} {out′ 
     → Comes (parted room c list values out) r out′ → Comes (parted room command list values out) r out′
 parted-is room list values out {r} {out′} c e x = subst (λ k. Comes (parted room k list values out) r out′) (sym e) x
 
--- ---- "with a store of 4096", unless the input is too long
+-- ---- an input that is too long
 
 module _ (command : Command) (input out : List ℕ) where
   pub too-long : 262144 < length input → {out′ : List ℕ} → Comes (result command input out) Outcome.TooLong out′
   unfolding result
   too-long h = record { answer = rw (lt-ltb 262144 (length input) h); inside = tt }
-
-  pub with-4096 : (store : List (List ℕ)) {r : Outcome} {out′ : List ℕ} → length input ≤ 262144 → 4096 ≡ length store
-      → Comes (resultIn (min (length store) 4096) command input out) r out′ → Comes (result command input out) r out′
-  unfolding result
-  with-4096 store {r} {out′} h a x =
-      let z : min (length store) 4096 ≡ 4096 = omega (arith, a) in
-      let y = subst (λ k. Comes (resultIn k command input out) r out′) z x in
-      record { answer = rw (le-ltb 262144 (length input) h) (y .answer); inside = y .inside }

@@ -1,10 +1,12 @@
 // A command and its input: the texts that it takes, and the memory that its calls are lent.
 ghost use mathlib.Core.Path.{_≡_};
+ghost use mathlib.Core.Bool.{true};
 ghost use Prim.Native.Nat.{_≤_};
 ghost use lib.ListN.{length};
 ghost use Rattle.calls.specs.Lent.{work, capacity};
 ghost use Rattle.commands.specs.Results as Results;
 ghost use Rattle.commands.specs.Results.{resultIn, result};
+ghost use Rattle.commands.specs.Needing.{WholeAlike, PartedAlike, Alike};
 ghost use Rattle.outcomes.specs.Coming.{Comes};
 use super::jobs;
 use super::tapes;
@@ -87,6 +89,67 @@ fn rows_of_the_store() -> [[u64; 4]; 4096]
     [[0; 4]; 4096]
 }
 
+fn rows_for_a_listing() -> [[u64; 4]; 1024]
+    ensures { λ r. ⌜ 1024 ≡ length r ⌝ }
+{
+    [[0; 4]; 1024]
+}
+
+fn whole_stores_little(command: Whole) -> bool
+    ensures { λ r. ⌜ (r ≡ true → WholeAlike command) ⌝ }
+{
+    match command {
+        Whole::Substitute => false,
+        Whole::Real => true,
+        Whole::Compile => true,
+        Whole::Show => true,
+        Whole::Check => true,
+    }
+}
+
+fn parted_stores_little(command: Parted) -> bool
+    ensures { λ r. ⌜ (r ≡ true → PartedAlike command) ⌝ }
+{
+    match command {
+        Parted::Evaluate => true,
+        Parted::Simplify(_) => false,
+        Parted::Played => false,
+        Parted::Play => true,
+    }
+}
+
+// Whether a command stores no node but those of a listing, which has at most 1024 node lines: then it comes to the same with 1024 rows, and
+// the others need not be cleared.
+fn stores_little(command: Command) -> bool
+    ensures { λ r. ⌜ (r ≡ true → Alike command) ⌝ }
+{
+    match command {
+        Command::Whole(whole) => whole_stores_little(whole),
+        Command::Parted(parted) => parted_stores_little(parted),
+    }
+}
+
+fn run_in_1024(command: Command, input: &[u8], out: &mut [u8]) -> Outcome
+    requires { ⌜ 65536 ≤ length (now out) ⌝ }
+    ensures { λ r. ⌜ Comes (resultIn 1024 command (now (input .entry)) (now (out .entry))) r (now (out .exit)) ⌝ }
+{
+    let mut store = rows_for_a_listing();
+    let mut desk = [0; DESK_WORDS];
+    let mut table = [0; TABLE_WORDS];
+    run_lent(command, input, &mut store, &mut desk, &mut table, out)
+}
+
+fn run_in_4096(command: Command, input: &[u8], out: &mut [u8]) -> Outcome
+    requires { ⌜ 65536 ≤ length (now out) ⌝ }
+    ensures { λ r. ⌜ Comes (resultIn 4096 command (now (input .entry)) (now (out .entry))) r (now (out .exit)) ⌝ }
+{
+    let mut store = rows_of_the_store();
+    let mut desk = [0; DESK_WORDS];
+    let mut table = [0; TABLE_WORDS];
+    run_lent(command, input, &mut store, &mut desk, &mut table, out)
+}
+
+// A command is lent the rows that it needs.
 pub fn run(command: Command, input: &[u8], out: &mut [u8]) -> Outcome
     requires { ⌜ 65536 ≤ length (now out) ⌝ }
     ensures { λ r. ⌜ Comes (result command (now (input .entry)) (now (out .entry))) r (now (out .exit)) ⌝ }
@@ -94,8 +157,8 @@ pub fn run(command: Command, input: &[u8], out: &mut [u8]) -> Outcome
     if MOST < input.len() {
         return Outcome::TooLong;
     }
-    let mut store = rows_of_the_store();
-    let mut desk = [0; DESK_WORDS];
-    let mut table = [0; TABLE_WORDS];
-    run_lent(command, input, &mut store, &mut desk, &mut table, out)
+    if stores_little(command) {
+        return run_in_1024(command, input, out);
+    }
+    run_in_4096(command, input, out)
 }

@@ -6,3 +6,4 @@ mod Examples
 pub mod Incomplete
 pub mod OnTapes
 pub mod OneAnswer
+pub mod Rooms
