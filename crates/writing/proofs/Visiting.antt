@@ -19,7 +19,7 @@ use Rattle.expression.specs.declared.node.Expression.{Expression}
 use Rattle.store.specs.Nodes.{expressionOf}
 use Rattle.expression.specs.Nodes.{operandsOf, grown, Within}
 use Rattle.store.specs.Storing.{among, place}
-use Rattle.store.specs.Memory.{Memory, columns, withLink, fieldsAt, expressionAt, treeAt, treeOf}
+use Rattle.store.specs.Memory.{Memory, memory, columns, withLink, fieldsAt, expressionAt, treeAt, treeOf}
 use Rattle.store.specs.Held.{Holds}
 use Rattle.store.proofs.Places.{place-within, place-hit, place-first, among-yes, among-no}
 use Rattle.store.proofs.Stored.{proper, limited, one-node, read-node}
@@ -144,6 +144,11 @@ module _ (m rows : Memory) (same : rows ≡ columns (m .tag) (m .first) (m .seco
       f ∙ sym (ap (λ (q : Memory). columns (m .tag) (m .first) (m .second) (q .link)) f)
 
 -- ---- the returns
+
+-- where the ways with a visit and without one have met
+pub visit-met : {m : Memory} {n : ℕ} {table : List ℕ} {node below count r r′ : ℕ} {store store′ : List (List ℕ)} {table₁ table₂ : List ℕ} → store ≡ store′ → table₁ ≡ table₂ → r ≡ r′
+    → Visited m n table node below count r′ (memory store′) table₂ → Visited m n table node below count r (memory store) table₁
+visit-met a b c v = rw (a, b, c) v
 
 pub room-small : {m : Memory} {n : ℕ} → Holds m n → n ≤ mostRows
 room-small {m} {n} h = room-each m n (h .fits) .most

@@ -76,7 +76,15 @@ pub fn visit(
         return count;
     }
     let c = children_of(operands_at(store, node));
-    let left = visit(store, table, c.left, node, count);
-    let right = visit(store, table, c.right, node, left);
-    enter(store, table, node, right)
+    let left = c.left;
+    let right = c.right;
+    let mut last = count;
+    // No call where there is no child.
+    if left < node {
+        last = visit(store, table, left, node, last);
+    }
+    if right < node {
+        last = visit(store, table, right, node, last);
+    }
+    enter(store, table, node, last)
 }

@@ -1,8 +1,10 @@
 -- `visit` meets its contract: each return is a law of proofs/Visiting. The measure is `below`. Assumes nothing.
 use mathlib.Core.Path.{refl, ap, _∙_}
+use mathlib.Core.Logic.{⊎-elim}
 use native.Mathlib.Omega.{arith}
+use lib.ListN.{length}
 use Rattle.writing.specs.Ordering.{childrenIn}
-use Rattle.writing.proofs.Visiting.{visit-none, visit-found, visit-entered}
+use Rattle.writing.proofs.Visiting.{visit-none, visit-met, visit-found, visit-entered}
 use borrow.Author.Needs.{needs}
 use Prim.Native.Nat.{ℕ, _<_}
 use borrow.Fn.Kinds.{In}
@@ -52,22 +54,22 @@ visit-children-of-requires : (t : ℕ) → visit-lts.Need-children-of-requires (
 visit-children-of-requires t c κs = search needs
 
 visit-visit-requires : (t : ℕ) → visit-lts.Need-visit-requires (claims t) (visit-at t) visit.Post
-visit-visit-requires t c κs = (omega (arith, c .before .before .before .before .before .before .before .before .before .if1 .left), tt)
+visit-visit-requires t c κs = (omega (arith, c .before .before .before .before .before .before .before .before .before .before .if1 .left), tt)
 
 visit-visit-requires-2 : (t : ℕ) → visit-lts.Need-visit-requires-2 (claims t) (visit-at t) visit.Post
-visit-visit-requires-2 t c κs = (omega (arith, c .before .before .before .before .before .before .before .before .before .before .before .before .before .before .before .if1 .left), tt)
+visit-visit-requires-2 t c κs = (omega (arith, c .before .before .before .before .before .before .before .before .before .before .before .if1 .left), tt)
 
 visit-enter-requires : (t : ℕ) → visit-lts.Need-enter-requires (claims t) (visit-at t) visit.Post
 visit-enter-requires t c κs = search needs
 
 visit-same-length-3 : (t : ℕ) → visit-lts.Need-same-length-3 (claims t) (visit-at t) visit.Post
-visit-same-length-3 t c = search needs
+visit-same-length-3 t c = c .before .before .before .enter .kept .0 ∙ ⊎-elim (λ w. ap length (w .7) ∙ w .3 .kept .0) (λ w. ap length (w .1)) (c .before .before .before .before .before .before .if4 .came) ∙ ⊎-elim (λ w. ap length (w .7) ∙ w .3 .kept .0) (λ w. ap length (w .1)) (c .before .before .before .before .before .before .before .if3 .came)
 
 visit-same-length-4 : (t : ℕ) → visit-lts.Need-same-length-4 (claims t) (visit-at t) visit.Post
-visit-same-length-4 t c = search needs
+visit-same-length-4 t c = c .before .before .before .enter .kept .1 .0 ∙ ⊎-elim (λ w. ap length (w .8) ∙ w .3 .kept .1 .0) (λ w. ap length (w .2)) (c .before .before .before .before .before .before .if4 .came) ∙ ⊎-elim (λ w. ap length (w .8) ∙ w .3 .kept .1 .0) (λ w. ap length (w .2)) (c .before .before .before .before .before .before .before .if3 .came)
 
 visit-returns-3 : (t : ℕ) → visit-lts.Need-returns-3 (claims t) (visit-at t) visit.Post
-visit-returns-3 t c = λ m n h b l. let v = c .before .before .before .before .before .before .before .before .before .before .before .before .before .before .before .visit .ensures m n h (λ q. omega (arith, q, b (c .before .before .before .before .before .before .before .before .before .before .before .before .before .before .before .before .before .before .before .before .before .before .before .before .before .if1 .left))) l in let w = c .before .before .before .before .before .before .before .before .before .visit2 .ensures m n h (λ q. omega (arith, q, b (c .before .before .before .before .before .before .before .before .before .before .before .before .before .before .before .before .before .before .before .before .before .before .before .before .before .if1 .left))) (v .listed) in visit-entered h b l (c .before .before .before .before .before .before .before .before .before .before .before .before .before .before .before .before .before .before .before .before .before .before .before .before .before .if1 .left) (c .before .before .before .before .before .before .before .before .before .before .before .before .before .before .before .before .before .before .before .before .before .before .is-listed .ensures) (c .before .before .before .before .before .before .before .before .before .before .before .before .before .before .before .before .before .before .before .before .before .if2 .left) refl (c .before .before .before .before .before .before .before .before .before .before .before .before .before .before .before .before .before .before .children-of .ensures ∙ ap childrenIn (c .before .before .before .before .before .before .before .before .before .before .before .before .before .before .before .before .before .before .before .operands-at .ensures)) v w (c .before .before .before .enter .ensures)
+visit-returns-3 t c = λ m n h b l. let v = ⊎-elim (λ w. visit-met (w .7) (w .8) (w .9) (w .3 .ensures m n h (λ q. omega (arith, q, b (c .before .before .before .before .before .before .before .before .before .before .before .before .before .before .before .if1 .left))) l)) (λ w. visit-met (w .1) (w .2) (w .3) (visit-none h (λ q. omega (arith, q, b (c .before .before .before .before .before .before .before .before .before .before .before .before .before .before .before .if1 .left))) l (w .0 .left))) (c .before .before .before .before .before .before .before .if3 .came) in let w = ⊎-elim (λ w. visit-met (w .7) (w .8) (w .9) (w .3 .ensures m n h (λ q. omega (arith, q, b (c .before .before .before .before .before .before .before .before .before .before .before .before .before .before .before .if1 .left))) (v .listed))) (λ w. visit-met (w .1) (w .2) (w .3) (visit-none h (λ q. omega (arith, q, b (c .before .before .before .before .before .before .before .before .before .before .before .before .before .before .before .if1 .left))) (v .listed) (w .0 .left))) (c .before .before .before .before .before .before .if4 .came) in visit-entered h b l (c .before .before .before .before .before .before .before .before .before .before .before .before .before .before .before .if1 .left) (c .before .before .before .before .before .before .before .before .before .before .before .before .is-listed .ensures) (c .before .before .before .before .before .before .before .before .before .before .before .if2 .left) refl (c .before .before .before .before .before .before .before .before .children-of .ensures ∙ ap childrenIn (c .before .before .before .before .before .before .before .before .before .operands-at .ensures)) v w (c .before .before .before .enter .ensures)
 
 pub +visit-spec : {M : Type 1} → statement M
 +visit-spec = close μ-visit λ t. visit-lts.spec (claims t) (visit-at t) visit.Post
