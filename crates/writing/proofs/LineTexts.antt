@@ -144,6 +144,13 @@ infix-short o a b h k = omega (arith, infix-length o a b, decimal-short a h, dec
 pub short-room : (e : Expression) (at : ℕ) {room : ℕ} → length (lineText e) ≤ 64 → at + 64 ≤ room → at + length (lineText e) ≤ room
 short-room e at s h = omega (arith, s, h)
 
+-- for an operator's line by the lengths of its numbers: each operator is one byte
+pub prefix-room : (a at : ℕ) {room : ℕ} → a < 18446744073709551616 → at + 64 ≤ room → at + (length (inDecimal a) + 5) ≤ room
+prefix-room a at h k = omega (arith, decimal-short a h, k)
+
+pub infix-room : (a b at : ℕ) {room : ℕ} → a < 18446744073709551616 → b < 18446744073709551616 → at + 64 ≤ room → at + (length (inDecimal a) + length (inDecimal b) + 6) ≤ room
+infix-room a b at h i k = omega (arith, decimal-short a h, decimal-short b i, k)
+
 -- ---- the line of a row, by its kind
 
 module _ (links : List ℕ) (f : Fields) where

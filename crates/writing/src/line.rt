@@ -4,18 +4,20 @@ ghost use mathlib.Core.List.{[], _∷_, _++_};
 ghost use Prim.Native.Nat.{_+_, _≤_};
 ghost use lib.ListN.{length};
 ghost use Rattle.expression.specs.declared.node.Expression.{Expression};
+ghost use Rattle.expression.specs.declared.InfixOperator.{InfixOperator};
+ghost use Rattle.expression.specs.declared.PrefixOperator.{PrefixOperator};
+ghost use Rattle.expression.specs.Codes.{prefixOf, infixOf};
 ghost use Rattle.store.specs.Nodes.{expressionOf};
 ghost use Rattle.store.specs.Memory.{memory};
 ghost use Rattle.listing.specs.Tables.{moved};
-ghost use Rattle.spelling.specs.Names.{functionName};
+ghost use Rattle.spelling.specs.Names.{functionName, prefixName, infixName};
 ghost use Rattle.text.specs.Put.{Put};
+ghost use Rattle.text.specs.Writing.{inDecimal};
 ghost use Rattle.writing.specs.Ordering.{lineText};
 use complex::Complex;
 use complex::bits::from_bits;
 use complex::bits::to_bits;
 use expression::ExpressionFunction;
-use expression::InfixOperator;
-use expression::PrefixOperator;
 use expression::node::Expression;
 use node_lines::LF;
 use node_lines::TAB;
@@ -94,21 +96,23 @@ fn write_call(out: &mut [u8], at: usize, f: ExpressionFunction, child: usize) ->
     write_decimal_field(out, q, child as u64, LF)
 }
 
-fn write_prefix(out: &mut [u8], at: usize, o: PrefixOperator, child: usize) -> usize
-    requires { ⌜ at + length (lineText (Expression.Prefix o child)) ≤ length (now out) ⌝ }
-    ensures { λ r. ⌜ Put (now (out .entry)) at (lineText (Expression.Prefix o child)) r (now (out .exit)) ⌝ }
+// The line of whichever operator has this byte.
+fn write_prefix(out: &mut [u8], at: usize, byte: u8, child: usize) -> usize
+    requires { ⌜ at + (length (inDecimal child) + 5) ≤ length (now out) ⌝ }
+    ensures { λ r. ⌜ ((o : PrefixOperator) → prefixName o ≡ byte ∷ [] → Put (now (out .entry)) at (lineText (Expression.Prefix o child)) r (now (out .exit))) ⌝ }
 {
     let p = write_letter(out, at, b'u');
-    let q = write_letter(out, p, prefix_byte(o));
+    let q = write_letter(out, p, byte);
     write_decimal_field(out, q, child as u64, LF)
 }
 
-fn write_infix(out: &mut [u8], at: usize, o: InfixOperator, left: usize, right: usize) -> usize
-    requires { ⌜ at + length (lineText (Expression.Infix o left right)) ≤ length (now out) ⌝ }
-    ensures { λ r. ⌜ Put (now (out .entry)) at (lineText (Expression.Infix o left right)) r (now (out .exit)) ⌝ }
+// The line of whichever operator has this byte.
+fn write_infix(out: &mut [u8], at: usize, byte: u8, left: usize, right: usize) -> usize
+    requires { ⌜ at + (length (inDecimal left) + length (inDecimal right) + 6) ≤ length (now out) ⌝ }
+    ensures { λ r. ⌜ ((o : InfixOperator) → infixName o ≡ byte ∷ [] → Put (now (out .entry)) at (lineText (Expression.Infix o left right)) r (now (out .exit))) ⌝ }
 {
     let p = write_letter(out, at, b'b');
-    let q = write_letter(out, p, infix_byte(o));
+    let q = write_letter(out, p, byte);
     let r = write_decimal_field(out, q, left as u64, TAB);
     write_decimal_field(out, r, right as u64, LF)
 }
@@ -140,8 +144,30 @@ pub fn write_line(out: &mut [u8], at: usize, e: Expression) -> usize
         Expression::Variable(number) => write_variable(out, at, number),
         Expression::Address(region, index) => write_cell(out, at, region, index),
         Expression::FunctionCall(f, child) => write_call(out, at, f, child),
-        Expression::Prefix(o, child) => write_prefix(out, at, o, child),
-        Expression::Infix(o, left, right) => write_infix(out, at, o, left, right),
+        Expression::Prefix(o, child) => write_prefix(out, at, prefix_byte(o), child),
+        Expression::Infix(o, left, right) => write_infix(out, at, infix_byte(o), left, right),
+    }
+}
+
+// The byte of the operator with this number: in one step, where the operator itself is not wanted.
+fn prefix_byte_of(code: u64) -> u8
+    ensures { λ r. ⌜ prefixName (prefixOf code) ≡ r ∷ [] ⌝ }
+{
+    match code {
+        1 => b'+',
+        _ => b'-',
+    }
+}
+
+fn infix_byte_of(code: u64) -> u8
+    ensures { λ r. ⌜ infixName (infixOf code) ≡ r ∷ [] ⌝ }
+{
+    match code {
+        1 => b'+',
+        2 => b'-',
+        3 => b'*',
+        4 => b'/',
+        _ => b'^',
     }
 }
 
@@ -176,7 +202,7 @@ pub fn write_row(out: &mut [u8], at: usize, store: &[[u64; 4]], f: Fields) -> us
             (second % 4294967296) as u32,
         ),
         5 => write_call(out, at, ExpressionFunction::from_code(operator), left),
-        6 => write_prefix(out, at, PrefixOperator::from_code(operator), left),
-        _ => write_infix(out, at, InfixOperator::from_code(operator), left, right),
+        6 => write_prefix(out, at, prefix_byte_of(operator), left),
+        _ => write_infix(out, at, infix_byte_of(operator), left, right),
     }
 }
