@@ -50,14 +50,16 @@
  * How many rows: evaluate, to_real and compile store no more nodes than the listing has node lines, of which there are at most 1024. So
  * 1024 rows are always enough for them: with more the answer is the same, word for word, and compile's bytes too (proved:
  * crates/exports/proofs/Capacity.antt); for a shorter listing as many as it has lines are enough (tried by tests/c). substitute and
- * simplify store new nodes besides. All rows that are lent are cleared, whether or not they were used, so that fewer rows make a short
- * call faster: evaluating (theta - phi) / 2 takes less than half as long with 1024 rows as with 4096.
+ * simplify store new nodes besides. All rows that are lent are cleared, whether or not they were used: about 0.3 ns a row on the machine
+ * that docs/SPEED.md names, 1.2 microseconds for 4096, where a whole call on 5 nodes with 64 rows takes 0.7. So lend evaluate, to_real and
+ * compile as many rows as the listing has lines, or 1024; simplify and substitute 4096, if no job is to be refused for want of room.
  *
- * Memory that was never written: a function reads rows before it writes them, tests what it finds there, and answers the same whatever
- * it was. So a memory checker (valgrind) that watches rows fresh from malloc reports jumps that depend on uninitialised values, in
- * store::add and writing::order::visit, and soundly. The report is harmless where two reads of one word give the same, which is not so of
- * pages that the system may still take back (MADV_FREE). Who zeroes the memory once, as by calloc, has neither: every return leaves it
- * zero. Nothing was reported of desk, table, out and answer. */
+ * Memory that was never written: a function reads rows, and the words of the table that are an index of the sheet's t lines, before it
+ * writes them, tests what it finds there, and answers the same whatever it was. So a memory checker (valgrind) that watches memory fresh
+ * from malloc reports jumps that depend on uninitialised values, and soundly: of the rows in store::add and writing::order::visit, of the
+ * table in sheet::read_sheet and evaluation::calculate::ask. The report is harmless where two reads of one word give the same, which is not
+ * so of pages that the system may still take back (MADV_FREE). Who zeroes the memory once, as by calloc, has neither: every return leaves
+ * it zero. Nothing was reported of desk, out and answer. */
 #ifndef FINDAVOREB_H
 #define FINDAVOREB_H
 

@@ -336,12 +336,14 @@ fn one_operand(random: &mut Random) -> Vec<Input> {
     }
     let value = |asked: Asked| if asked.operation == Operation::Cosine { z } else { ZERO };
     let sheet = Sheet { variables: vec![z; 16], ..Sheet::default() }.for_lines(&nodes, value);
+    let colliding = sheet.clone().after(of_buckets(random, z));
     let sheet = sheet.after(|k| Asked::new(TURNS[k % 2], Complex64::new(z.re, random.real()), ZERO));
     let mut step = [0; 24];
     step[..2].copy_from_slice(&[5, 5]);
     let mut tape = Input::new("511 cis of one operand, late rows", vec![one()]).with(sheet.clone());
     tape.tape = [[3].as_slice(), &[0; 23], &step.repeat(511)].concat(); // variable 0, and cis
-    vec![Input::new("944 cis of one operand, late rows", nodes).with(sheet), tape]
+    let again = Input::new("944 cis of one operand, colliding rows", nodes.clone()).with(colliding);
+    vec![Input::new("944 cis of one operand, late rows", nodes).with(sheet), again, tape]
 }
 
 // Values by which each operand of cis has its two rows in the first one's buckets, and other rows of these buckets before.
@@ -356,6 +358,16 @@ fn colliding_rows(random: &mut Random, nodes: &[Node]) -> Sheet {
     };
     let sheet = Sheet::default().for_lines(nodes, |asked| if asked.operation == Operation::Sine { ZERO } else { draw(true) });
     sheet.after(|k| Asked::new(TURNS[k % 2], draw(false), ZERO))
+}
+
+// Rows in turns of the buckets of cos and sin of z.
+fn of_buckets(random: &mut Random, z: Complex64) -> impl FnMut(usize) -> Asked + '_ {
+    move |k| loop {
+        let asked = Asked::new(TURNS[k % 2], random.number(), ZERO);
+        if hash::row_bucket(asked) == hash::row_bucket(Asked::new(TURNS[k % 2], z, ZERO)) {
+            return asked;
+        }
+    }
 }
 
 fn one_value() -> Complex64 {

@@ -211,7 +211,9 @@ static void rows(void)
 /* ---- memory fresh from the C library */
 
 static const char TWICE_LESS[] = "v\t0\nv\t1\nb\t-\t0\t1\nb\t-\t2\t1\n", SHIFT[] = "v\t0\nv\t1\nb\t-\t0\t1\ns\t0\t2\n",
-                  BOUND[] = "v\t0\t4008000000000000\t" ZERO "\nv\t1\t3FF0000000000000\t" ZERO "\n";
+                  BOUND[] = "v\t0\t4008000000000000\t" ZERO "\nv\t1\t3FF0000000000000\t" ZERO "\n",
+                  SINE[] = "n\t3FF0000000000000\t" ZERO "\nf\tsin\t0\n",
+                  COSINES[] = "t\tcos\t3FF0000000000000\t" ZERO "\t" ZERO "\t" ZERO "\t3FE14A280FB5068C\t" ZERO "\n";
 
 struct memory {
     uint64_t (*store)[4], *desk, *table, *answer;
@@ -275,9 +277,15 @@ static void play_in(struct memory m)
     expect("play", findavoreb_play(PI_TAPE, sizeof PI_TAPE, BYTES(BOUND), m.table, m.answer) == FINDAVOREB_DONE && m.answer[2] == PI_BITS);
 }
 
+static void need_in(struct memory m)
+{
+    expect("need", findavoreb_evaluate(BYTES(SINE), BYTES(COSINES), WORK_OF(m), m.answer) == FINDAVOREB_NEED);
+}
+
 static void in_fresh_memory(int is_zeroed)
 {
     evaluate_in(fresh_memory(is_zeroed));
+    need_in(fresh_memory(is_zeroed));
     substitute_in(fresh_memory(is_zeroed));
     to_real_in(fresh_memory(is_zeroed));
     simplify_in(fresh_memory(is_zeroed));
