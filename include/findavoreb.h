@@ -31,8 +31,8 @@
  *                 by bench/stack, the most over its jobs, and not proved (bench/results/stack.md). What memset takes is not in it, nor
  *                 what binding it takes at its first call in a dynamically linked program, about 3,000 bytes.
  *
- *                   evaluate 19,848    substitute 14,464    simplify 8,712    compile 8,408
- *                   play      1,760    to_real       496    pick       152    check     136    version 8
+ *                   evaluate 14,160    substitute 14,472    simplify 8,648    compile 8,408
+ *                   play      2,088    to_real       520    pick       144    check     128    version 8
  *
  * What holds at every return, also after a refusal: each word of the store's rows, as many as are lent, of the desk and of the table is
  * 0. After a refusal, out is as it was; after a success its first bytes are the result, and the rest is as it was.
