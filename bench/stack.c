@@ -1,6 +1,9 @@
-/* How much stack the functions of findavoreb.h use. Each job runs on a stack of its own that was painted before; the lowest byte that has
- * changed says how deep the call went. Two paints, since a byte may be written as it was. For each function the most is printed, the
- * answer's number there, and the job; a number as argument asks for so many random jobs. bench/stack builds it and runs it. */
+/* How much stack the functions of findavoreb.h use, and the zero and one tests alone. Each job runs on a stack of its own that was painted
+ * before; the lowest byte that has changed says how deep the call went. Two paints, since a byte may be written as it was. For each function
+ * the most is printed, the answer's number there, and the job; a number as argument asks for so many random jobs. bench/stack builds it
+ * and runs it. */
+#include <math.h>
+#include <stdbool.h>
 #include <stdio.h>
 #include <stdlib.h>
 #include <string.h>
@@ -39,6 +42,14 @@ static void check(void) { HERE; findavoreb_check(tape, tape_length, answer); }
 static void pick(void) { HERE; findavoreb_pick(tape, tape_length, tape, tape_length, picked); }
 static void version(void) { HERE; findavoreb_version(); }
 
+/* The zero and one tests, by the crate timed, which calls them and does nothing else. */
+bool timed_is_zero(double re, double im), timed_is_one(double re, double im);
+static double re, im;
+static bool told;
+
+static void is_zero(void) { HERE; told = timed_is_zero(re, im); }
+static void is_one(void) { HERE; told = timed_is_one(re, im); }
+
 static struct function {
     const char *name;
     void (*call)(void);
@@ -49,9 +60,9 @@ static struct function {
     {"evaluate", evaluate, 0, 0, ""}, {"substitute", substitute, 0, 0, ""}, {"to_real", to_real, 0, 0, ""},
     {"simplify", simplify, 0, 0, ""}, {"compile", compile, 0, 0, ""},       {"play", play, 0, 0, ""},
     {"check", check, 0, 0, ""},       {"pick", pick, 0, 0, ""},             {"version", version, 0, 0, ""},
-};
+}, tests[] = {{"is_zero", is_zero, 0, 0, ""}, {"is_one", is_one, 0, 0, ""}};
 
-enum { FUNCTIONS = sizeof functions / sizeof functions[0] };
+enum { FUNCTIONS = sizeof functions / sizeof functions[0], TESTS = sizeof tests / sizeof tests[0] };
 
 /* ---- painting */
 
@@ -75,6 +86,13 @@ static size_t depth_with(uint8_t paint)
     return (size_t)(top - (stack + lowest));
 }
 
+static uint64_t number_of(const struct function *f)
+{
+    if (f->call == is_zero || f->call == is_one)
+        return told;
+    return f->call == pick ? picked[0] : f->call == version ? 0 : answer[0];
+}
+
 static void try_function(struct function *f, const char *job)
 {
     size_t one, two;
@@ -85,7 +103,7 @@ static void try_function(struct function *f, const char *job)
         one = two;
     if (f->most < one) {
         f->most = one;
-        f->number = f->call == pick ? picked[0] : f->call == version ? 0 : answer[0];
+        f->number = number_of(f);
         f->job = job;
     }
 }
@@ -244,6 +262,38 @@ static void refused_jobs(void)
     try_function(&functions[6], "an unsound tape");
 }
 
+/* ---- the zero and one tests */
+
+#define T 1e-10
+
+static void try_number(double x, double y, const char *job)
+{
+    re = x;
+    im = y;
+    try_function(&tests[0], job);
+    re = 1 + x;
+    try_function(&tests[1], job);
+}
+
+/* Every number with two of these parts, then some around the circle of radius T. */
+static void numbers(unsigned jobs)
+{
+    static const double parts[] = {0, 5e-324, 1e-310, 1e-100, 1e-20, T / 2, 0x1.36fd255a2213bp-34, T - 1e-20, T, 2 * T, 1, INFINITY, NAN};
+    enum { PARTS = sizeof parts / sizeof parts[0] };
+    for (unsigned i = 0; i < PARTS * PARTS; i++)
+        try_number(parts[i / PARTS], -parts[i % PARTS], "a number of two parts from 0 to infinity");
+    for (unsigned i = 0; i < jobs; i++) {
+        double x = T / 1000 * below(1001);
+        try_number(x, sqrt(T * T - x * x) * (1 - 1e-16 * below(9)), "a number near T");
+    }
+}
+
+static void print(const struct function *f, size_t count)
+{
+    for (const struct function *end = f + count; f < end; f++)
+        printf("%-12s%8zu  answer %2llu  %s\n", f->name, f->most, (unsigned long long)f->number, f->job);
+}
+
 int main(int count, char **words)
 {
     unsigned jobs = count > 1 ? (unsigned)strtoul(words[1], NULL, 10) : RANDOM_JOBS;
@@ -257,7 +307,8 @@ int main(int count, char **words)
         random_listing();
         try_all("a random expression");
     }
-    for (struct function *f = functions; f < functions + FUNCTIONS; f++)
-        printf("%-12s%8zu  answer %2llu  %s\n", f->name, f->most, (unsigned long long)f->number, f->job);
+    numbers(jobs);
+    print(functions, FUNCTIONS);
+    print(tests, TESTS);
     return EXIT_SUCCESS;
 }

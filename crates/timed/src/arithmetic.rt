@@ -1,7 +1,7 @@
 // The arithmetic of complex numbers, each number by its two parts.
 ghost use mathlib.Core.Path.{_≡_};
 ghost use Rattle.complex.specs.Arithmetic.{times, over};
-ghost use Rattle.complex.specs.Zero.{isZero};
+ghost use Rattle.complex.specs.Zero.{isZero, isOne};
 ghost use Rattle.timed.specs.Promises.{pair};
 use complex::Complex;
 
@@ -30,4 +30,11 @@ pub extern "C" fn timed_is_zero(re: f64, im: f64) -> bool
     ensures { λ r. ⌜ r ≡ isZero (pair re im) ⌝ }
 {
     complex::zero::is_zero(Complex { re, im })
+}
+
+#[no_mangle]
+pub extern "C" fn timed_is_one(re: f64, im: f64) -> bool
+    ensures { λ r. ⌜ r ≡ isOne (pair re im) ⌝ }
+{
+    complex::zero::is_one(Complex { re, im })
 }
