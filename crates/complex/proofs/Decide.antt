@@ -13,9 +13,11 @@ use borrow.Author.Tests.{lt-ltb, le-ltb}
 use Rattle.complex.specs.declared.parts.Part.{Part}
 use Rattle.complex.specs.Bits.{bitsOf}
 use Rattle.complex.specs.Zero.{magnitude, threshold, squaresBelow}
+use Rattle.complex.specs.Wide.{value}
 use Rattle.complex.specs.Parts.{magnitudeOfFields, magnitudeOfBits, Scaled, cutSquare}
 use Rattle.complex.proofs.Tests.{last-no, last-decides}
 use Rattle.complex.proofs.Cut.{cut, cut-significand, square-lt}
+use Rattle.complex.proofs.Limbs.{limbs}
 use Rattle.complex.proofs.Magnitude.{magnitude-by-bits, rises, rises-le}
 use Rattle.complex.proofs.Scaling.{in-places, placed-below}
 
@@ -41,6 +43,11 @@ t-by-bits = refl
 t-by-half : magnitude threshold ≡ 2 * magnitudeOfBits halfBits
 unfolding magnitude ofBits magnitudeOfBits magnitudeOfFields
 t-by-half = refl
+
+-- the square of T's significand, by its two limbs
+pub t-squared : value (limbs 0x2F3_9421_9248 0x447B_2941_42B7_A699) ≡ significand * significand
+unfolding value
+t-squared = refl
 
 -- ---- the squares cut off at T's last place
 

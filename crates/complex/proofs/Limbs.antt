@@ -28,7 +28,7 @@ unfolding value
 wide-value w p q = wide-of (w .hi) (w .lo) (w .hi * 2 ^ 64 + w .lo) p q refl
 
 -- a number of 128 bits is that of its limbs
-pub value-wide : (n : ℕ) → n < 2 ^ 128 → value (wide n) ≡ n
+value-wide : (n : ℕ) → n < 2 ^ 128 → value (wide n) ≡ n
 unfolding value wide
 value-wide n h = ap (λ (x : ℕ). x * 2 ^ 64 + n % 2 ^ 64) (mod-eq-of-lt (shr-lt {n = n} 64 64 h)) ∙ div-add-mod' n (2 ^ 64)
 
@@ -84,23 +84,36 @@ columns-fit h m n l b =
 multiplied : (h l k m : ℕ) → (h * 2 ^ 32 + l) * (k * 2 ^ 32 + m) ≡ h * k * 2 ^ 64 + (h * m + l * k) * 2 ^ 32 + l * m
 multiplied h l k m = omega arith
 
-pub product-law : (a b : ℕ) → a < 2 ^ 64 → b < 2 ^ 64
+-- what the machine drops of the lower limb's columns would count for nothing
+dropped : (x : ℕ) → x % 2 ^ 64 * 2 ^ 32 % 2 ^ 64 ≡ x * 2 ^ 32 % 2 ^ 64
+dropped x = omega arith
+
+dropped-above : (h y l : ℕ) → (l + y % 2 ^ 64) % 2 ^ 64 ≡ (h * 2 ^ 64 + y + l) % 2 ^ 64
+dropped-above h y l = omega arith
+
+lower : (h m n l : ℕ) {s r : ℕ} → s ≡ (m + n) % 2 ^ 64 → r ≡ (l + s * 2 ^ 32 % 2 ^ 64) % 2 ^ 64 → r ≡ top n m l % 2 ^ 32 * 2 ^ 32 + l % 2 ^ 32
+lower h m n l es er =
+    er ∙ ap (λ (x : ℕ). (l + x * 2 ^ 32 % 2 ^ 64) % 2 ^ 64) es ∙ ap (λ (x : ℕ). (l + x) % 2 ^ 64) (dropped (m + n)) ∙ dropped-above h ((m + n) * 2 ^ 32) l
+    ∙ ap (λ (x : ℕ). x % 2 ^ 64) (sym (columns h m n l)) ∙ digits-mod (h + mid m l / 2 ^ 32 + top n m l / 2 ^ 32) (omega arith)
+
+pub product-law : (a b : ℕ) {s r : ℕ} → a < 2 ^ 64 → b < 2 ^ 64
     → let h = a / 2 ^ 32 * (b / 2 ^ 32) in
     let m = a / 2 ^ 32 * (b % 2 ^ 32) in
     let n = a % 2 ^ 32 * (b / 2 ^ 32) in
     let l = a % 2 ^ 32 * (b % 2 ^ 32) in
-    limbs (h + mid m l / 2 ^ 32 + top n m l / 2 ^ 32) (top n m l % 2 ^ 32 * 2 ^ 32 + l % 2 ^ 32) ≡ wide (a * b)
-product-law a b p q =
+    s ≡ (m + n) % 2 ^ 64 → r ≡ (l + s * 2 ^ 32 % 2 ^ 64) % 2 ^ 64 → limbs (h + mid m l / 2 ^ 32 + top n m l / 2 ^ 32) r ≡ wide (a * b)
+product-law a b {s} {r} p q es er =
     let ah = a / 2 ^ 32 in
     let al = a % 2 ^ 32 in
     let bh = b / 2 ^ 32 in
     let bl = b % 2 ^ 32 in
-    at (ah * bh) (ah * bl) (al * bh) (al * bl) (halves a b p q) (sym (multiplied ah al bh bl) ∙ (λ i. div-add-mod' a (2 ^ 32) i * div-add-mod' b (2 ^ 32) i))
+    at (ah * bh) (ah * bl) (al * bh) (al * bl) (halves a b p q) (sym (multiplied ah al bh bl) ∙ (λ i. div-add-mod' a (2 ^ 32) i * div-add-mod' b (2 ^ 32) i)) es er
   where
     at : (h m n l : ℕ) → (h ≤ most) × (m ≤ most) × (n ≤ most) × (l ≤ most) → h * 2 ^ 64 + (m + n) * 2 ^ 32 + l ≡ a * b
-        → limbs (h + mid m l / 2 ^ 32 + top n m l / 2 ^ 32) (top n m l % 2 ^ 32 * 2 ^ 32 + l % 2 ^ 32) ≡ wide (a * b)
-    at h m n l t e =
-        wide-of (h + mid m l / 2 ^ 32 + top n m l / 2 ^ 32) (top n m l % 2 ^ 32 * 2 ^ 32 + l % 2 ^ 32) (a * b)
+        → s ≡ (m + n) % 2 ^ 64 → r ≡ (l + s * 2 ^ 32 % 2 ^ 64) % 2 ^ 64 → limbs (h + mid m l / 2 ^ 32 + top n m l / 2 ^ 32) r ≡ wide (a * b)
+    at h m n l t e es er =
+        ap (limbs (h + mid m l / 2 ^ 32 + top n m l / 2 ^ 32)) (lower h m n l es er)
+        ∙ wide-of (h + mid m l / 2 ^ 32 + top n m l / 2 ^ 32) (top n m l % 2 ^ 32 * 2 ^ 32 + l % 2 ^ 32) (a * b)
         (columns-fit h m n l t .high) (omega arith) (columns h m n l ∙ e)
 
 -- ---- a shift, over P = 2 ^ j and Q = 2 ^ (64 - j)
@@ -193,11 +206,14 @@ module _ (x y : Wide) where
   unfolding value
   less-high p q n = same-test (x .hi) (y .hi) (value x) (value y) (λ h. omega arith) (λ h. omega arith)
 
--- a sum of two wide numbers against a third, given the numbers that they are the limbs of
-pub sum-less : (a b n : ℕ) {x y s t : Wide} → a < 2 ^ 127 → b < 2 ^ 127 → n < 2 ^ 128
-    → x ≡ wide a → y ≡ wide b → s ≡ wide (value x + value y) → t ≡ wide n → ltb (value s) (value t) ≡ ltb (a + b) n
-sum-less a b n {x} {y} {s} {t} p q r ex ey es et =
-    let va : value x ≡ a = ap value ex ∙ value-wide a (lt-of-lt-of-le p (pow-mono {i = 127} {j = 128} (omega arith))) in
-    let vb : value y ≡ b = ap value ey ∙ value-wide b (lt-of-lt-of-le q (pow-mono {i = 127} {j = 128} (omega arith))) in
-    let vs : value s ≡ a + b = ap value (es ∙ (λ i. wide (va i + vb i))) ∙ value-wide (a + b) (add-lt-pow {a = a} {b = b} 127 p q) in
-    λ i. ltb (vs i) ((ap value et ∙ value-wide n r) i)
+-- what a shift leaves of the limbs of n
+pub shifted-value : (n j : ℕ) {w r : Wide} → n < 2 ^ 128 → w ≡ wide n → r ≡ wide (value w / 2 ^ j) → value r ≡ n / 2 ^ j
+shifted-value n j p ew er =
+    ap value (er ∙ ap (λ (x : ℕ). wide (x / 2 ^ j)) (ap value ew ∙ value-wide n p)) ∙ value-wide (n / 2 ^ j) (lt-of-le-of-lt (shr-le n j) p)
+
+-- two numbers that were added one after the other, from zero on
+pub summed : (a b : ℕ) {x y : Wide} → a < 2 ^ 127 → b < 2 ^ 127 → x ≡ wide (value (limbs 0 0) + a) → y ≡ wide (value x + b) → value y ≡ a + b
+unfolding value
+summed a b {x} {y} p q ex ey =
+    let vx : value x ≡ a = ap value (ex ∙ ap wide (zero-add a)) ∙ value-wide a (lt-of-lt-of-le p (pow-mono {i = 127} {j = 128} (omega arith))) in
+    ap value (ey ∙ ap (λ (n : ℕ). wide (n + b)) vx) ∙ value-wide (a + b) (add-lt-pow {a = a} {b = b} 127 p q)

@@ -2,7 +2,7 @@
 -- Assumes nothing.
 use mathlib.Core.Path.{_≡_, refl, sym, ap, _∙_, subst}
 use mathlib.Core.Logic.{inl, inr}
-use Prim.Native.Nat.{ℕ, zero, suc, min, _+_, _-_, _*_, _/_, _%_, _^_, _≤_, _<_}
+use Prim.Native.Nat.{ℕ, zero, suc, _+_, _-_, _*_, _/_, _%_, _^_, _≤_, _<_}
 use native.Mathlib.Nat.{add-comm, mul-one, mul-assoc, mul-comm, mul-left-comm, mul-right-comm, pow-suc, lt-trans, lt-of-le-of-lt, lt-of-lt-of-le, lt-of-not-le, not-le-of-lt, le-trans, le-of-eq, mul-le-mul, mul-le-mul-left, mul-le-mul-right, mul-lt-mul-of-pos-right, lt-of-mul-lt-mul-right, eq-of-mul-eq-mul-right, zero-lt-suc}
 use native.Mathlib.Omega.{arith}
 use native.Mathlib.Decide.{decLt}
@@ -67,27 +67,26 @@ scaled (suc m) e h z = scaled-nonzero (suc m) e (zero-lt-suc m) h
 
 -- ---- the fields of a double's bits
 
--- with the leading digit that is not written
-digits-of : (x t : ℕ) → magnitudeOfFields x t ≡ (min x 1 * 2 ^ 52 + t) * 2 ^ (x - min x 1)
+-- what the exponent leaves of the field is the leading digit that is not written
+digits-of : (x t : ℕ) → magnitudeOfFields x t ≡ (x * 2 ^ 52 + t - (x - 1) * 2 ^ 52) * 2 ^ (x - 1)
 unfolding magnitudeOfFields
-digits-of zero t = let e : t ≡ (min 0 1 * 2 ^ 52 + t) * 1 = omega arith in e
+digits-of zero t = let e : t ≡ (0 * 2 ^ 52 + t - 0 * 2 ^ 52) * 1 = omega arith in e
 digits-of (suc x) t =
-    let e : min (suc x) 1 ≡ 1 = omega arith in
-    let a : 2 ^ 52 + t ≡ min (suc x) 1 * 2 ^ 52 + t = omega arith in
-    let b : x ≡ suc x - min (suc x) 1 = omega arith in
+    let a : 2 ^ 52 + t ≡ suc x * 2 ^ 52 + t - (suc x - 1) * 2 ^ 52 = omega arith in
+    let b : x ≡ suc x - 1 = omega arith in
     λ i. a i * 2 ^ b i
 
-pub scaled-fields : (b h : ℕ) → h ≡ min (b / 2 ^ 52 % 2048) 1 → Scaled (magnitudeOfBits (b % 2 ^ 63)) (placed (h * 2 ^ 52 + b % 2 ^ 52) (b / 2 ^ 52 % 2048 - h))
-unfolding magnitudeOfBits
-scaled-fields b h e =
-    let x = b % 2 ^ 63 / 2 ^ 52 in
-    let t = b % 2 ^ 63 % 2 ^ 52 in
-    let p : x ≡ b / 2 ^ 52 % 2048 = omega arith in
-    let q : t ≡ b % 2 ^ 52 = omega arith in
-    let u : magnitudeOfFields x t ≡ (h * 2 ^ 52 + b % 2 ^ 52) * 2 ^ (b / 2 ^ 52 % 2048 - h) =
-    digits-of x t ∙ (λ i. (min (p i) 1 * 2 ^ 52 + q i) * 2 ^ (p i - min (p i) 1)) ∙ ap (λ (k : ℕ). (k * 2 ^ 52 + b % 2 ^ 52) * 2 ^ (b / 2 ^ 52 % 2048 - k)) (sym e) in
-    subst (λ (n : ℕ). Scaled n (placed (h * 2 ^ 52 + b % 2 ^ 52) (b / 2 ^ 52 % 2048 - h))) (sym u)
-    (scaled (h * 2 ^ 52 + b % 2 ^ 52) (b / 2 ^ 52 % 2048 - h) (omega arith) (λ z. omega arith))
+module _ (m e : ℕ) (exponent : e ≡ m / 2 ^ 52 - 1) where
+  pub digits-lt : m - e * 2 ^ 52 < 2 ^ 53
+  digits-lt = omega arith
+
+  pub scaled-bits : Scaled (magnitudeOfBits m) (placed (m - e * 2 ^ 52) e)
+  unfolding magnitudeOfBits
+  scaled-bits =
+      let p : m / 2 ^ 52 * 2 ^ 52 + m % 2 ^ 52 ≡ m = omega arith in
+      let u : magnitudeOfFields (m / 2 ^ 52) (m % 2 ^ 52) ≡ (m - e * 2 ^ 52) * 2 ^ e =
+      digits-of (m / 2 ^ 52) (m % 2 ^ 52) ∙ (λ i. (p i - sym exponent i * 2 ^ 52) * 2 ^ sym exponent i) in
+      subst (λ (n : ℕ). Scaled n (placed (m - e * 2 ^ 52) e)) (sym u) (scaled (m - e * 2 ^ 52) e digits-lt (λ z. omega arith))
 
 -- ---- a magnitude has one such form, so a contract that says `Scaled` determines the answer
 

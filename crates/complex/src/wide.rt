@@ -10,7 +10,8 @@ pub struct Wide {
     pub lo: u64,
 }
 
-// The whole product, by halves of 32 bits: no column fills 64 bits.
+// The whole product, by halves of 32 bits. No column of the upper limb fills 64 bits; of the lower one's 64 are kept. Of this form
+// clang makes one multiplication.
 pub fn product(a: u64, b: u64) -> Wide
     ensures { λ r. ⌜ r ≡ wide (a * b) ⌝ }
 {
@@ -19,11 +20,13 @@ pub fn product(a: u64, b: u64) -> Wide
     let bh = b / 0x1_0000_0000;
     let bl = b % 0x1_0000_0000;
     let low = al * bl;
-    let mid = ah * bl + low / 0x1_0000_0000;
-    let top = al * bh + mid % 0x1_0000_0000;
+    let one = ah * bl;
+    let other = al * bh;
+    let mid = one + low / 0x1_0000_0000;
+    let top = other + mid % 0x1_0000_0000;
     Wide {
         hi: ah * bh + mid / 0x1_0000_0000 + top / 0x1_0000_0000,
-        lo: top % 0x1_0000_0000 * 0x1_0000_0000 + low % 0x1_0000_0000,
+        lo: wrapping_add_u64(low, wrapping_add_u64(one, other) << 32),
     }
 }
 

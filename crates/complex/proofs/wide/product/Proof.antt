@@ -18,30 +18,32 @@ fit c = columns-fit _ _ _ _ (bounds c)
 mul-low : tie.Need-mul-low
 mul-low c = omega (arith, bounds c .3)
 
-mul-mid : tie.Need-mul-mid
-mul-mid c = omega (arith, bounds c .1)
+mul-one : tie.Need-mul-one
+mul-one c = omega (arith, bounds c .1)
+
+mul-other : tie.Need-mul-other
+mul-other c = omega (arith, bounds c .2)
 
 add-mid : tie.Need-add-mid
 add-mid c = record { fits = fit c .middle }
 
-mul-top : tie.Need-mul-top
-mul-top c = omega (arith, bounds c .2)
-
 add-top : tie.Need-add-top
 add-top c = record { fits = fit c .upper }
 
-mul-t10 : tie.Need-mul-t10
-mul-t10 c = omega (arith, bounds c .0)
-
-add-t12 : tie.Need-add-t12
-add-t12 c = record { fits = fit c .lower }
+mul-t12 : tie.Need-mul-t12
+mul-t12 c = omega (arith, bounds c .0)
 
 add-t14 : tie.Need-add-t14
-add-t14 c = record { fits = fit c .high }
+add-t14 c = record { fits = fit c .lower }
+
+add-t16 : tie.Need-add-t16
+add-t16 c = record { fits = fit c .high }
 
 returns : tie.Need-returns
-returns c = product-law (c .args .a) (c .args .b) (c .fits .a .fits) (c .fits .b .fits)
+returns c =
+    let s = c .before .before in
+    product-law (s .args .a) (s .args .b) (s .fits .a .fits) (s .fits .b .fits) (c .before .wrapping-add-u64 .ensures) (c .wrapping-add-u642 .ensures)
 
 pub product-spec : {M : Type 1} → statement M
 product-spec =
-    tie.close (tie.spec mul-low mul-mid add-mid mul-top add-top mul-t10 add-t12 add-t14 (λ c. search needs) (λ c. search needs) returns)
+    tie.close (tie.spec mul-low mul-one mul-other add-mid add-top mul-t12 add-t14 add-t16 (λ c κs. search needs) (λ c κs. search needs) returns)
