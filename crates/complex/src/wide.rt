@@ -20,13 +20,13 @@ pub fn product(a: u64, b: u64) -> Wide
     let bh = b / 0x1_0000_0000;
     let bl = b % 0x1_0000_0000;
     let low = al * bl;
-    let one = ah * bl;
-    let other = al * bh;
-    let mid = one + low / 0x1_0000_0000;
-    let top = other + mid % 0x1_0000_0000;
+    let outer = ah * bl;
+    let inner = al * bh;
+    let mid = outer + low / 0x1_0000_0000;
+    let top = inner + mid % 0x1_0000_0000;
     Wide {
         hi: ah * bh + mid / 0x1_0000_0000 + top / 0x1_0000_0000,
-        lo: wrapping_add_u64(low, wrapping_add_u64(one, other) << 32),
+        lo: wrapping_add_u64(low, wrapping_add_u64(outer, inner) << 32),
     }
 }
 

@@ -18,11 +18,11 @@ fit c = columns-fit _ _ _ _ (bounds c)
 mul-low : tie.Need-mul-low
 mul-low c = omega (arith, bounds c .3)
 
-mul-one : tie.Need-mul-one
-mul-one c = omega (arith, bounds c .1)
+mul-outer : tie.Need-mul-outer
+mul-outer c = omega (arith, bounds c .1)
 
-mul-other : tie.Need-mul-other
-mul-other c = omega (arith, bounds c .2)
+mul-inner : tie.Need-mul-inner
+mul-inner c = omega (arith, bounds c .2)
 
 add-mid : tie.Need-add-mid
 add-mid c = record { fits = fit c .middle }
@@ -46,4 +46,4 @@ returns c =
 
 pub product-spec : {M : Type 1} → statement M
 product-spec =
-    tie.close (tie.spec mul-low mul-one mul-other add-mid add-top mul-t12 add-t14 add-t16 (λ c κs. search needs) (λ c κs. search needs) returns)
+    tie.close (tie.spec mul-low mul-outer mul-inner add-mid add-top mul-t12 add-t14 add-t16 (λ c κs. search needs) (λ c κs. search needs) returns)
