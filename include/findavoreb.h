@@ -12,8 +12,8 @@
  * What a caller must see to. Nothing of it can be tested by the functions, and without it nothing is promised:
  *
  *   Pointers      A pointer is not null and is aligned for what it points to; there are as many elements behind it as its length, or the
- *                 parameter's comment, says; and the lent memory (store, desk, table, out, answer, picked) overlaps neither itself nor a
- *                 text nor a tape. This holds for a length of 0 too, where any aligned address will do, as FINDAVOREB_NO_BYTES. Null
+ *                 parameter's comment, says; and the lent memory (store, desk, table, out, answer, marks, picked) overlaps neither itself
+ *                 nor a text nor a tape. This holds for a length of 0 too, where any aligned address will do, as FINDAVOREB_NO_BYTES. Null
  *                 with a length of 0 is not promised, since the proofs know no null pointer. It is harmless in this archive: nothing
  *                 is read or written through a pointer whose length is 0, the compiler was not told that a pointer is not null, and
  *                 tests/c tries it for each of them.
@@ -31,11 +31,13 @@
  *                 by bench/stack, the most over its jobs, and not proved (bench/results/stack.md). What memset takes is not in it, nor
  *                 what binding it takes at its first call in a dynamically linked program, about 3,000 bytes.
  *
- *                   evaluate 14,160    substitute 14,472    simplify 8,648    compile 8,408
- *                   play      2,088    to_real       520    pick       144    check     128    version 8
+ *                   evaluate        15,600    substitute      14,472    simplify        8,888    compile     8,408
+ *                   play             2,552    to_real            520    pick              144    check         128    version 8
+ *                   evaluate_marked 15,352    simplify_marked  8,912    play_marked     2,304
  *
  * What holds at every return, also after a refusal: each word of the store's rows, as many as are lent, of the desk and of the table is
- * 0. After a refusal, out is as it was; after a success its first bytes are the result, and the rest is as it was.
+ * 0. After a refusal, out is as it was; after a success its first bytes are the result, and the rest is as it was. marks, where it is lent,
+ * is written whole.
  *
  * What to lend, in bytes:
  *
@@ -44,8 +46,9 @@
  *   table    36,864                                                    the same, and play
  *   answer       48                                                    all but pick and version; pick 16
  *   out      36,864 for a listing, 12,288 for a tape, or less          substitute, simplify; compile
+ *   marks       256                                                    evaluate_marked, simplify_marked, play_marked
  *
- *   in all   170,160 with 4096 rows and 71,856 with 1024, and out; 36,912 for play
+ *   in all   170,160 with 4096 rows and 71,856 with 1024, and out; 36,912 for play; with marks 256 more
  *
  * How many rows: evaluate, to_real and compile store no more nodes than the listing has node lines, of which there are at most 1024. So
  * 1024 rows are always enough for them: with more the answer is the same, word for word, and compile's bytes too (proved:
@@ -59,7 +62,7 @@
  * from malloc reports jumps that depend on uninitialised values, and soundly: of the rows in store::add and writing::order::visit, of the
  * table in sheet::read_sheet and evaluation::calculate::ask. The report is harmless where two reads of one word give the same, which is not
  * so of pages that the system may still take back (MADV_FREE). Who zeroes the memory once, as by calloc, has neither: every return leaves
- * it zero. Nothing was reported of desk, out and answer. */
+ * it zero. Nothing was reported of desk, out, answer and marks. */
 #ifndef FINDAVOREB_H
 #define FINDAVOREB_H
 
@@ -81,10 +84,10 @@ extern "C" {
  * In 1 the store was four slices of words, tag, first, second and link, each with a length of its own; in 2 it is rows, with a desk beside
  * them. So each of the five functions with a store has three parameters (the rows, their number, the desk) in place of eight (a pointer and a
  * length for each of the four slices). The table has 4608 words in place of 8192. All else is as it was: the other parameters and functions, the answers, what is written
- * to out. */
+ * to out. 2.1 added the three functions with marks. */
 #define FINDAVOREB_INTERFACE 2
-#define FINDAVOREB_VERSION "2.0.0"
-#define FINDAVOREB_VERSION_NUMBER 20000
+#define FINDAVOREB_VERSION "2.1.0"
+#define FINDAVOREB_VERSION_NUMBER 20100
 
 /* The version of the archive that was linked, as a number: FINDAVOREB_VERSION_NUMBER, unless this header is that of another version. */
 uint64_t findavoreb_version(void);
@@ -126,13 +129,14 @@ enum findavoreb_operation {
 };
 
 /* Sizes. The store has a row of four words for each node: it holds as many nodes as rows, and no more than 4096. The desk, the table, the
- * answer and what is picked have exactly the size that is given here. No written listing is longer than 1024 lines of 36 bytes, no tape
- * longer than 512 steps of 24 bytes. */
+ * answer, the marks and what is picked have exactly the size that is given here. No written listing is longer than 1024 lines of 36 bytes,
+ * no tape longer than 512 steps of 24 bytes. */
 enum {
     FINDAVOREB_MOST_ROWS = 4096,
     FINDAVOREB_DESK_WORDS = 272,
     FINDAVOREB_TABLE_WORDS = 4608,
     FINDAVOREB_ANSWER_WORDS = 6,
+    FINDAVOREB_MARKS_BYTES = 256,
     FINDAVOREB_OUT_BYTES = 36864,
     FINDAVOREB_TAPE_BYTES = 12288,
     FINDAVOREB_PICKED_WORDS = 2
@@ -251,6 +255,51 @@ uint64_t findavoreb_play(
     const uint8_t *sheet, size_t sheet_length,
     uint64_t *table,   /* FINDAVOREB_TABLE_WORDS words */
     uint64_t *answer); /* FINDAVOREB_ANSWER_WORDS words */
+
+/* Which t rows were used. The three functions below are evaluate, simplify and play with one parameter more, the last. For the same texts,
+ * tape, limit and lengths they answer the same, write the same to out and leave the work memory zero alike. Besides they write marks:
+ *
+ *   marks[j]  1 if t row j of the sheet was used, else 0; rows are counted from 0, among the t lines alone
+ *
+ * A row is used where a function value is looked up and this row is found for it: the first that matches, so that a later one with the same
+ * name and operands has no mark. cis looks up cos and then sin. However often a row is used, its mark is 1.
+ *
+ * marks is always written whole, whatever it held and whatever the answer is. After a success it has all rows that were used. After
+ * FINDAVOREB_NEED and FINDAVOREB_INCOMPLETE it has those that were used up to there, the row for the cos of a cis that lacks its sin among
+ * them. After any other refusal all marks are 0, also where an expression was simplified and its result is refused by FINDAVOREB_LONG_LIST
+ * or FINDAVOREB_OUT_ROOM. Marks are an answer and no bytes of the output: what is said above of out after a refusal is not said of them.
+ *
+ * evaluate, simplify and play themselves have the parameters and the answers that they had, because who does not ask which rows were used
+ * needs no array to lend. */
+uint64_t findavoreb_evaluate_marked(
+    const uint8_t *listing, size_t listing_length,
+    const uint8_t *sheet, size_t sheet_length,
+    uint64_t (*store)[4], size_t rows,
+    uint64_t *desk,    /* FINDAVOREB_DESK_WORDS words */
+    uint64_t *table,   /* FINDAVOREB_TABLE_WORDS words */
+    uint64_t *answer,  /* FINDAVOREB_ANSWER_WORDS words */
+    uint8_t *marks);   /* FINDAVOREB_MARKS_BYTES bytes */
+
+/* The rows are those that were looked up while it was simplified: for each operation on numbers that was worked out, whether or not its
+ * number stands in the result. A result that is kept for an equal part already is not worked out again. */
+uint64_t findavoreb_simplify_marked(
+    const uint8_t *listing, size_t listing_length,
+    const uint8_t *sheet, size_t sheet_length,
+    uint64_t limit,
+    uint64_t (*store)[4], size_t rows,
+    uint64_t *desk,    /* FINDAVOREB_DESK_WORDS words */
+    uint64_t *table,   /* FINDAVOREB_TABLE_WORDS words */
+    uint8_t *out, size_t out_length,
+    uint64_t *answer,  /* FINDAVOREB_ANSWER_WORDS words */
+    uint8_t *marks);   /* FINDAVOREB_MARKS_BYTES bytes */
+
+/* A tape that was compiled gives the marks that findavoreb_evaluate_marked gives for its listing, where that answers the same. */
+uint64_t findavoreb_play_marked(
+    const uint8_t *tape, size_t tape_length,
+    const uint8_t *sheet, size_t sheet_length,
+    uint64_t *table,   /* FINDAVOREB_TABLE_WORDS words */
+    uint64_t *answer,  /* FINDAVOREB_ANSWER_WORDS words */
+    uint8_t *marks);   /* FINDAVOREB_MARKS_BYTES bytes */
 
 /* Whether the bytes are a sound tape: FINDAVOREB_DONE and the number of steps, or FINDAVOREB_BAD_TAPE and the first bad step. */
 uint64_t findavoreb_check(

@@ -4,13 +4,13 @@
     python3 tests/call_cases.py            writes these lists of crates/call_cases/data anew, and args and stdout
     python3 tests/call_cases.py --check    only says whether they are what it would write
 
-Both also play, by the model, the evaluations in the list `rust`, which tests/rust/run stores: whether each value is the Rust's, and how
-many tapes the program has to play.
+Both also play, by the model, the evaluations in the lists `rust` and `rust_marks`, which tests/rust/run stores: whether each value is the
+Rust's, whether the marks are, and how many tapes the program has to play. One of these lists that is not there is left out.
 
 A list of cases is a file of data: `sound` and `damaged` tapes, `picks` between two of them, `listings` to compile, `plays` of a tape with
-a sheet, and `examples`, the jobs under examples/, of which example_cases.py says more. A case is a line and then its texts and tapes. The line
-is a letter, a 1 and eleven fields of 16 hex digits, each after a tab:
-    k       check a tape; p pick one of two tapes; c compile a listing; y play a tape with a sheet; x an example
+a sheet, `marks`, the calls with marks, of which mark_cases.py says more, and `examples`, the jobs under examples/, of which example_cases.py
+does. A case is a line and then its texts and tapes. The line is a letter, a 1 and eleven fields of 16 hex digits, each after a tab:
+    k       check a tape; p pick one of two tapes; c compile a listing; y play a tape with a sheet; x an example; E and Y of mark_cases.py
     1       the word that rows, desk and table are filled with before
     2       how many rows are lent
     3       eight digits each for the lengths of the first and the second text or tape
@@ -26,6 +26,7 @@ import random
 import sys
 
 from example_cases import example_cases
+from mark_cases import MARKS, MarkCases, evaluated, marks_line
 from stored import CRATES, hold_program, pass_over
 from tape_model import (
     FUNCTION, FUNCTIONS, INFIX, MEMORY, NUMBER, OPERATORS, PI, PREFIX, SIGNS, STACK, STEP, STEPS, VARIABLE, Need, bad_step, compiled,
@@ -584,42 +585,56 @@ def any_plays(c):
     c.play(left, b'')
 
 
-# ---- the list that tests/rust/run stores, whose evaluations the program also compiles and plays
+# ---- the lists that tests/rust/run stores, whose evaluations the program also compiles and plays
 
-def stored_cases():
-    """The letter, the listing, the sheet, the room for nodes and the stored answer of each; tests/rust/README.md has the form."""
-    with open(os.path.join(CRATES, 'call_cases', 'data', 'rust'), 'rb') as f:
+def stored_list(name):
+    return os.path.join(CRATES, 'call_cases', 'data', name)
+
+
+def stored_cases(name):
+    """The letter, the listing, the sheet, the room for nodes, the stored answer and the line of marks of each, b'' where it has none;
+    tests/rust/README.md has the form."""
+    with open(stored_list(name), 'rb') as f:
         data = f.read()
     at = 0
     while at < len(data):
         kind, _, rows, texts, outputs, *answer = data[at:at + 190].split(b'\t')
         texts, outputs = int(texts, 16), int(outputs, 16)
-        middle = at + 190 + (texts >> 32)
+        start, middle = at + 190, at + 190 + (texts >> 32)
         end = middle + texts % (1 << 32)
-        yield kind[:1], data[at + 190:middle], data[middle:end], int(rows, 16), tuple(int(x, 16) for x in answer[:6])
         at = end + outputs % (1 << 32)
+        marks = data[at:at + MARKS] if kind[:1] in b'EZ' else b''
+        yield kind[:1], data[start:middle], data[middle:end], int(rows, 16), tuple(int(x, 16) for x in answer[:6]), marks
+        at += len(marks)
 
 
 def one_zero(answer):
     return tuple(0 if x == SIGN and answer[0] == 0 else x for x in (*answer, 0, 0, 0, 0)[:6])
 
 
-def rust_said():
-    """What has to be said of the list, where the model's answers are the Rust's, zeros of either sign as one."""
-    cases, counts = list(stored_cases()), {0: 0, 14: 0, 8: 0}
-    for kind, listing, sheet, nodes, wanted in cases:
-        if kind != b'e':
+def rust_said(name):
+    """What has to be said of a list, where the model's answers are the Rust's, zeros of either sign as one, and the marks too."""
+    cases, tapes = list(stored_cases(name)), [0, 0, 0]
+    for kind, listing, sheet, nodes, wanted, marks in cases:
+        if kind not in b'eE':
             continue
         try:
             got = answer_of(compiled(listing, nodes, TAPE), sheet)
-            counts[0] += 1
+            tapes[0] += 1
         except Refused as why:
             got = wanted if why.number == 14 else (why.number, why.place)
-            counts[14 if why.number == 14 else 8] += 1
+            tapes[1 if why.number == 14 else 2] += 1
         if one_zero(got) != one_zero(wanted):
             sys.exit('the model answers %s where the Rust answers %s to\n%s' % (got, wanted, listing.decode()))
-    tapes = '%d compiled and played, %d too long for a tape, %d refused\n' % tuple(counts.values())
-    return 'rust: %d cases, 0 wrong\n' % len(cases) + tapes
+        if marks and marks != marks_line(evaluated(listing, sheet, nodes)[1]):
+            sys.exit('the model uses other rows than the Rust asks for in\n%s\n%s' % (listing.decode(), sheet.decode()))
+    return said_of(name, cases, tapes)
+
+
+def said_of(name, cases, tapes=None):
+    """Of a list that is evaluated it is said besides how many tapes there were."""
+    said = '%s: %d cases, 0 wrong\n' % (name, len(cases))
+    return said if tapes is None else said + '%d compiled and played, %d too long for a tape, %d refused\n' % tuple(tapes)
 
 
 def main():
@@ -628,10 +643,13 @@ def main():
             unused_fields, unused_bytes, codes, nans, cuts, lengths, heights, pops, counts, several, all_steps, all_numbers, picks,
             small_listings, other_listings, long_listings, refused_listings, arithmetic, functions, lacks, refused_plays, any_plays):
         cases(c)
-    c.lists['examples'] = example_cases()
-    said = rust_said() + ''.join('%s: %d cases, 0 wrong\n' % (name, len(cases)) for name, cases in c.lists.items())
+    marks = MarkCases()
+    c.lists['marks'], c.lists['examples'] = marks.cases, example_cases()
+    rust = [name for name in ('rust', 'rust_marks') if os.path.exists(stored_list(name))]
+    said = ''.join(rust_said(name) for name in rust)
+    said += ''.join(said_of(name, cases, marks.tapes if name == 'marks' else None) for name, cases in c.lists.items())
     lists = {name: b''.join(cases) for name, cases in c.lists.items()}
-    hold_program('call_cases', lists, ['rust', *lists], said.encode())
+    hold_program('call_cases', lists, [*rust, *lists], said.encode())
     print(said, end='')
 
 

@@ -10,7 +10,7 @@ import glob
 import os
 
 EXAMPLES = os.path.join(os.path.dirname(os.path.dirname(os.path.abspath(__file__))), 'examples')
-WORDS, JOB, PRINTED, SAID = 8192, 65536, 65536, 90112  # how long the program's texts can be
+WORDS, JOB, PRINTED, SAID = 8192, 65536, 65536, 92160  # how long the program's texts can be
 
 
 def content(folder, name):

@@ -15,7 +15,7 @@ trap 'rm -rf "$scratch"' EXIT
 # The exit status that goes with what a job has to print.
 status_of() {
     case $(cat "$1") in
-        incomplete | need* | refused*) echo 1 ;;
+        incomplete* | need* | refused*) echo 1 ;;
         *) echo 0 ;;
     esac
 }

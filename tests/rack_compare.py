@@ -5,7 +5,8 @@ added or dropped, a carriage return, a hex digit in lower case, a line dropped, 
 last line feed cut), or its sheet lacks rows. Cases that chance meets seldom, and odd fields in each place of a line, are always there besides.
 It runs the program on each and compares what is printed on standard output and said on standard error with the model, byte for byte. Where the
 model leaves the answer to the simplifier, it compares `played` with `simplify` followed by `evaluate`, both run by the program, and looks whether
-what `simplify` prints is a listing as it is written, and what it says a count of calls that the rules allow.
+what `simplify` prints is a listing as it is written, and what it says a count of calls that the rules allow. The t rows that it says it used, and
+prints after the word `marks`, have to be those that it asks for one by one where the sheet has none, each the first that matches.
 
 PROGRAM is target/bin/rack if none is named, which ./run makes. It is started as ./run starts it, so rt has to be on the path. Each case that
 differs is printed. The last line counts; the exit status is 0 if nothing differs."""
@@ -116,7 +117,22 @@ def rows_for(pick, text, play):
         rows.append(b't' + asked[4:-1] + ('\t%s\t%s\n' % (double(pick), double(pick))).encode())
     if pick.random() < 0.2:
         pick.shuffle(rows)
+    if pick.random() < 0.4:
+        rows = among_others(pick, rows)
     return sheet + b''.join(rows)
+
+
+def among_others(pick, rows):
+    """The same rows, with some that nothing asks for, and some again further down with another value."""
+    rows = list(rows)
+    for _ in range(pick.choice([1, 2, 4])):
+        above, value = pick.randrange(len(rows) + 1), '\t%s\t%s\n' % (double(pick), double(pick))
+        if above and pick.random() < 0.6:
+            again = rows[above - 1].rsplit(b'\t', 2)[0]
+        else:
+            again = ('t\t%s\t%s\t%s\t%s\t%s' % (pick.choice(['sin', 'cos', 'exp', 'sqrt']), double(pick), double(pick), ZERO, ZERO)).encode()
+        rows.insert(pick.randrange(above, len(rows) + 1), again + value.encode())
+    return rows
 
 
 def bindings(pick):
@@ -307,12 +323,12 @@ READERS = [command.encode() for command in sorted(model.COMMANDS)]
 OTHERS = [b'help', b'--help', b'--version']
 UNKNOWN = [
     b'', b'evaluated', b'Evaluate', b'-h', b'version', b'--Version', b'evaluat', b'\xff\xfe', b'a b', b'\xc3\xa9', b'run', b'5', b'helper']
-FILES = [b'job', b'./5', b'05', b'4294967296', b'a b', b'\xff', b'-1', b'help']
+FILES = [b'job', b'./marks', b'./5', b'05', b'4294967296', b'a b', b'\xff', b'-1', b'help']
 
 
 def words_alone(pick):
     """No words, words of no command, too many words, and the commands that read nothing."""
-    more = [pick.choice([b'x', b'y', b'', b'help', b'\xff', b'5']) for _ in range(4)]
+    more = [pick.choice([b'x', b'y', b'', b'help', b'\xff', b'5', b'marks']) for _ in range(4)]
     shape = pick.randrange(20)
     if shape == 0:
         return []
@@ -322,8 +338,9 @@ def words_alone(pick):
         return [pick.choice(OTHERS)] + more[:pick.choice([0, 0, 1, 2, 4])]
     command = pick.choice(READERS + [b'simplify'] * 4)
     if command != b'simplify':
-        return [command] + more[:pick.choice([2, 3, 4])]
-    first = pick.choice([[b'05'], [b'4294967296'], [b'x'], [b'-1'], [b'1.0'], [b''], [b'5', b'5'], [b'11', b'x'], [b'4294967295', b'x']])
+        return [command] + more[:pick.choice([3, 3, 4] if more[0] == b'marks' else [2, 3, 4])]
+    first = pick.choice([[b'05'], [b'4294967296'], [b'x'], [b'-1'], [b'1.0'], [b''], [b'5', b'5'], [b'11', b'x'], [b'4294967295', b'x'],
+                         [b'marks', b'x'], [b'5', b'marks', b'x'], [b'marks', b'5'], [b'x', b'marks']])
     return [command] + first + more[:pick.choice([1, 2])]
 
 
@@ -341,8 +358,10 @@ def case(pick):
     words, file = [command.encode()], None
     if command == 'simplify' and pick.random() < 0.6:
         words.append(b'%d' % pick.choice([0, 1, 2, 5, 9, 10, 11, 4294967295]))
+    if command in model.MARKING and pick.random() < 0.4:
+        words.append(b'marks')
     if pick.random() < 0.1:
-        file = pick.choice(FILES)
+        file = pick.choice(FILES + [b'marks'] * (words[-1] == b'marks'))
         words.append(file)
     return words, text, file
 
@@ -424,21 +443,53 @@ class Comparison:
         if words[0] == b'simplify':
             return None
         listed, said = self.run([b'simplify'], text)
-        if listed.startswith((b'need\t', b'refused\t')):
-            return listed, said
-        return self.run([b'evaluate'], listed + b'\n' + model.parted(text)[1])
+        if not listed.startswith((b'need\t', b'refused\t')):
+            listed, said = self.run([b'evaluate'], listed + b'\n' + model.parted(text)[1])
+        return listed, ROWS.sub(b'', said)
+
+    def is_simplified(self, words, text, found):
+        """Whether this is what simplifying a job may print and say, with the rows that it has to use."""
+        limit, rest = model.limit_and_rest('simplify', words[1:])
+        printed, used = self.one_by_one([b'simplify', b'%d' % limit], text)
+        rows = model.Answer(b'')
+        rows.used = [] if printed.startswith(b'refused\t') else sorted(used)
+        marks, line = rows.marked(rest[:1] == [b'marks']).args
+        said = found[1][:len(found[1]) - len(line)]
+        return found == (printed + marks, said + line) and is_simplified(printed, said)
+
+    def one_by_one(self, words, text):
+        """What is printed at last where the sheet gets its t rows one by one, as they are asked for, and the numbers of these rows."""
+        listing, sheet = model.parted(text)
+        lines = sheet.splitlines(True)
+        rows, have, used = [line for line in lines if line[:1] == b't'], [line for line in lines if line[:1] != b't'], set()
+        while True:
+            printed, _ = self.run(words, listing + b'\n' + b''.join(have))
+            row = next((k for k, line in enumerate(rows) if is_asked_for(line, printed)), None)
+            if row is None:
+                return printed, used
+            used.add(row)
+            have.append(rows[row])
 
     def compare(self, words, text, file):
         wanted, found = self.wanted(words, text), self.run(words, text, file)
         self.cases[words[0].decode() if words and words[0] in READERS else 'of words'] += 1
-        if found == wanted if wanted is not None else is_simplified(*found):
+        if found == wanted if wanted is not None else self.is_simplified(words, text, found):
             return
         self.differ += 1
         print('rack %r < %r\n  prints %r\n  wanted %r' % (words, text, found, wanted))
 
 
+ROWS = re.compile(b'rows used:(?: [0-9]+)+\n\\Z')
+
+
+def is_asked_for(line, printed):
+    """Whether a t line is a row for what a need line asks."""
+    key = texts.row_of(line[:-1])[1]
+    return printed == b'need\t%s\t%016X\t%016X\t%016X\t%016X\n' % key[1:]
+
+
 def is_simplified(printed, said):
-    """Whether this may be what simplifying a job answers whose texts are not refused."""
+    """Whether this may be what simplifying a job answers whose texts are not refused, without the rows."""
     if printed.startswith(b'need\t') or re.fullmatch(b'refused\t[2678]\t0\n', printed):
         return said.count(b'\n') == 1
     calls = re.fullmatch(b'The expression was simplified in ([0-9]+) (calls?)\\.\n', said)

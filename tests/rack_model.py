@@ -1,6 +1,6 @@
 """A second reading of the rules and of docs/FORMATS.md for the tool rack: what it prints on standard output and says on standard error. It has the
-commands evaluate, real, substitute, compile, play, check, show, help and --version, and the words that are no command; of simplify and
-played it has the refusals that come before anything is simplified. Texts and tapes are read by texts_model.py and tape_model.py.
+commands evaluate, real, substitute, compile, play, check, show, help and --version, the marks of the t rows that were used, and the words that
+are no command; of simplify and played it has the refusals that come before anything is simplified. Texts and tapes are read by texts_model.py and tape_model.py.
 
 The wording of the sentences is that of crates/sentences/specs/Sentences.antt, written down here a second time; the help and what is said of
 words are taken from crates/commands/specs/Help.antt. tests/rack_compare.py compares the program with this model by running."""
@@ -15,6 +15,7 @@ ROOT = os.path.dirname(os.path.dirname(os.path.abspath(__file__)))
 MOST_BYTES, STORE = 262144, 4096
 TAPED = {'play', 'check', 'show'}
 SHEETED = {'evaluate', 'play', 'simplify', 'played'}
+MARKING = {'evaluate', 'play', 'simplify'}
 
 
 # ---- three places where the pages left room. The model's first reading was another each time; these are the program's answers, which
@@ -192,11 +193,18 @@ def sheet_fault(text, place):
 # ---- answers
 
 class Answer(Exception):
-    """What is printed and what is said."""
+    """What is printed and what is said, and the numbers of the t rows that were used."""
 
     def __init__(self, printed, said=b''):
         super().__init__(printed, said)
-        self.printed, self.said = printed, said
+        self.printed, self.said, self.used = printed, said, []
+
+    def marked(self, is_asked):
+        """With the rows, which are always said and printed where that is asked for."""
+        numbers = ['%d' % number for number in self.used]
+        printed = fields('marks', *numbers) if is_asked else b''
+        said = ' '.join(['rows used:', *numbers]).encode() + b'\n' if numbers else b''
+        return Answer(self.printed + printed, self.said + said)
 
 
 def refused(number, place, said):
@@ -247,6 +255,18 @@ def sheet_of(text):
         raise refused(why.number, why.place, sentence(why.number, why.place, fault)) from None
 
 
+def using(rows, ask):
+    """The answer, a lack too, and the rows that were used for it."""
+    try:
+        given = ask()
+    except tapes.Need as lack:
+        given = need(*lack.args)
+    except Answer as lack:
+        given = lack
+    given.used = sorted(rows.used)
+    return given
+
+
 # ---- the operations
 
 def value_of(tree, rows, known):
@@ -287,10 +307,7 @@ def evaluate(text):
     listing, sheet = parted(text)
     root, _ = listing_of(listing, 'evaluate')
     rows = sheet_of(sheet)
-    try:
-        return value(*value_of(root, rows, {}))
-    except tapes.Need as lack:
-        return need(*lack.args)
+    return using(rows, lambda: value(*value_of(root, rows, {})))
 
 
 def real(text):
@@ -353,20 +370,22 @@ def tape_of(text):
     return tape
 
 
-def play(text):
-    tape, sheet = parted(text)
-    tape = tape_of(tape)
-    rows = sheet_of(sheet)
+def left_by(tape, rows):
+    """What a sound tape leaves."""
     stack = []
     for k in range(len(tape) // tapes.STEP):
         opcode, sub, half, word, re, im = tapes.fields_of(tape, k)
         if opcode in (tapes.VARIABLE, tapes.MEMORY):
             looked_up((b'v', half) if opcode == tapes.VARIABLE else (b'm', half, word), rows)
-        try:
-            stack = tapes.do(stack, rows, opcode, sub, half, word, re, im)
-        except tapes.Need as lack:
-            return need(*lack.args)
-    return value(*stack[0])
+        stack = tapes.do(stack, rows, opcode, sub, half, word, re, im)
+    return stack[0]
+
+
+def play(text):
+    tape, sheet = parted(text)
+    tape = tape_of(tape)
+    rows = sheet_of(sheet)
+    return using(rows, lambda: value(*left_by(tape, rows)))
 
 
 def check(text):
@@ -417,6 +436,18 @@ def limit_and_rest(command, rest):
     return 10, rest
 
 
+def job_answer(command, limit, text):
+    """What a job comes to; None where it is for the simplifier to say."""
+    if len(text) > MOST_BYTES:
+        return refused(0, 0, 'The input is too long: it may have 262,144 bytes.')
+    if limit > 10:
+        return refused(5, 0, PLAIN[5])
+    try:
+        return COMMANDS[command](text)
+    except Answer as given:
+        return given
+
+
 def answer(words, text):
     """What is printed and said for the words after `rack` and the input; None where it is for the simplifier to say."""
     said = helping()
@@ -426,16 +457,12 @@ def answer(words, text):
     if command not in COMMANDS and command not in ('help', '--help', '--version'):
         return Answer(b'', b'rack has no command ' + words[0] + b'; ./run rack help names the commands.\n')
     limit, rest = limit_and_rest(command, rest)
+    is_asked = command in MARKING and rest[:1] == [b'marks']
+    rest = rest[is_asked:]
     most = 1 if command in COMMANDS else len(rest) if WORDS_AFTER_HELP else 0
     if len(rest) > most:
         return Answer(b'', said['tooMany'])
     if command not in COMMANDS:
         return Answer(said['version' if command == '--version' else 'help'])
-    if len(text) > MOST_BYTES:
-        return refused(0, 0, 'The input is too long: it may have 262,144 bytes.')
-    if limit > 10:
-        return refused(5, 0, PLAIN[5])
-    try:
-        return COMMANDS[command](text)
-    except Answer as given:
-        return given
+    given = job_answer(command, limit, text)
+    return given.marked(is_asked) if given is not None and command in MARKING else given

@@ -1,5 +1,5 @@
-"""A second reading of 01 for its tapes, on trees and bytes: the steps of a tree, when bytes are a sound tape, what playing answers, and
-which of two tapes is picked. The texts are read by texts_model.py."""
+"""A second reading of 01 for its tapes, on trees and bytes: the steps of a tree, when bytes are a sound tape, what playing answers and which
+t rows it uses, and which of two tapes is picked. The texts are read by texts_model.py."""
 import math
 import struct
 
@@ -130,7 +130,7 @@ def looked_up(name, x, y, rows):
     operands = [bits_of(part) for part in (*x, *y)]
     if (b't', name, *operands) not in rows:
         raise Need(OPERATIONS.index(name) + 1, *operands)
-    return tuple(float_of(bits) for bits in rows[(b't', name, *operands)])
+    return tuple(float_of(bits) for bits in rows.use((b't', name, *operands)))
 
 
 def function(name, x, rows):
@@ -165,12 +165,13 @@ def do(stack, rows, opcode, sub, half, word, re, im):
     return stack[:-2] + [infix(OPERATORS[sub - 1], *stack[-2:], rows)]
 
 
-def played(tape, sheet):
-    """The bits of the value, after the refusals in their order."""
+def played(tape, sheet, used=None):
+    """The bits of the value, after the refusals in their order. To `used` the numbers of the t rows are added that are used up to there."""
     bad = bad_step(tape)
     if bad is not None:
         raise Refused(15, bad)
     _, rows = read_sheet(sheet)
+    rows.used = set() if used is None else used
     stack = []
     for k in range(len(tape) // STEP):
         stack = do(stack, rows, *fields_of(tape, k))

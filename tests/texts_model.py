@@ -172,9 +172,22 @@ def row_of(line):
     return (2,), (kind, fields[0], *numbers[:4]), (numbers[4], numbers[5])
 
 
+class Values(dict):
+    """The value of each key; the number of the first t row that has a key, counted from 0 among the t rows; and the numbers of those that
+    were used."""
+
+    def __init__(self):
+        super().__init__()
+        self.numbers, self.used = {}, set()
+
+    def use(self, key):
+        self.used.add(self.numbers[key])
+        return self[key]
+
+
 def read_sheet(text):
     """How many rows of each kind there are, and the value of each key."""
-    counts, values, last = {kind: 0 for kind in ROW_LINES}, {}, ()
+    counts, values, last = {kind: 0 for kind in ROW_LINES}, Values(), ()
     for i, (line, is_ended) in enumerate(lines_of(text)):
         kind = line[:1]
         if kind in counts and counts[kind] == ROW_LINES[kind]:
@@ -186,6 +199,8 @@ def read_sheet(text):
         if order < last or (order == last and kind != b't'):
             raise Refused(3, i)
         last = order
+        if kind == b't':
+            values.numbers.setdefault(key, counts[kind])
         counts[kind] += 1
         values.setdefault(key, value)
     return list(counts.values()), values

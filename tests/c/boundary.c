@@ -16,12 +16,13 @@ enum { ROWS = 1024, TEXT = 1 << 17 };
 
 static uint64_t store[FINDAVOREB_MOST_ROWS][4], desk[FINDAVOREB_DESK_WORDS], table[FINDAVOREB_TABLE_WORDS];
 static uint64_t answer[FINDAVOREB_ANSWER_WORDS], picked[FINDAVOREB_PICKED_WORDS];
-static uint8_t out[FINDAVOREB_OUT_BYTES];
+static uint8_t out[FINDAVOREB_OUT_BYTES], marks[FINDAVOREB_MARKS_BYTES];
 
 #define ZERO "0000000000000000"
 #define BYTES(text) (const uint8_t *)(text), strlen(text)
 #define WORK store, FINDAVOREB_MOST_ROWS, desk, table
 #define OUT out, sizeof out
+#define MARKED answer, (memset(marks, 0xFF, sizeof marks), marks)
 
 /* ---- what is counted and said */
 
@@ -40,6 +41,22 @@ static void expect(const char *what, int is_so)
 static void expect_answer(const char *what, uint64_t returned, uint64_t number, uint64_t detail, uint64_t re)
 {
     expect(what, returned == number && answer[0] == number && answer[1] == detail && answer[2] == re);
+}
+
+/* Each mark is written: 1 for the first so many rows, and 0 for all others. */
+static int are_marked(const uint8_t *all, size_t count)
+{
+    size_t right = 0;
+    for (size_t j = 0; j < FINDAVOREB_MARKS_BYTES; j++)
+        right += all[j] == (j < count);
+    return right == FINDAVOREB_MARKS_BYTES;
+}
+
+/* The same of the last call with marks, which used no row. */
+static void expect_unmarked(const char *what, uint64_t returned, uint64_t number, uint64_t detail, uint64_t re)
+{
+    expect_answer(what, returned, number, detail, re);
+    expect("all marks are 0", are_marked(marks, 0));
 }
 
 /* ---- the version */
@@ -142,6 +159,10 @@ static void no_texts(void)
     expect_answer("compile nothing", findavoreb_compile(NO_TEXT, NO_STORE, NO_OUT, answer), FINDAVOREB_BAD_LIST, 0, 0);
     expect_answer("play nothing", findavoreb_play(NO_TEXT, NO_TEXT, table, answer), FINDAVOREB_BAD_TAPE, 0, 0);
     expect_answer("check nothing", findavoreb_check(NO_TEXT, answer), FINDAVOREB_BAD_TAPE, 0, 0);
+    expect_unmarked("evaluate nothing", findavoreb_evaluate_marked(NO_TEXT, NO_TEXT, NO_STORE, MARKED), FINDAVOREB_BAD_LIST, 0, 0);
+    expect_unmarked(
+        "simplify nothing", findavoreb_simplify_marked(NO_TEXT, NO_TEXT, 10, NO_STORE, NO_OUT, MARKED), FINDAVOREB_BAD_LIST, 0, 0);
+    expect_unmarked("play nothing", findavoreb_play_marked(NO_TEXT, NO_TEXT, table, MARKED), FINDAVOREB_BAD_TAPE, 0, 0);
     expect("pick of nothing", findavoreb_pick(NO_TEXT, NO_TEXT, picked) == 0);
     expect("pick beside nothing", findavoreb_pick(PI_TAPE, 24, NO_TEXT, picked) == 1 && picked[1] == 24);
     expect("pick after nothing", findavoreb_pick(NO_TEXT, PI_TAPE, 24, picked) == 2 && picked[1] == 24);
@@ -153,6 +174,9 @@ static void no_sheets(void)
     expect_answer("lack without a sheet", findavoreb_evaluate(BYTES(VARIABLE), NO_TEXT, WORK, answer), FINDAVOREB_INCOMPLETE, 0, 0);
     expect_answer("simplify without a sheet", findavoreb_simplify(BYTES(VARIABLE), NO_TEXT, 10, WORK, OUT, answer), 0, 4, 1);
     expect_answer("play without a sheet", findavoreb_play(PI_TAPE, 24, NO_TEXT, table, answer), 0, 0, PI_BITS);
+    expect_unmarked("evaluate without a sheet", findavoreb_evaluate_marked(BYTES(PI), NO_TEXT, WORK, MARKED), 0, 0, PI_BITS);
+    expect_unmarked("simplify without a sheet", findavoreb_simplify_marked(BYTES(VARIABLE), NO_TEXT, 10, WORK, OUT, MARKED), 0, 4, 1);
+    expect_unmarked("play without a sheet", findavoreb_play_marked(PI_TAPE, 24, NO_TEXT, table, MARKED), 0, 0, PI_BITS);
 }
 
 static void no_rows(void)
@@ -162,6 +186,9 @@ static void no_rows(void)
     expect_answer("to_real without rows", findavoreb_to_real(BYTES(PI), NO_STORE, answer), FINDAVOREB_ROOM, 0, 0);
     expect_answer("simplify without rows", findavoreb_simplify(BYTES(PI), NO_TEXT, 10, NO_STORE, OUT, answer), FINDAVOREB_ROOM, 0, 0);
     expect_answer("compile without rows", findavoreb_compile(BYTES(PI), NO_STORE, OUT, answer), FINDAVOREB_ROOM, 0, 0);
+    expect_unmarked("evaluate without rows", findavoreb_evaluate_marked(BYTES(PI), NO_TEXT, NO_STORE, MARKED), FINDAVOREB_ROOM, 0, 0);
+    expect_unmarked(
+        "simplify without rows", findavoreb_simplify_marked(BYTES(PI), NO_TEXT, 10, NO_STORE, OUT, MARKED), FINDAVOREB_ROOM, 0, 0);
 }
 
 static void no_outputs(void)
@@ -169,6 +196,8 @@ static void no_outputs(void)
     expect_answer("substitute without out", findavoreb_substitute(BYTES(PI), WORK, NO_OUT, answer), FINDAVOREB_OUT_ROOM, 0, 0);
     expect_answer("simplify without out", findavoreb_simplify(BYTES(PI), NO_TEXT, 10, WORK, NO_OUT, answer), FINDAVOREB_OUT_ROOM, 0, 0);
     expect_answer("compile without out", findavoreb_compile(BYTES(PI), WORK, NO_OUT, answer), FINDAVOREB_OUT_ROOM, 0, 0);
+    expect_unmarked(
+        "simplify without out", findavoreb_simplify_marked(BYTES(PI), NO_TEXT, 10, WORK, NO_OUT, MARKED), FINDAVOREB_OUT_ROOM, 0, 0);
 }
 
 /* ---- how many rows are enough */
@@ -190,6 +219,8 @@ static void in_rows(unsigned lines, size_t rows, uint64_t number, uint64_t detai
     numbers(lines);
     uint64_t returned = findavoreb_evaluate(BYTES(text), FINDAVOREB_NO_BYTES, 0, store, rows, desk, table, answer);
     expect_answer("evaluate in so many rows", returned, number, detail, re);
+    returned = findavoreb_evaluate_marked(BYTES(text), FINDAVOREB_NO_BYTES, 0, store, rows, desk, table, MARKED);
+    expect_unmarked("evaluate with marks in so many rows", returned, number, detail, re);
     returned = findavoreb_to_real(BYTES(text), store, rows, desk, table, answer);
     expect_answer("to_real in so many rows", returned, number, detail, re);
     returned = findavoreb_compile(BYTES(text), store, rows, desk, table, OUT, answer);
@@ -213,11 +244,13 @@ static void rows(void)
 static const char TWICE_LESS[] = "v\t0\nv\t1\nb\t-\t0\t1\nb\t-\t2\t1\n", SHIFT[] = "v\t0\nv\t1\nb\t-\t0\t1\ns\t0\t2\n",
                   BOUND[] = "v\t0\t4008000000000000\t" ZERO "\nv\t1\t3FF0000000000000\t" ZERO "\n",
                   SINE[] = "n\t3FF0000000000000\t" ZERO "\nf\tsin\t0\n",
+                  CIS[] = "n\t3FF0000000000000\t" ZERO "\nf\tcis\t0\n",
                   COSINES[] = "t\tcos\t3FF0000000000000\t" ZERO "\t" ZERO "\t" ZERO "\t3FE14A280FB5068C\t" ZERO "\n";
+static const uint8_t CIS_TAPE[48] = {1, 0, 0, 0, 0, 0, 0, 0, 0, 0, 0, 0, 0, 0, 0xF0, 0x3F, [24] = 5, [25] = 5};
 
 struct memory {
     uint64_t (*store)[4], *desk, *table, *answer;
-    uint8_t *out;
+    uint8_t *out, *marks;
 };
 
 static void *fresh(int is_zeroed, size_t bytes)
@@ -237,6 +270,7 @@ static struct memory fresh_memory(int is_zeroed)
     m.table = fresh(is_zeroed, FINDAVOREB_TABLE_WORDS * sizeof *m.table);
     m.answer = fresh(is_zeroed, FINDAVOREB_ANSWER_WORDS * sizeof *m.answer);
     m.out = fresh(is_zeroed, FINDAVOREB_OUT_BYTES);
+    m.marks = fresh(is_zeroed, FINDAVOREB_MARKS_BYTES);
     return m;
 }
 
@@ -282,6 +316,21 @@ static void need_in(struct memory m)
     expect("need", findavoreb_evaluate(BYTES(SINE), BYTES(COSINES), WORK_OF(m), m.answer) == FINDAVOREB_NEED);
 }
 
+/* cis finds cos, the first row, and lacks sin. */
+static void marked_in(struct memory m, struct memory simplified, struct memory played)
+{
+    expect("need, with marks", findavoreb_evaluate_marked(BYTES(CIS), BYTES(COSINES), WORK_OF(m), m.answer, m.marks) == FINDAVOREB_NEED);
+    expect("cos is marked", are_marked(m.marks, 1));
+    m = simplified;
+    expect("need to simplify, with marks",
+           findavoreb_simplify_marked(BYTES(CIS), BYTES(COSINES), 10, WORK_OF(m), OUT_OF(m), m.answer, m.marks) == FINDAVOREB_NEED);
+    expect("cos is marked", are_marked(m.marks, 1));
+    m = played;
+    expect("need to play, with marks",
+           findavoreb_play_marked(CIS_TAPE, sizeof CIS_TAPE, BYTES(COSINES), m.table, m.answer, m.marks) == FINDAVOREB_NEED);
+    expect("cos is marked", are_marked(m.marks, 1));
+}
+
 static void in_fresh_memory(int is_zeroed)
 {
     evaluate_in(fresh_memory(is_zeroed));
@@ -291,6 +340,7 @@ static void in_fresh_memory(int is_zeroed)
     simplify_in(fresh_memory(is_zeroed));
     compile_in(fresh_memory(is_zeroed));
     play_in(fresh_memory(is_zeroed));
+    marked_in(fresh_memory(is_zeroed), fresh_memory(is_zeroed), fresh_memory(is_zeroed));
 }
 
 static void zeroed(void)

@@ -11,7 +11,7 @@
 enum { GUARD = 8, ROWS = FINDAVOREB_MOST_ROWS + 904, TEXT = 1 << 17, PAPER = FINDAVOREB_OUT_BYTES + 4096 };
 
 static const uint64_t JUNK[4] = {0xDEADBEEF00010001, UINT64_MAX - 3, 0x0001000100010001, 1};
-static const uint8_t BLANK = 0xA5;
+static const uint8_t BLANK = 0xA5, SPOT = 0xFF;
 
 static uint64_t junk = 0xDEADBEEF00010001; /* what all words hold before a call; in a row each word has one more than the word before */
 
@@ -20,7 +20,7 @@ static uint64_t desk[FINDAVOREB_DESK_WORDS + GUARD];
 static uint64_t table[FINDAVOREB_TABLE_WORDS + GUARD];
 static uint64_t answer[FINDAVOREB_ANSWER_WORDS + GUARD];
 static uint64_t picked[FINDAVOREB_PICKED_WORDS + GUARD];
-static uint8_t out[PAPER];
+static uint8_t out[PAPER], marks[FINDAVOREB_MARKS_BYTES + GUARD];
 static struct findavoreb_work work;
 
 /* How much of the memory a call is lent. */
@@ -75,6 +75,7 @@ static void prepare(void)
     fill(answer, FINDAVOREB_ANSWER_WORDS + GUARD, junk);
     fill(picked, FINDAVOREB_PICKED_WORDS + GUARD, junk);
     memset(out, BLANK, PAPER);
+    memset(marks, SPOT, sizeof marks);
 }
 
 /* Rows that were lent are zero, and the others as they were. */
@@ -139,11 +140,57 @@ static void check_answer(const char *name, uint64_t returned, const uint64_t *wa
         }
 }
 
-/* ---- one call each; a text ends where its string does */
+/* Whether an answer leaves rows marked. */
+static int has_marks(uint64_t number)
+{
+    return number == FINDAVOREB_DONE || number == FINDAVOREB_NEED || number == FINDAVOREB_INCOMPLETE;
+}
+
+/* What is known of the marks where a job does not say which they are. */
+static const char *const ANY = NULL;
+
+/* `used` has a digit for each t row, 1 where it has to be marked; the rows behind it have no mark. */
+static void check_marks(const char *name, const char *used)
+{
+    size_t count = used == ANY ? 0 : strlen(used);
+    uint8_t most = used == ANY && has_marks(answer[0]);
+    for (size_t j = 0; j < FINDAVOREB_MARKS_BYTES; j++) {
+        uint8_t least = j < count && used[j] == '1';
+        if (marks[j] < least || marks[j] > (least | most)) {
+            printf("%s: marks[%d] is %d\n", name, (int)j, marks[j]);
+            wrong++;
+        }
+    }
+    for (size_t j = FINDAVOREB_MARKS_BYTES; j < sizeof marks; j++)
+        if (marks[j] != SPOT) {
+            complain(name, "a byte past the marks was changed");
+            break;
+        }
+}
+
+/* ---- one call each; a text ends where its string does. What can be asked with marks is asked with them too, and answers the same. */
 
 static const uint8_t *bytes(const char *text)
 {
     return (const uint8_t *)text;
+}
+
+static void check_evaluated(const char *name, struct lent lent, uint64_t returned, const uint64_t *want)
+{
+    check_answer(name, returned, want);
+    check_memory(name, lent);
+    if (!is_blank_from(0))
+        complain(name, "the output was changed");
+}
+
+static void evaluate_marked_in(
+    const char *name, struct lent lent, const char *listing, const char *sheet, const char *used, const uint64_t *want)
+{
+    prepare();
+    uint64_t returned = findavoreb_evaluate_marked(
+        bytes(listing), strlen(listing), bytes(sheet), strlen(sheet), store, lent.rows, desk, table, answer, marks);
+    check_evaluated(name, lent, returned, want);
+    check_marks(name, used);
 }
 
 static void evaluate_in(const char *name, struct lent lent, const char *listing, const char *sheet, const uint64_t *want)
@@ -151,10 +198,8 @@ static void evaluate_in(const char *name, struct lent lent, const char *listing,
     prepare();
     uint64_t returned = findavoreb_evaluate(
         bytes(listing), strlen(listing), bytes(sheet), strlen(sheet), store, lent.rows, desk, table, answer);
-    check_answer(name, returned, want);
-    check_memory(name, lent);
-    if (!is_blank_from(0))
-        complain(name, "the output was changed");
+    check_evaluated(name, lent, returned, want);
+    evaluate_marked_in(name, lent, listing, sheet, ANY, want);
 }
 
 /* What work memory has after a call, and at the beginning: the rows that it was given, and no word on the desk or in the table. */
@@ -223,6 +268,19 @@ static void substitute_in(const char *name, struct lent lent, const char *listin
     check_output(name, written);
 }
 
+static void simplify_marked_in(
+    const char *name, struct lent lent, const char *listing, const char *sheet, uint64_t limit, const char *written, const char *used,
+    const uint64_t *want)
+{
+    prepare();
+    uint64_t returned = findavoreb_simplify_marked(
+        bytes(listing), strlen(listing), bytes(sheet), strlen(sheet), limit, store, lent.rows, desk, table, out, lent.bytes, answer, marks);
+    check_answer(name, returned, want);
+    check_memory(name, lent);
+    check_output(name, written);
+    check_marks(name, used);
+}
+
 static void simplify_in(
     const char *name, struct lent lent, const char *listing, const char *sheet, uint64_t limit, const char *written, const uint64_t *want)
 {
@@ -232,6 +290,7 @@ static void simplify_in(
     check_answer(name, returned, want);
     check_memory(name, lent);
     check_output(name, written);
+    simplify_marked_in(name, lent, listing, sheet, limit, written, ANY, want);
 }
 
 /* ---- tapes: steps in C's own form, and their bytes */
@@ -287,6 +346,16 @@ static void compile_in(const char *name, struct lent lent, const char *listing, 
     check_bytes(name, written.bytes, written.length);
 }
 
+static void play_marked_all(const char *name, struct tape tape, const char *sheet, const char *used, const uint64_t *want)
+{
+    prepare();
+    uint64_t returned = findavoreb_play_marked(tape.bytes, tape.length, bytes(sheet), strlen(sheet), table, answer, marks);
+    check_answer(name, returned, want);
+    check_untouched(name, 1);
+    check_answer_end(name);
+    check_marks(name, used);
+}
+
 static void play_all(const char *name, struct tape tape, const char *sheet, const uint64_t *want)
 {
     prepare();
@@ -294,6 +363,7 @@ static void play_all(const char *name, struct tape tape, const char *sheet, cons
     check_answer(name, returned, want);
     check_untouched(name, 1);
     check_answer_end(name);
+    play_marked_all(name, tape, sheet, ANY, want);
 }
 
 static void check_all(const char *name, struct tape tape, const uint64_t *want)
@@ -414,22 +484,64 @@ static void unsound(const char *name, struct tape tape, uint64_t step)
     play_all(name, tape, "q", want);
 }
 
-/* The listing is compiled, and its tape gives the six words that evaluating gives. */
-static void same_played(const char *name, const char *listing, const char *sheet)
+static struct tape tape_of_listing(const char *listing)
 {
-    uint64_t want[FINDAVOREB_ANSWER_WORDS];
     struct tape tape;
-    prepare();
-    findavoreb_evaluate(
-        bytes(listing), strlen(listing), bytes(sheet), strlen(sheet), store, FINDAVOREB_MOST_ROWS, desk, table, answer);
-    memcpy(want, answer, sizeof want);
     prepare();
     findavoreb_compile(
         bytes(listing), strlen(listing), store, FINDAVOREB_MOST_ROWS, desk, table, tape.bytes, FINDAVOREB_TAPE_BYTES, answer);
     tape.length = answer[0] == 0 ? (size_t)answer[1] : 0;
-    calls += 2;
+    calls++;
+    return tape;
+}
+
+/* The listing is compiled, and its tape gives the six words that evaluating gives. */
+static void same_played(const char *name, const char *listing, const char *sheet)
+{
+    uint64_t want[FINDAVOREB_ANSWER_WORDS];
+    prepare();
+    findavoreb_evaluate(
+        bytes(listing), strlen(listing), bytes(sheet), strlen(sheet), store, FINDAVOREB_MOST_ROWS, desk, table, answer);
+    calls++;
+    memcpy(want, answer, sizeof want);
+    struct tape tape = tape_of_listing(listing);
     sound(name, tape);
     play_all(name, tape, sheet, want);
+}
+
+/* Evaluating marks these rows, and so does playing the tape, if the expression has one. */
+static void marked(const char *name, const char *listing, const char *sheet, const char *used, const uint64_t *want)
+{
+    evaluate_marked_in(name, ALL, listing, sheet, used, want);
+    struct tape tape = tape_of_listing(listing);
+    if (tape.length > 0)
+        play_marked_all(name, tape, sheet, used, want);
+}
+
+/* The same where it has a value, of imaginary part 0. */
+static void marked_value(const char *name, const char *listing, const char *sheet, const char *used, uint64_t re)
+{
+    marked(name, listing, sheet, used, (uint64_t[]){0, 0, re, 0, 0, 0});
+}
+
+static void marked_need(
+    const char *name, const char *listing, const char *sheet, const char *used, uint64_t operation, const uint64_t *operands)
+{
+    marked(name, listing, sheet, used,
+           (uint64_t[]){FINDAVOREB_NEED, operation, operands[0], operands[1], operands[2], operands[3]});
+}
+
+static void marked_refusal(
+    const char *name, const char *listing, const char *sheet, const char *used, uint64_t refusal, uint64_t place)
+{
+    marked(name, listing, sheet, used, (uint64_t[]){refusal, place, 0, 0, 0, 0});
+}
+
+static void marked_simpler(
+    const char *name, const char *listing, const char *sheet, uint64_t limit, const char *written, const char *used, uint64_t simplify_calls)
+{
+    simplify_marked_in(
+        name, ALL, listing, sheet, limit, written, used, (uint64_t[]){0, strlen(written), simplify_calls, 0, 0, 0});
 }
 
 /* ---- pieces of texts: doubles by their bits */
@@ -459,8 +571,16 @@ static void same_played(const char *name, const char *listing, const char *sheet
 #define COS_OF_HALF ROW("cos", HALF, ZERO, "3FEC1528065B7D50", "8000000000000000")
 #define SIN_OF_HALF ROW("sin", HALF, ZERO, "3FDEAEE8744B05F0", ZERO)
 
+/* rows with values that are easy to tell, and what asks for them */
+#define ONE_FOR_SIN ROW("sin", HALF, ZERO, ONE, ZERO)
+#define ONE_FOR_EXP ROW("exp", HALF, ZERO, ONE, ZERO)
+#define SINE NUMBER(HALF, ZERO) "f\tsin\t0\n"
+#define CIS NUMBER(HALF, ZERO) "f\tcis\t0\n"
+#define POWER(x, y) NUMBER(x, ZERO) NUMBER(y, ZERO) INFIX("^", "0", "1")
+
 static const uint64_t HALF_BITS = 0x3FE0000000000000, ONE_BITS = 0x3FF0000000000000, TWO_BITS = 0x4000000000000000, THREE_BITS = 0x4008000000000000,
-                      NAN_BITS = 0x7FF8000000000000, PI_BITS = 0x400921FB54442D18, MINUS_ZERO_BITS = 0x8000000000000000;
+                      NAN_BITS = 0x7FF8000000000000, PI_BITS = 0x400921FB54442D18, MINUS_ZERO_BITS = 0x8000000000000000,
+                      SIN_BITS = 0x3FDEAEE8744B05F0, COS_BITS = 0x3FEC1528065B7D50;
 
 /* ---- texts that are too long to be written out */
 
@@ -888,6 +1008,177 @@ static void picks(void)
     pick("neither is there", EMPTY, EMPTY, 0, 0);
 }
 
+/* ---- which t rows were used */
+
+static void marks_of_values(void)
+{
+    marked("cis has two rows", CIS, BOUND("0", ONE) "m\t0\t0\t" ONE "\n" SIN_OF_HALF ONE_FOR_EXP COS_OF_HALF, "101",
+           (uint64_t[]){0, 0, COS_BITS, SIN_BITS, 0, 0});
+    marked_value("the first of two for one operand", SINE, ONE_FOR_EXP SIN_OF_HALF ONE_FOR_SIN, "010", SIN_BITS);
+    marked_value("the first of three that are equal", SINE, SIN_OF_HALF SIN_OF_HALF SIN_OF_HALF, "100", SIN_BITS);
+    marked_value("a row that is used twice", SINE "f\tsin\t0\n" INFIX("*", "1", "2"), ONE_FOR_EXP SIN_OF_HALF, "01", 0x3FCD6BAFE095F2E9);
+    marked_value("zeros of two signs", NUMBER("8000000000000000", ZERO) "f\tsin\t0\n",
+                 ROW("sin", ZERO, ZERO, ONE, ZERO) ROW("sin", "8000000000000000", ZERO, TWO, ZERO), "01", TWO_BITS);
+    marked_value("a NaN of another pattern", NUMBER(A_NAN, ZERO) "f\tsqrt\t0\n",
+                 ROW("sqrt", HALF, ZERO, ONE, ZERO) ROW("sqrt", "7FF8000000000001", ZERO, TWO, ZERO), "01", TWO_BITS);
+    marked_value("a power", POWER(TWO, THREE), ROW("pow", THREE, TWO, ONE, ZERO) ROW("pow", TWO, THREE, "4020000000000000", ZERO), "01",
+                 0x4020000000000000);
+    marked_value("nothing is looked up", "p\n", SIN_OF_HALF COS_OF_HALF, "00", PI_BITS);
+    marked_value("a line that nothing reaches", SINE "p\n", SIN_OF_HALF, "0", PI_BITS);
+}
+
+static void marks_of_lacks(void)
+{
+    const uint64_t half[] = {HALF_BITS, 0, 0, 0};
+    marked_need("cis without sin", CIS, ONE_FOR_EXP COS_OF_HALF, "01", FINDAVOREB_SIN, half);
+    marked_need("cis without cos", CIS, SIN_OF_HALF ONE_FOR_EXP, "00", FINDAVOREB_COS, half);
+    marked_need("a lack after two rows", SINE "f\tcos\t0\n" "f\texp\t0\n" INFIX("+", "1", "2") INFIX("+", "4", "3"),
+                ROW("sin", ONE, ZERO, ONE, ZERO) COS_OF_HALF SIN_OF_HALF, "011", FINDAVOREB_EXP, half);
+    marked_need("a lack before a row", SINE "f\texp\t0\n" INFIX("+", "2", "1"), SIN_OF_HALF, "0", FINDAVOREB_EXP, half);
+    marked_refusal("a free variable after a row", SINE "v\t7\n" INFIX("+", "1", "2"), COS_OF_HALF SIN_OF_HALF, "01", FINDAVOREB_INCOMPLETE, 0);
+    marked_refusal("a free variable before a row", SINE "v\t7\n" INFIX("+", "2", "1"), COS_OF_HALF SIN_OF_HALF, "00", FINDAVOREB_INCOMPLETE, 0);
+    marked_refusal("a free cell between two rows", SINE "m\t7\t7\nf\texp\t0\n" INFIX("*", "2", "3") INFIX("+", "1", "4"),
+                   ONE_FOR_EXP SIN_OF_HALF, "01", FINDAVOREB_INCOMPLETE, 0);
+}
+
+/* Two lines have two nodes, and one row has no room for the second. */
+static void marks_of_refusals(void)
+{
+    const struct lent one_row = {1, PAPER};
+    marked_refusal("a bad listing", SINE "q\n", SIN_OF_HALF, "", FINDAVOREB_BAD_LIST, 2);
+    marked_refusal("a bad sheet", SINE, SIN_OF_HALF "q\n", "", FINDAVOREB_BAD_SHEET, 1);
+    marked_refusal("257 rows", SINE, many("", SIN_OF_HALF, 257), "", FINDAVOREB_LONG_SHEET, 256);
+    marked_refusal("a size of 1048575", many("v\t0\n", INFIX("+", "%u", "%u"), 19), SIN_OF_HALF, "", FINDAVOREB_BIG, 0);
+    marked_refusal("a depth of 65", many("p\n", "u\t-\t%u\n", 64), SIN_OF_HALF, "", FINDAVOREB_DEEP, 0);
+    evaluate_marked_in("no room", one_row, SINE, SIN_OF_HALF, "", (uint64_t[]){FINDAVOREB_ROOM, 0, 0, 0, 0, 0});
+    play_marked_all("a bad tape", TAPE(NUMBER_STEP(HALF_BITS, 0), FUNCTION_STEP(1), PI_STEP), SIN_OF_HALF, "",
+                    (uint64_t[]){FINDAVOREB_BAD_TAPE, 3, 0, 0, 0, 0});
+    play_marked_all("no tape", EMPTY, SIN_OF_HALF, "", (uint64_t[]){FINDAVOREB_BAD_TAPE, 0, 0, 0, 0, 0});
+}
+
+/* The sum of the sines of so many numbers, whose bits are 0, 1, 2 and so on from the first one. */
+static const char *sum_of_sines(unsigned first, unsigned count)
+{
+    unsigned lines[257];
+    begin();
+    for (unsigned i = 0; i < count; i++) {
+        add("n\t%016X\t" ZERO "\n", first + i, 0);
+        add("f\tsin\t%u\n", 2 * i, 0);
+        lines[i] = 2 * i + 1;
+    }
+    join(INFIX("+", "%u", "%u"), lines, count, 2 * count);
+    return text;
+}
+
+/* With a row for each bits from 0 to 255, all of the value 1. */
+static void marks_of_many(void)
+{
+    static char rows[TEXT], all[257];
+    many("", "t\tsin\t%016X\t" ZERO "\t" ZERO "\t" ZERO "\t" ONE "\t" ZERO "\n", 256);
+    memcpy(rows, text, length + 1);
+    memset(all, '1', 256);
+    marked_value("256 rows", sum_of_sines(0, 256), rows, all, 0x4070000000000000);
+    marked_need("a 257th row is lacking", sum_of_sines(0, 257), rows, all, FINDAVOREB_SIN, (uint64_t[]){256, 0, 0, 0});
+    marked_value("the first row", sum_of_sines(0, 1), rows, "1", ONE_BITS);
+    memset(all, '0', 128);
+    marked_value("128 rows", sum_of_sines(128, 128), rows, all, 0x4060000000000000);
+    memset(all, '0', 255);
+    marked_value("the last row", sum_of_sines(255, 1), rows, all, ONE_BITS);
+}
+
+#define SINE_NUMBER NUMBER("3FDEAEE8744B05F0", ZERO)
+
+static void marks_of_folds(void)
+{
+    marked_simpler("a fold", SINE, BOUND("0", ONE) ONE_FOR_EXP SIN_OF_HALF ONE_FOR_SIN, 10, SINE_NUMBER, "010", 2);
+    marked_simpler("cis folded", CIS, SIN_OF_HALF ONE_FOR_EXP COS_OF_HALF, 10, NUMBER("3FEC1528065B7D50", "3FDEAEE8744B05F0"), "101", 2);
+    marked_simpler("a fold of the same again", SINE NUMBER("3FD0000000000000", ZERO) INFIX("+", "2", "2") "f\tsin\t3\n" INFIX("*", "1", "4"),
+                   ONE_FOR_EXP SIN_OF_HALF ONE_FOR_SIN, 10, NUMBER("3FCD6BAFE095F2E9", ZERO), "010", 7);
+    marked_simpler("a result that is kept", SINE INFIX("+", "1", "1"), SIN_OF_HALF, 10, NUMBER("3FEEAEE8744B05F0", ZERO), "1", 4);
+    marked_simpler("a number that does not stay", SINE NUMBER(ZERO, ZERO) INFIX("*", "2", "1"), ONE_FOR_EXP SIN_OF_HALF, 10,
+                   NUMBER(ZERO, ZERO), "01", 4);
+    marked_simpler("a power folded", POWER(TWO, THREE), ROW("pow", THREE, TWO, ONE, ZERO) ROW("pow", TWO, THREE, "4020000000000000", ZERO), 10,
+                   NUMBER("4020000000000000", ZERO), "01", 3);
+    marked_simpler("0 ^ 2 is not looked up", POWER(ZERO, TWO), ROW("pow", ZERO, TWO, ONE, ZERO), 10, NUMBER(ZERO, ZERO), "0", 3);
+    marked_simpler("limit 0 looks up nothing", SINE, SIN_OF_HALF, 0, SINE, "0", 1);
+}
+
+static void marks_of_folds_that_lack(void)
+{
+    const uint64_t no_sin[] = {FINDAVOREB_NEED, FINDAVOREB_SIN, HALF_BITS, 0, 0, 0}, no_exp[] = {FINDAVOREB_NEED, FINDAVOREB_EXP, HALF_BITS, 0, 0, 0};
+    simplify_marked_in("cis without sin", ALL, CIS, ONE_FOR_EXP COS_OF_HALF, 10, "", "01", no_sin);
+    simplify_marked_in("a lack after a fold", ALL, SINE "f\texp\t0\n" INFIX("*", "1", "2"), COS_OF_HALF SIN_OF_HALF, 10, "", "01", no_exp);
+    simplify_marked_in("a lack before a fold", ALL, SINE "f\texp\t0\n" INFIX("*", "2", "1"), COS_OF_HALF SIN_OF_HALF, 10, "", "00", no_exp);
+}
+
+/* The negation of a sum of the sine of a half and 510 variables, 1023 lines, to the power of that sine. At limit 2 the sine is folded where
+ * it stands alone and stays in the sum, so that the result has a line more. With a variable less it is not too long. */
+static const char *grown_by_a_fold(unsigned variables)
+{
+    unsigned lines[511] = {1};
+    begin();
+    add(SINE, 0, 0);
+    for (unsigned i = 1; i <= variables; i++) {
+        add("v\t%u\n", i, 0);
+        lines[i] = i + 1;
+    }
+    unsigned next = join(INFIX("+", "%u", "%u"), lines, variables + 1, variables + 2);
+    add("u\t-\t%u\n", next - 1, 0);
+    add(INFIX("^", "%u", "1"), next, 0);
+    return text;
+}
+
+/* A tree is multiplied by one that has the folded sine in it: by a negation, which makes it deeper, or by a sum, which makes it twice as
+ * large. */
+static void marks_of_large_nodes(void)
+{
+    const uint64_t big[] = {FINDAVOREB_BIG, 0, 0, 0, 0, 0}, deep[] = {FINDAVOREB_DEEP, 0, 0, 0, 0, 0};
+    many("v\t0\n", INFIX("^", "%u", "0"), 62);
+    add("v\t9\n" NUMBER(HALF, ZERO) "f\tsin\t64\n" INFIX("^", "63", "65") "u\t-\t66\n" INFIX("*", "62", "67"), 0, 0);
+    simplify_marked_in("a depth of 65 after a fold", ALL, text, SIN_OF_HALF, 10, "", "", deep);
+    many("v\t0\n", INFIX("^", "%u", "%u"), 18);
+    add("v\t9\n" NUMBER(HALF, ZERO) "f\tsin\t20\n" INFIX("^", "19", "21") "v\t8\n" INFIX("+", "23", "22") INFIX("*", "18", "24"), 0, 0);
+    simplify_marked_in("a size over 1000000 after a fold", ALL, text, SIN_OF_HALF, 10, "", "", big);
+    simplify_marked_in("before that the sine is asked for", ALL, text, COS_OF_HALF, 10, "", "0",
+                       (uint64_t[]){FINDAVOREB_NEED, FINDAVOREB_SIN, HALF_BITS, 0, 0, 0});
+}
+
+static void marks_of_long_results(void)
+{
+    prepare();
+    grown_by_a_fold(509);
+    findavoreb_simplify_marked(
+        bytes(text), length, bytes(SIN_OF_HALF), strlen(SIN_OF_HALF), 2, store, FINDAVOREB_MOST_ROWS, desk, table, out, PAPER, answer, marks);
+    calls++;
+    if (answer[0] != FINDAVOREB_DONE)
+        complain("1023 lines of result", "it is refused");
+    check_marks("1023 lines of result", "1");
+    simplify_marked_in("1025 lines of result", ALL, grown_by_a_fold(510), SIN_OF_HALF, 2, "", "", (uint64_t[]){FINDAVOREB_LONG_LIST, 0, 0, 0, 0, 0});
+}
+
+/* The sine of a half has 2 nodes, the fold makes a third, and the result has 36 bytes. */
+static void marks_of_short_memory(void)
+{
+    const uint64_t done[] = {0, 36, 2, 0, 0, 0}, full[] = {FINDAVOREB_ROOM, 0, 0, 0, 0, 0}, short_of_out[] = {FINDAVOREB_OUT_ROOM, 0, 0, 0, 0, 0};
+    for (int k = 0; k < 4; k++) {
+        struct lent lent = {3, 36};
+        junk = JUNK[k];
+        simplify_marked_in("just enough for a fold", lent, SINE, SIN_OF_HALF, 10, SINE_NUMBER, "1", done);
+        lent.bytes = 35;
+        simplify_marked_in("an output too short after a fold", lent, SINE, SIN_OF_HALF, 10, "", "", short_of_out);
+        lent.bytes = 0;
+        simplify_marked_in("an empty output after a fold", lent, SINE, SIN_OF_HALF, 10, "", "", short_of_out);
+        lent.rows = 2;
+        simplify_marked_in("no room for what is folded", lent, SINE, SIN_OF_HALF, 10, "", "", full);
+        lent.rows = 1;
+        simplify_marked_in("no room for the listing", lent, SINE, SIN_OF_HALF, 10, "", "", full);
+    }
+    junk = JUNK[0];
+    simplify_marked_in("a limit of 11", ALL, SINE, SIN_OF_HALF, 11, "", "", (uint64_t[]){FINDAVOREB_BAD_LIMIT, 0, 0, 0, 0, 0});
+    simplify_marked_in("a bad listing", ALL, SINE "q\n", SIN_OF_HALF, 10, "", "", (uint64_t[]){FINDAVOREB_BAD_LIST, 2, 0, 0, 0, 0});
+    simplify_marked_in("a bad sheet", ALL, SINE, SIN_OF_HALF "q\n", 10, "", "", (uint64_t[]){FINDAVOREB_BAD_SHEET, 1, 0, 0, 0, 0});
+}
+
 /* Room for two nodes, for one, for none, whatever the memory held. */
 static void few_rows(void)
 {
@@ -1011,6 +1302,15 @@ int main(void)
     check_fields();
     check_lengths_and_counts();
     picks();
+    marks_of_values();
+    marks_of_lacks();
+    marks_of_refusals();
+    marks_of_many();
+    marks_of_folds();
+    marks_of_folds_that_lack();
+    marks_of_large_nodes();
+    marks_of_long_results();
+    marks_of_short_memory();
     printf("%u calls, %u wrong\n", calls, wrong);
     return wrong == 0 ? EXIT_SUCCESS : EXIT_FAILURE;
 }

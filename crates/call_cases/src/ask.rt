@@ -1,5 +1,6 @@
 // The port is asked, through the same functions as C asks it. All memory holds the case's word before.
 ghost use mathlib.Core.Path.{_≡_};
+ghost use Rattle.replay.specs.Judges.{allAre};
 ghost use Rattle.call_cases.specs.Judging.{answeredBy};
 use super::case::Case;
 use exports::findavoreb_compile;
@@ -9,6 +10,7 @@ use exports::findavoreb_simplify;
 use exports::findavoreb_substitute;
 use exports::findavoreb_to_real;
 use memory::layout::DESK_WORDS;
+use memory::layout::MARKS;
 use memory::layout::TABLE_WORDS;
 use replay::lent::BLANK;
 use replay::lent::is_clear;
@@ -17,10 +19,12 @@ use replay::slices::is_zero;
 use replay::slices::part;
 use replay::slices::part_of_bytes;
 
-// An answer's six words, the paper of the output, and whether all the memory that was lent is zero.
+// An answer's six words, the paper of the output, the marks, which a call without marks leaves blank, and whether all the
+// memory that was lent is zero.
 pub struct Told {
     pub words: [u64; 6],
     pub paper: [u8; 32768],
+    pub marks: [u8; MARKS],
     pub is_clear: bool,
 }
 
@@ -72,11 +76,14 @@ pub fn ask(kind: u8, case: Case, text: &[u8], sheet: &[u8], room: usize) -> Told
     Told {
         words,
         paper,
+        marks: [BLANK; MARKS],
         is_clear,
     }
 }
 
-fn is_table_clear(table: &[u64; TABLE_WORDS]) -> bool {
+pub fn is_table_clear(table: &[u64; TABLE_WORDS]) -> bool
+    ensures { λ r. ⌜ r ≡ allAre 0 (now (table .entry)) ⌝ }
+{
     is_zero(table)
 }
 
@@ -90,6 +97,7 @@ pub fn play(case: Case, tape: &[u8], sheet: &[u8]) -> Told {
     Told {
         words,
         paper: [BLANK; 32768],
+        marks: [BLANK; MARKS],
         is_clear,
     }
 }

@@ -1,11 +1,15 @@
 // An evaluation that the Rust answered, and its tape: the listing is evaluated, then compiled, and the tape played with the
-// same sheet. Playing has to answer what evaluating does, bit for bit.
+// same sheet. Playing has to answer what evaluating does, bit for bit, and to mark the same rows.
 use super::ask::Told;
 use super::ask::ask;
 use super::ask::is_left_clear;
 use super::ask::is_right;
 use super::ask::play;
 use super::case::Case;
+use super::marked;
+use super::marks;
+use super::marks::is_marked;
+use super::marks::next_marks;
 use super::outcome::Outcome;
 use complex::bits::class_of_bits;
 use replay::slices::part_of_bytes;
@@ -44,10 +48,30 @@ pub fn run(case: Case, text: &[u8], sheet: &[u8]) -> Outcome {
         return Outcome::Wrong;
     }
     let words = evaluated.words;
-    compile(case, words, text, sheet)
+    compile(case, words, [0; marks::LINE], text, sheet)
 }
 
-fn compile(case: Case, evaluated: [u64; 6], text: &[u8], sheet: &[u8]) -> Outcome {
+// The line of marks follows in the list.
+pub fn run_marked(list: i32, case: Case, text: &[u8], sheet: &[u8]) -> Outcome {
+    let line = next_marks(list);
+    let evaluated = marked::evaluate(case, text, sheet);
+    if !is_value(case, evaluated) {
+        return Outcome::Wrong;
+    }
+    if !is_marked(line, evaluated) {
+        return Outcome::Wrong;
+    }
+    let words = evaluated.words;
+    compile(case, words, line, text, sheet)
+}
+
+fn compile(
+    case: Case,
+    evaluated: [u64; 6],
+    line: [u8; marks::LINE],
+    text: &[u8],
+    sheet: &[u8],
+) -> Outcome {
     let compiled = ask(b'c', case, text, sheet, TAPE);
     let words = compiled.words;
     if words[0] != 0 {
@@ -58,8 +82,22 @@ fn compile(case: Case, evaluated: [u64; 6], text: &[u8], sheet: &[u8]) -> Outcom
     }
     let tape = compiled.paper;
     let n = part_of_bytes(&tape, words[1] as usize);
-    let played = play(case, &tape[..n], sheet);
-    Outcome::Played.if_right(is_right(b"evaluating", evaluated, played))
+    Outcome::Played.if_right(is_played(case, evaluated, line, &tape[..n], sheet))
+}
+
+// With marks if it was evaluated with marks.
+fn is_played(
+    case: Case,
+    evaluated: [u64; 6],
+    line: [u8; marks::LINE],
+    tape: &[u8],
+    sheet: &[u8],
+) -> bool {
+    if case.kind == b'E' {
+        let told = marked::play(case, tape, sheet);
+        return marks::is_right(b"evaluating", evaluated, line, told);
+    }
+    is_right(b"evaluating", evaluated, play(case, tape, sheet))
 }
 
 // Where evaluating has refused the listing, compiling has to refuse it likewise. Whatever else can be evaluated is compiled, or

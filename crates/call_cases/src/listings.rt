@@ -1,12 +1,16 @@
 // A case of a listing: its texts are read, the port is asked, and everything that is stored of the right answer is compared
 // with what it gives.
 ghost use Rattle.io.specs.Counts.{Counts};
+use super::ask::Told;
 use super::ask::ask;
 use super::ask::is_right;
 use super::case::Case;
 use super::digits::read_tape;
 use super::evaluations;
 use super::evaluations::is_value;
+use super::marked;
+use super::marks::is_marked;
+use super::marks::next_marks;
 use super::outcome::Outcome;
 use replay::lent::is_written;
 use replay::line::read_text;
@@ -27,8 +31,7 @@ fn both(x: bool, y: bool) -> bool {
 }
 
 // Both: what is written, and the answer.
-fn is_told(list: i32, case: Case, text: &[u8], sheet: &[u8]) -> bool {
-    let told = ask(case.kind, case, text, sheet, case.room);
+fn is_told(list: i32, case: Case, told: Told) -> bool {
     let paper = told.paper;
     let mut wanted = [0u8; 32768];
     let n = read_wanted(list, case, &mut wanted);
@@ -37,12 +40,23 @@ fn is_told(list: i32, case: Case, text: &[u8], sheet: &[u8]) -> bool {
     both(is_there, is_right(b"wanted", words, told))
 }
 
+// The line of marks follows what has to be written.
+fn is_simplified(list: i32, case: Case, text: &[u8], sheet: &[u8]) -> bool {
+    let told = marked::simplify(case, text, sheet);
+    let is_there = is_told(list, case, told);
+    both(is_there, is_marked(next_marks(list), told))
+}
+
 fn ask_and_look(list: i32, case: Case, text: &[u8], sheet: &[u8]) -> Outcome {
     let kind = case.kind;
     match kind {
         b'e' => evaluations::run(case, text, sheet),
         b'r' => Outcome::Right.if_right(is_value(case, ask(kind, case, text, sheet, 0))),
-        b's' | b'z' | b'c' => Outcome::Right.if_right(is_told(list, case, text, sheet)),
+        b's' | b'z' | b'c' => {
+            Outcome::Right.if_right(is_told(list, case, ask(kind, case, text, sheet, case.room)))
+        }
+        b'E' => evaluations::run_marked(list, case, text, sheet),
+        b'Z' => Outcome::Right.if_right(is_simplified(list, case, text, sheet)),
         _ => Outcome::Wrong,
     }
 }

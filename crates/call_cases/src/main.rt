@@ -15,6 +15,8 @@ mod digits;
 mod evaluations;
 mod examples;
 mod listings;
+mod marked;
+mod marks;
 mod outcome;
 mod tapes;
 
@@ -24,6 +26,7 @@ fn run_case(list: i32, case: Case) -> Outcome {
         b'k' => tapes::check(list, case),
         b'p' => tapes::pick(list, case),
         b'y' => tapes::play(list, case),
+        b'Y' => tapes::play_marked(list, case),
         b'x' => examples::run(list, case),
         _ => listings::run(list, case),
     }

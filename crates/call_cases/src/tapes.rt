@@ -2,6 +2,9 @@
 use super::ask;
 use super::case::Case;
 use super::digits::read_tape;
+use super::marked;
+use super::marks;
+use super::marks::next_marks;
 use super::outcome::Outcome;
 use exports::findavoreb_check;
 use exports::findavoreb_pick;
@@ -63,4 +66,16 @@ pub fn play(list: i32, case: Case) -> Outcome {
     let told = ask::play(case, &tape[..n], &sheet[..m]);
     let wanted = case.wanted;
     Outcome::Right.if_right(ask::is_right(b"wanted", wanted, told))
+}
+
+// The line of marks follows the sheet.
+pub fn play_marked(list: i32, case: Case) -> Outcome {
+    let mut tape = [0u8; 16384];
+    let mut sheet = [0u8; 32768];
+    let n = read_tape(list, &mut tape, case.first);
+    let m = read_text(list, &mut sheet, case.second);
+    let line = next_marks(list);
+    let told = marked::play(case, &tape[..n], &sheet[..m]);
+    let wanted = case.wanted;
+    Outcome::Right.if_right(marks::is_right(b"wanted", wanted, line, told))
 }

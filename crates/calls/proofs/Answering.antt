@@ -137,7 +137,7 @@ if-at-most false x y p q = q
 
 stores : (t : Tree) (s : State) → AtMost9 (intern t s)
 unfolding intern
-stores t (state room stored kept calls) =
+stores t (state room stored kept tally) =
     if-at-most (among stored t) _ _ tt
     (if-at-most (ltb largest (size t)) _ _ (omega arith)
     (if-at-most (ltb deepest (depth t)) _ _ (omega arith)

@@ -27,6 +27,7 @@ use Rattle.evaluation.specs.Reals.{toReal}
 use Rattle.tape.specs.Tapes.{compiled}
 use Rattle.calls.specs.Calls as Calls
 use Rattle.calls.specs.Calls.{afterListing, withSheet, job, evaluateJob, evaluateCall, toRealCall, compileCall}
+use Rattle.calls.specs.Marks.{evaluateJobMarks, evaluateMarks}
 use Rattle.calls.proofs.Lining.{LineHas, WholeHas, by-lines}
 use Rattle.calls.proofs.Stored.{storedIn, roomIn}
 use Rattle.calls.proofs.Rooms.{ListingBeside, full, both-accepted, both-refused-by, more-room}
@@ -53,7 +54,7 @@ module _ (room : ℕ) (ample : 1024 ≤ room) where
 
   stores-one : (t : Tree) (s : State) (n : ℕ) → roomIn s ≡ room → length (storedIn s) ≤ n → n < 1024 → Stores (suc n) (intern t s)
   unfolding intern storedIn roomIn Stores
-  stores-one t (state r ts kept calls) n e few l =
+  stores-one t (state r ts kept tally) n e few l =
       either-answer (suc n) (among ts t) _ _ (e, omega (arith, few)) λ _.
       either-answer (suc n) (ltb largest (size t)) _ _ (λ z. omega (arith, z)) λ _.
       either-answer (suc n) (ltb deepest (depth t)) _ _ (λ z. omega (arith, z)) λ _.
@@ -146,3 +147,12 @@ module _ (room room′ : ℕ) (ample : 1024 ≤ room) (ample′ : 1024 ≤ room�
   pub compile-alike : (out : List ℕ) → compileCall room list out ≡ compileCall room′ list out
   unfolding compileCall afterListing
   compile-alike out = alike (λ l. afterListing (λ why. (Written.Refused why, out)) l λ root swaps store. compiled root out) (λ root swaps s s′. refl) list room room′ ample ample′
+
+  -- and the rows that evaluating uses
+  pub evaluate-marks-alike : (values : List ℕ) → evaluateMarks room list values ≡ evaluateMarks room′ list values
+  unfolding job afterListing withSheet evaluateJobMarks
+  evaluate-marks-alike values = alike (λ l. evaluateJobMarks (afterListing Calls.refused l λ root swaps store. withSheet root store (sheet values))) (λ root swaps s s′. go root s s′ (sheet values)) list room room′ ample ample′
+    where
+      go : (root : Tree) (s s′ : State) (w : Whole Rows Refusal) → evaluateJobMarks (withSheet root s w) ≡ evaluateJobMarks (withSheet root s′ w)
+      go root s s′ (Lines.read rows) = refl
+      go root s s′ (Lines.refused why) = refl

@@ -39,10 +39,10 @@ module _ (room : ℕ) (list out : List ℕ) {root : Tree} {swaps : List Swap} {s
       ∙ rw (le-ltb 512 (size root) small, le-ltb (length out) (length (tape root)) (omega (arith, ample, tape-length root)), tape-length root) refl
 
   -- the bytes that it wrote
-  abbrev compiledBytes : List ℕ
+  abbrev pub compiledBytes : List ℕ
   compiledBytes = take (24 * size root) (compileCall room list out .1)
 
-  bytes-are : compiledBytes ≡ tape root
+  pub bytes-are : compiledBytes ≡ tape root
   bytes-are = ap (λ x. take (24 * size root) (x .1)) compiles ∙ rw (← tape-length root) (take-append-seam (tape root) _)
 
   -- are sound

@@ -31,9 +31,11 @@ use Rattle.calls.specs.declared.Evaluated.{Evaluated}
 use Rattle.calls.specs.declared.Simplified.{Simplified}
 use Rattle.calls.specs.Lent.{Work, capacity, zeroed}
 use Rattle.calls.specs.Calls.{evaluateCall, substituteCall, toRealCall, simplifyCall, compileCall, playCall}
+use Rattle.calls.specs.Marks.{evaluateMarks, playMarks}
 use Rattle.calls.specs.Promises.{Evaluates, Substitutes, ReadsReal, Simplifies, Compiles, Plays}
 use Rattle.calls.proofs.Demand.{compiles}
 use Rattle.calls.proofs.TapeBytes.{written-plays, written-depth, FromAnywhere, from-anywhere}
+use Rattle.calls.proofs.MarkedDemand.{written-marks}
 use Rattle.calls.proofs.ReadBack.{SimplifiedBack, SubstitutedBack, simplified-reads-back, substituted-reads-back}
 use Rattle.calls.proofs.Answering.{EvaluatedSo, RealSo, WrittenSo, SimplifiedSo, evaluate-call-so, real-call-so, substitute-call-so, compile-call-so, simplify-call-so, play-call-so}
 
@@ -126,6 +128,10 @@ pub record Demand3 : Type 0 where
   pub plays-the-same : (room : ℕ) (list out : List ℕ) (bytes : ℕ) (out′ : List ℕ) → compileCall room list out ≡ (Written.Bytes bytes, out′)
       → (room′ : ℕ) (root : Tree) (swaps : List Swap) (store : State) → listing false list (fresh room′ 0) ≡ accepted root swaps store
       → (values : List ℕ) → playCall (take bytes out′) values ≡ evaluateCall room′ list values
+  -- "Playing a compiled tape and evaluating report the same marks; that joins demand 3": the same t rows were used
+  pub marks-the-same : (room : ℕ) (list out : List ℕ) (bytes : ℕ) (out′ : List ℕ) → compileCall room list out ≡ (Written.Bytes bytes, out′)
+      → (room′ : ℕ) (root : Tree) (swaps : List Swap) (store : State) → listing false list (fresh room′ 0) ≡ accepted root swaps store
+      → (values : List ℕ) → playMarks (take bytes out′) values ≡ evaluateMarks room′ list values
   -- after each step of them
   pub no-deeper : (room : ℕ) (list out : List ℕ) (bytes : ℕ) (out′ : List ℕ) → compileCall room list out ≡ (Written.Bytes bytes, out′)
       → (root : Tree) (swaps : List Swap) (store : State) → listing false list (fresh room 0) ≡ accepted root swaps store
@@ -136,6 +142,7 @@ pub demand-3 : Demand3
 demand-3 = record {
   it-compiles = λ room list out root swaps store read small ample. compiles room list out read small ample;
   plays-the-same = λ room list out bytes out′ wrote room′ root swaps store read values. written-plays room list out wrote room′ read values;
+  marks-the-same = λ room list out bytes out′ wrote room′ root swaps store read values. written-marks room list out wrote room′ read values;
   no-deeper = λ room list out bytes out′ wrote root swaps store read rows k. written-depth room list out wrote read rows k;
   any-tape = from-anywhere;
 }

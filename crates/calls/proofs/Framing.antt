@@ -1,19 +1,25 @@
 -- What the steps of a call make together: the texts, the operation, the result, and the memory. Assumes nothing.
 use mathlib.Core.Path.{_≡_, refl, sym, ap, subst, _∙_}
-use Prim.Native.Nat.{ℕ, _-_, _≤_, _<_, min}
+use Prim.Native.Nat.{ℕ, suc, _-_, _≤_, _<_, min}
 use mathlib.Core.List.{List}
-use mathlib.Core.Bool.{Bool, true, false}
+use mathlib.Core.Bool.{Bool, true, false, _||_, true≢false}
 use native.Mathlib.Omega.{arith}
-use borrow.Author.Tests.{leb-true}
+use borrow.Author.Tests.{leb-true, ne-eqb}
+use lib.Dec.{eqb}
 use native.Mathlib.Decide.{decLt}
-use lib.ListN.{length, replicate}
+use lib.ListN.{length, getD, replicate}
 use Rattle.memory.specs.Layout.{deskWords}
 use Rattle.memory.specs.Rows.{blank}
+use Rattle.memory.specs.Marks as Marks
+use Rattle.memory.specs.Marks.{noMarks, noted}
+use Rattle.memory.proofs.Marks.{mark-small}
 use Rattle.expression.specs.declared.refusal.Refusal.{Refusal}
+use Rattle.expression.specs.Refusals.{numberOf}
 use Rattle.expression.specs.Trees.{Tree}
-use Rattle.store.specs.Storing.{State, Answer, fresh}
+use Rattle.store.specs.Storing as Storing
+use Rattle.store.specs.Storing.{State, state, Answer, fresh}
 use Rattle.store.specs.Memory.{memory, room}
-use Rattle.store.specs.Desk.{count, callsOn, refusalOn, refusedFrom}
+use Rattle.store.specs.Desk.{count, callsOn, marksOn, refusalOn, refusedFrom}
 use Rattle.store.specs.Held.{Lent, lent, treeIn, stateIn, Sound, Built, seen}
 use Rattle.store.proofs.Building.{seen-node, seen-refused}
 use Rattle.store.proofs.Rows.{room-is}
@@ -29,22 +35,28 @@ use Rattle.sheet.specs.Table as Table
 use Rattle.sheet.specs.Table.{rowsOf, Held, heldBy}
 use Rattle.evaluation.specs.declared.Evaluation.{Evaluation}
 use Rattle.evaluation.specs.declared.real.Real.{Real}
-use Rattle.evaluation.specs.Evaluating.{evaluate}
+use Rattle.evaluation.specs.Using.{used}
+use Rattle.evaluation.specs.Run.{WorkedOut}
 use Rattle.substitution.specs.Substituting.{substitute}
 use Rattle.evaluation.specs.Reals.{toReal}
 use Rattle.tasks.specs.Tasks.{isAllowed}
 use Rattle.tasks.specs.Deciding.{oneMore}
 use Rattle.simplification.specs.Simplifying.{simplifyBy, simplify}
+use Rattle.simplification.proofs.Counting as Counting
 use Rattle.simplification.proofs.Counting.{bound-to-ten}
-use Rattle.simplification.proofs.Machine.{Agreed, given, refusing, machine-agrees}
+use Rattle.simplification.proofs.Machine.{inWord, answerInWord, machine-counts, small-in-word, Agreed, given, refusing, machine-agrees}
+use Rattle.simplification.proofs.Marking as Marking
+use Rattle.simplification.proofs.Marking.{marksAfter, marks-grow}
 use Rattle.calls.proofs.Results.{FreshJob, job-fresh}
+use Rattle.calls.proofs.Refusing.{job-most, JobBy, job-numbers}
 use Rattle.calls.specs.declared.Evaluated.{Evaluated}
 use Rattle.calls.specs.declared.Simplified.{Simplified}
 use Rattle.calls.specs.declared.Job.{Job}
-use Rattle.calls.specs.Lent.{Work, work, zeroed}
+use Rattle.calls.specs.Lent.{Work, work, capacity, zeroed}
 use Rattle.calls.specs.Calls as Calls
 use Rattle.calls.specs.Calls.{afterListing, withSheet, job, writtenAnswer, evaluated, evaluateJob, evaluateCall, substituteCall, toRealCall, withCalls, callsIn, simplifiedAnswer, simplifyJob, simplifyCall}
-use Rattle.calls.specs.Frame.{sheetAdded, ReadsJob, WritesAnswer}
+use Rattle.calls.specs.Marks.{evaluateJobMarks, evaluateMarks, marksIn, shown, simplifyJobMarks, simplifyMarks}
+use Rattle.calls.specs.Frame.{sheetAdded, ReadsJob, WritesAnswer, isShown, Shown, SimplifiesTexts}
 
 -- ---- the memory
 
@@ -109,14 +121,23 @@ module _ {list values : List ℕ} {j : Job} {l l₁ : Lent} {table : List ℕ} (
   job-holds told = rw told at (p .after)
 
 module _ (store : List (List ℕ)) {desk list values : List ℕ} {j : Job} {l₁ : Lent} {table : List ℕ} (p : ReadsJob list values j (lent store desk) l₁ table) where
-  pub evaluates : {root : ℕ} {rows : Counts} {v : Evaluation} {r : Evaluated} → j ≡ Job.Ready root rows → v ≡ evaluate (rowsOf table rows) (treeIn l₁ root)
-      → r ≡ evaluated v → r ≡ evaluateCall (min (length store) 4096) list values
-  unfolding evaluateJob
-  evaluates told q e = in-room store (λ n. evaluateCall n list values) (e ∙ ap evaluated q ∙ ap evaluateJob (rw told at (p .answer)))
+  -- the answer and the marks that follow from a job
+  from-read : {r : Evaluated × List ℕ} → (j : Calls.Job) → j ≡ job (room (memory store)) list values → r ≡ (evaluateJob j, evaluateJobMarks j)
+      → r ≡ (evaluateCall (min (length store) 4096) list values, evaluateMarks (min (length store) 4096) list values)
+  from-read j e q = in-room store (λ n. (evaluateCall n list values, evaluateMarks n list values)) (q ∙ ap (λ j. (evaluateJob j, evaluateJobMarks j)) e)
 
-  pub evaluates-refused : {why : Refusal} → j ≡ Job.Refused why → Evaluated.Refused why ≡ evaluateCall (min (length store) 4096) list values
-  unfolding evaluateJob
-  evaluates-refused told = in-room store (λ n. evaluateCall n list values) (ap evaluateJob (rw told at (p .answer)))
+  pub evaluates : {root : ℕ} {rows : Counts} {v : Evaluation} {r : Evaluated} {marks marks′ : List ℕ} → j ≡ Job.Ready root rows → WorkedOut (rowsOf table rows) (treeIn l₁ root) v marks marks′
+      → r ≡ evaluated v → marks ≡ noMarks
+      → _≡_ {A = Evaluated × List ℕ} (r, marks′) (evaluateCall (min (length store) 4096) list values, evaluateMarks (min (length store) 4096) list values)
+  unfolding evaluateJob evaluateJobMarks
+  evaluates {root} {rows} told q e z =
+      from-read (Calls.ready (treeIn l₁ root) (stateIn l₁) (rowsOf table rows)) (rw told at (p .answer))
+      (λ i. ((e ∙ ap evaluated (q .value)) i, (q .marked ∙ ap (noted (used (rowsOf table rows) (treeIn l₁ root))) z) i))
+
+  pub evaluates-refused : {why : Refusal} {marks : List ℕ} → j ≡ Job.Refused why → marks ≡ noMarks
+      → _≡_ {A = Evaluated × List ℕ} (Evaluated.Refused why, marks) (evaluateCall (min (length store) 4096) list values, evaluateMarks (min (length store) 4096) list values)
+  unfolding evaluateJob evaluateJobMarks
+  evaluates-refused {why} told z = from-read (Calls.refused why) (rw told at (p .answer)) (λ i. (Evaluated.Refused why, z i))
 
 -- ---- reading as a real
 
@@ -161,10 +182,21 @@ module _ (store : List (List ℕ)) {desk list : List ℕ} (out : List ℕ) {list
 
 -- ---- simplifying
 
-pub simplifies-beyond : (room limit : ℕ) (list values out : List ℕ) → isAllowed limit ≡ false
-    → _≡_ {A = Simplified × List ℕ} (Simplified.Refused Refusal.BadLimit, out) (simplifyCall room limit list values out)
-unfolding simplifyCall
-simplifies-beyond room limit list values out e = rw e refl
+-- an answer at which the marks are shown, and one at which they are not
+pub shown-is : (r : Simplified) (marks : List ℕ) → isShown r ≡ true → shown r marks ≡ marks
+unfolding shown isShown
+shown-is (Simplified.Bytes bytes calls) marks e = refl
+shown-is (Simplified.Refused why) marks e = rw e refl
+
+hidden-is : (r : Simplified) (marks : List ℕ) → isShown r ≡ false → shown r marks ≡ noMarks
+unfolding shown isShown
+hidden-is (Simplified.Bytes bytes calls) marks e = absurd (true≢false e)
+hidden-is (Simplified.Refused why) marks e = rw e refl
+
+pub simplifies-beyond : (w : Work) (limit : ℕ) (list values out desk : List ℕ) → isAllowed limit ≡ false
+    → SimplifiesTexts limit list values out w (Simplified.Refused Refusal.BadLimit) out desk
+unfolding simplifyCall simplifyMarks isShown
+simplifies-beyond w limit list values out desk e = record { answer = rw e refl; marks = λ x. absurd (true≢false (sym x)); none = λ x. rw e refl }
 
 -- the calls on the desk are those of the answer; a refusal names none
 counted : (l : Lent) (built : ℕ) (out : List ℕ)
@@ -177,6 +209,26 @@ counted l built out = go (decLt built refusedFrom)
     go (yes x) = rw (seen-node built l x) refl
     go (no x) = rw (seen-refused built l (omega (arith, x))) refl
 
+-- the marks on the desk are those of the answer, of a refusal too
+marks-seen : (l : Lent) (built : ℕ) → marksOn (l .desk) ≡ marksIn (seen built l)
+unfolding marksIn stateIn
+marks-seen l built = go (decLt built refusedFrom)
+  where
+    go : Dec (built < refusedFrom) → marksOn (l .desk) ≡ marksIn (seen built l)
+    go (yes x) = rw (seen-node built l x) refl
+    go (no x) = rw (seen-refused built l (omega (arith, x))) refl
+
+pub marks-after : (a : Answer) → marksIn a ≡ marksAfter a
+unfolding marksIn marksAfter Marking.marksOf
+marks-after (Storing.gives t (state room stored kept tally)) = refl
+marks-after (Storing.refused why (state room stored kept tally)) = refl
+
+-- a machine's word has no part in them
+marks-in-word : (a : Answer) → marksAfter (answerInWord a) ≡ marksAfter a
+unfolding marksAfter Marking.marksOf answerInWord inWord
+marks-in-word (Storing.gives t (state room stored kept tally)) = refl
+marks-in-word (Storing.refused why (state room stored kept tally)) = refl
+
 same-answer : (out : List ℕ) {a b : Answer} → Agreed a b → simplifiedAnswer out a ≡ simplifiedAnswer out b
 unfolding callsIn writtenAnswer
 same-answer out (given t s) = refl
@@ -188,25 +240,79 @@ module _ (limit : ℕ) (allowed : isAllowed limit ≡ true) (store : List (List 
   unfolding simplifyCall
   from-job e = in-room store (λ n. simplifyCall n limit list values out) (rw allowed e)
 
-  -- the machine's count is the definition's: nothing was counted when the job was read, and the bound of a limit up to 10 fits a word
-  agrees : {root : ℕ} {rows : Counts} → j ≡ Job.Ready root rows
-      → simplifiedAnswer out (simplifyBy oneMore (rowsOf table rows) limit (treeIn l₁ root) (stateIn l₁)) ≡ simplifiedAnswer out (simplify (rowsOf table rows) limit (treeIn l₁ root) (stateIn l₁))
-  unfolding FreshJob isAllowed
-  agrees {root} {rows} told =
-      let f : FreshJob (Calls.ready (treeIn l₁ root) (stateIn l₁) (rowsOf table rows)) = subst FreshJob (sym (rw told at (p .answer))) (job-fresh (room (memory store)) list values) in
-      same-answer out (machine-agrees (rowsOf table rows) limit (treeIn l₁ root) (stateIn l₁) (omega (arith, f .uncounted, bound-to-ten limit (leb-true limit 10 allowed))))
+  marks-from-job : {m : List ℕ} → m ≡ simplifyJobMarks limit out (job (room (memory store)) list values) → m ≡ simplifyMarks (min (length store) 4096) limit list values out
+  unfolding simplifyMarks
+  marks-from-job e = in-room store (λ n. simplifyMarks n limit list values out) (rw allowed e)
 
-  pub simplifies : {root built calls : ℕ} {rows : Counts} {l₂ : Lent} {r : Simplified} {w : Written} {out′ : List ℕ} → j ≡ Job.Ready root rows
-      → Built (simplifyBy oneMore (rowsOf table rows) limit (treeIn l₁ root) (stateIn l₁)) built l₁ l₂
-      → WritesAnswer l₂ built w out out′ → calls ≡ callsOn (l₂ .desk) → r ≡ withCalls calls w
-      → _≡_ {A = Simplified × List ℕ} (r, out′) (simplifyCall (min (length store) 4096) limit list values out)
-  unfolding simplifyJob
-  simplifies {built = built} {l₂ = l₂} {out′ = out′} told b w q e =
-      let y = w (b .step .sound) (b .inside) in
-      ap (λ r. (r, out′)) e ∙ (λ i. (withCalls (q i) (y i .0), y i .1)) ∙ ap (λ r. (r, writtenAnswer out (seen built l₂) .1)) (counted l₂ built out)
-      ∙ ap (simplifiedAnswer out) (b .answer) ∙ agrees told ∙ from-job (ap (simplifyJob limit out) (rw told at (p .answer)))
+  module _ {root : ℕ} {rows : Counts} (told : j ≡ Job.Ready root rows) where
+    -- nothing was counted and nothing marked when the job was read
+    begins : FreshJob (Calls.ready (treeIn l₁ root) (stateIn l₁) (rowsOf table rows))
+    begins = subst FreshJob (sym (rw told at (p .answer))) (job-fresh (room (memory store)) list values)
 
-  pub simplifies-refused : {why : Refusal} → j ≡ Job.Refused why
-      → _≡_ {A = Simplified × List ℕ} (Simplified.Refused why, out) (simplifyCall (min (length store) 4096) limit list values out)
-  unfolding simplifyJob
-  simplifies-refused told = from-job (ap (simplifyJob limit out) (rw told at (p .answer)))
+    uncounted : Counting.count (stateIn l₁) ≡ 0
+    unfolding FreshJob
+    uncounted = begins .uncounted
+
+    unmarked : Marking.marksOf (stateIn l₁) ≡ noMarks
+    unfolding FreshJob
+    unmarked = begins .unmarked
+
+    -- the machine's count is the definition's: the bound of a limit up to 10 fits a word
+    agrees : simplifiedAnswer out (simplifyBy oneMore (rowsOf table rows) limit (treeIn l₁ root) (stateIn l₁)) ≡ simplifiedAnswer out (simplify (rowsOf table rows) limit (treeIn l₁ root) (stateIn l₁))
+    unfolding isAllowed
+    agrees = same-answer out (machine-agrees (rowsOf table rows) limit (treeIn l₁ root) (stateIn l₁) (omega (arith, uncounted, bound-to-ten limit (leb-true limit 10 allowed))))
+
+    marks-agree : marksIn (simplifyBy oneMore (rowsOf table rows) limit (treeIn l₁ root) (stateIn l₁)) ≡ marksIn (simplify (rowsOf table rows) limit (treeIn l₁ root) (stateIn l₁))
+    marks-agree =
+        marks-after _
+        ∙ ap (λ s. marksAfter (simplifyBy oneMore (rowsOf table rows) limit (treeIn l₁ root) s)) (sym (small-in-word (stateIn l₁) (omega (arith, uncounted))))
+        ∙ ap marksAfter (machine-counts (rowsOf table rows) limit (treeIn l₁ root) (stateIn l₁)) ∙ marks-in-word _ ∙ sym (marks-after _)
+
+    -- each is 0 or 1
+    marks-few : (k : ℕ) → getD (marksIn (simplify (rowsOf table rows) limit (treeIn l₁ root) (stateIn l₁))) k 0 ≤ 1
+    marks-few k =
+        let g = marks-grow suc (rowsOf table rows) limit (treeIn l₁ root) (stateIn l₁) in
+        let e : marksIn (simplify (rowsOf table rows) limit (treeIn l₁ root) (stateIn l₁)) ≡ Marks.marksOf (g .rows) = marks-after _ ∙ g .are ∙ ap (noted (g .rows)) unmarked in
+        rw e (mark-small (g .rows) k)
+
+    pub simplifies : {built calls : ℕ} {l₂ : Lent} {r : Simplified} {w : Written} {out′ : List ℕ} (desk₀ table₀ : List ℕ)
+        → Built (simplifyBy oneMore (rowsOf table rows) limit (treeIn l₁ root) (stateIn l₁)) built l₁ l₂
+        → WritesAnswer l₂ built w out out′ → calls ≡ callsOn (l₂ .desk) → r ≡ withCalls calls w
+        → SimplifiesTexts limit list values out (work store desk₀ table₀) r out′ (l₂ .desk)
+    unfolding simplifyJob simplifyJobMarks
+    simplifies {built} {l₂ = l₂} {r} {out′ = out′} desk₀ table₀ b w q e =
+        let y = w (b .step .sound) (b .inside) in
+        let same =
+        ap (λ r. (r, out′)) e ∙ (λ i. (withCalls (q i) (y i .0), y i .1)) ∙ ap (λ r. (r, writtenAnswer out (seen built l₂) .1)) (counted l₂ built out)
+        ∙ ap (simplifiedAnswer out) (b .answer) ∙ agrees in
+        let on-desk = marks-seen l₂ built ∙ ap marksIn (b .answer) ∙ marks-agree in
+        let wanted = marks-from-job (ap (simplifyJobMarks limit out) (rw told at (p .answer))) in
+        let by-answer = ap (λ x. shown (x .0) (marksIn (simplify (rowsOf table rows) limit (treeIn l₁ root) (stateIn l₁)))) same in
+        record {
+          answer = same ∙ from-job (ap (simplifyJob limit out) (rw told at (p .answer)));
+          marks = λ x. (record { long = b .step .sound .long; few = λ k. rw on-desk (marks-few k) }, on-desk ∙ sym (shown-is r _ x) ∙ by-answer ∙ wanted);
+          none = λ x. sym wanted ∙ sym by-answer ∙ hidden-is r _ x;
+        }
+
+  pub simplifies-refused : {why : Refusal} (desk₀ table₀ desk₁ : List ℕ) → j ≡ Job.Refused why → SimplifiesTexts limit list values out (work store desk₀ table₀) (Simplified.Refused why) out desk₁
+  unfolding simplifyJob simplifyJobMarks isShown JobBy
+  simplifies-refused {why} desk₀ table₀ desk₁ told =
+      let by = job-most (subst JobBy (sym (rw told at (p .answer))) (job-numbers (room (memory store)) list values)) in
+      record {
+        answer = from-job (ap (simplifyJob limit out) (rw told at (p .answer)));
+        marks = λ x. absurd (true≢false (sym x ∙ below-nine (numberOf why) by));
+        none = λ x. sym (marks-from-job (ap (simplifyJobMarks limit out) (rw told at (p .answer))));
+      }
+    where
+      below-nine : (n : ℕ) → n ≤ 8 → (eqb n 9 || eqb n 10) ≡ false
+      below-nine n l = rw (ne-eqb n 9 (λ e. omega (arith, l, e)), ne-eqb n 10 (λ e. omega (arith, l, e))) refl
+
+-- ---- the marks that a call writes
+
+pub marks-written : {limit : ℕ} {list values out : List ℕ} (w : Work) {r : Simplified} {marks out′ desk : List ℕ} → SimplifiesTexts limit list values out w r out′ desk → Shown r desk marks
+    → _≡_ {A = (Simplified × List ℕ) × List ℕ} ((r, out′), marks) (simplifyCall (capacity w) limit list values out, simplifyMarks (capacity w) limit list values out)
+marks-written {limit} {list} {values} {out} w {r} {marks} p q = λ i. (p .answer i, go (isShown r) refl i)
+  where
+    go : (b : Bool) → isShown r ≡ b → marks ≡ simplifyMarks (capacity w) limit list values out
+    go true e = let m = p .marks e in q .copied e (m .0) ∙ m .1
+    go false e = q .none e ∙ sym (p .none e)

@@ -1,4 +1,4 @@
--- Any two answers that the contract of a public call allows are equal, and so are the output bytes and the work memory that come with them; and two
+-- Any two answers that the contract of a public call allows are equal, and so are the marks, the output bytes and the work memory that come with them; and two
 -- answers of what the calls share. Assumes nothing.
 use mathlib.Core.Path.{_≡_, sym, _∙_}
 use Prim.Native.Nat.{ℕ, _<_}
@@ -20,11 +20,15 @@ use Rattle.calls.specs.declared.Simplified.{Simplified}
 use Rattle.calls.specs.declared.Job.{Job}
 use Rattle.calls.specs.Lent.{Work}
 use Rattle.calls.specs.Frame.{ReadsJob, WritesAnswer}
-use Rattle.calls.specs.Promises.{Evaluates, Substitutes, ReadsReal, Simplifies, Compiles, Plays}
+use Rattle.calls.specs.Promises.{Evaluates, EvaluatesMarked, Substitutes, ReadsReal, Simplifies, SimplifiesMarked, Compiles, Plays, PlaysMarked}
 
 pub one-evaluated : (list values : List ℕ) (w : Work) {r r′ : Evaluated} {w₁ w₂ : Work}
     → Evaluates list values w r w₁ → Evaluates list values w r′ w₂ → _≡_ {A = Evaluated × Work} (r, w₁) (r′, w₂)
 one-evaluated list values w p q = p ∙ sym q
+
+pub one-evaluated-marked : (list values : List ℕ) (w : Work) {r r′ : Evaluated} {marks₁ marks₂ : List ℕ} {w₁ w₂ : Work}
+    → EvaluatesMarked list values w r marks₁ w₁ → EvaluatesMarked list values w r′ marks₂ w₂ → _≡_ {A = (Evaluated × List ℕ) × Work} ((r, marks₁), w₁) ((r′, marks₂), w₂)
+one-evaluated-marked list values w p q = p ∙ sym q
 
 pub one-substituted : (list out : List ℕ) (w : Work) {r r′ : Written} {out₁ out₂ : List ℕ} {w₁ w₂ : Work}
     → Substitutes list out w r out₁ w₁ → Substitutes list out w r′ out₂ w₂ → _≡_ {A = (Written × List ℕ) × Work} ((r, out₁), w₁) ((r′, out₂), w₂)
@@ -37,6 +41,11 @@ pub one-simplified : (limit : ℕ) (list values out : List ℕ) (w : Work) {r r�
     → Simplifies limit list values out w r out₁ w₁ → Simplifies limit list values out w r′ out₂ w₂ → _≡_ {A = (Simplified × List ℕ) × Work} ((r, out₁), w₁) ((r′, out₂), w₂)
 one-simplified limit list values out w p q = p ∙ sym q
 
+pub one-simplified-marked : (limit : ℕ) (list values out : List ℕ) (w : Work) {r r′ : Simplified} {marks₁ marks₂ out₁ out₂ : List ℕ} {w₁ w₂ : Work}
+    → SimplifiesMarked limit list values out w r marks₁ out₁ w₁ → SimplifiesMarked limit list values out w r′ marks₂ out₂ w₂
+    → _≡_ {A = ((Simplified × List ℕ) × List ℕ) × Work} (((r, out₁), marks₁), w₁) (((r′, out₂), marks₂), w₂)
+one-simplified-marked limit list values out w p q = p ∙ sym q
+
 pub one-compiled : (list out : List ℕ) (w : Work) {r r′ : Written} {out₁ out₂ : List ℕ} {w₁ w₂ : Work}
     → Compiles list out w r out₁ w₁ → Compiles list out w r′ out₂ w₂ → _≡_ {A = (Written × List ℕ) × Work} ((r, out₁), w₁) ((r′, out₂), w₂)
 one-compiled list out w p q = p ∙ sym q
@@ -45,10 +54,14 @@ pub one-played : (tape values table : List ℕ) {r r′ : Evaluated} {t₁ t₂ 
     → Plays tape values table r t₁ → Plays tape values table r′ t₂ → _≡_ {A = Evaluated × List ℕ} (r, t₁) (r′, t₂)
 one-played tape values table p q = p ∙ sym q
 
+pub one-played-marked : (tape values table : List ℕ) {r r′ : Evaluated} {marks₁ marks₂ t₁ t₂ : List ℕ}
+    → PlaysMarked tape values table r marks₁ t₁ → PlaysMarked tape values table r′ marks₂ t₂ → _≡_ {A = (Evaluated × List ℕ) × List ℕ} ((r, marks₁), t₁) ((r′, marks₂), t₂)
+one-played-marked tape values table p q = p ∙ sym q
+
 -- ---- what the calls share: `frame::read_job`, and `frame::write_answer` where a store is held
 
 stored-in : State → List Tree
-stored-in (state room stored kept calls) = stored
+stored-in (state room stored kept tally) = stored
 
 module _ {list values : List ℕ} {l l₁ l₂ : Lent} {table₁ table₂ : List ℕ} where
   pub one-job : (r r′ : Job) → ReadsJob list values r l l₁ table₁ → ReadsJob list values r′ l l₂ table₂ → r ≡ r′

@@ -1,5 +1,5 @@
--- How much room a result needs: 36 bytes a line, so that simplifying and substituting never find an output of 36,864 bytes too short.
--- Assumes nothing.
+-- How much room a result needs: 36 bytes a line, so that simplifying and substituting never find an output of 36,864 bytes too short, and
+-- never write more. Assumes nothing.
 use mathlib.Core.Path.{_≡_, refl, subst}
 use mathlib.Core.Bool.{Bool, true, false, cond}
 use mathlib.Core.List.{List}
@@ -50,7 +50,7 @@ given-result room before (gives t s) x h = x .is-in .proper
 given-result room before (Storing.refused why s) x h = h
 
 HasRoom : Written → Type 0
-HasRoom (Written.Bytes bytes) = Unit {0}
+HasRoom (Written.Bytes bytes) = bytes ≤ 36864
 HasRoom (Written.Refused why) = numberOf why ≡ 13 → ⊥
 
 -- over 1024 lines are refused by 2 before
@@ -68,7 +68,7 @@ answer-room out (gives t s) p ample =
     either-written (ltb 1024 (length (order t))) _ _ (λ _ e. omega (arith, e)) λ e.
     let few = ltb-false 1024 (length (order t)) e in
     let enough = listing-length t p few in
-    either-written (ltb (length out) (length (textOf t))) _ _ (λ e′ _. omega (arith, ltb-true (length out) (length (textOf t)) e′, enough, ample few)) λ _. tt
+    either-written (ltb (length out) (length (textOf t))) _ _ (λ e′ _. omega (arith, ltb-true (length out) (length (textOf t)) e′, enough, ample few)) λ _. omega (arith, enough, few)
 
 -- ---- simplifying
 
@@ -78,12 +78,12 @@ simplifiedLines limit (ready root store rows) = linesIn (simplify rows limit roo
 simplifiedLines limit (Calls.refused why) = 0
 
 SimplifiedHasRoom : Simplified → Type 0
-SimplifiedHasRoom (Simplified.Bytes bytes calls) = Unit {0}
+SimplifiedHasRoom (Simplified.Bytes bytes calls) = bytes ≤ 36864
 SimplifiedHasRoom (Simplified.Refused why) = numberOf why ≡ 13 → ⊥
 
 counted-room : (calls : ℕ) (w : Written) → HasRoom w → SimplifiedHasRoom (withCalls calls w)
 unfolding withCalls HasRoom SimplifiedHasRoom
-counted-room calls (Written.Bytes bytes) p = tt
+counted-room calls (Written.Bytes bytes) p = p
 counted-room calls (Written.Refused why) p = p
 
 job-room : (room limit : ℕ) (out : List ℕ) (j : Job) → Jobbed room j → JobBy j → Ample out (simplifiedLines limit j) → SimplifiedHasRoom (simplifyJob limit out j .0)
@@ -116,6 +116,11 @@ module _ (room limit : ℕ) (list values out : List ℕ) where
 
   pub simplify-room : 36864 ≤ length out → simplifyCall room limit list values out .0 ≡ Simplified.Refused Refusal.OutRoom → ⊥
   simplify-room enough e = simplify-not-13 enough e refl
+
+  -- which a result never fills further
+  pub simplify-most : 36864 ≤ length out → {bytes calls : ℕ} → simplifyCall room limit list values out .0 ≡ Simplified.Bytes bytes calls → bytes ≤ 36864
+  unfolding SimplifiedHasRoom
+  simplify-most enough e = subst SimplifiedHasRoom e (simplified-room λ few. omega (arith, few, enough))
 
 -- ---- substituting
 

@@ -12,7 +12,7 @@ use Rattle.complex.specs.Bits.{Fitting}
 use Rattle.expression.specs.declared.refusal.Refusal.{Refusal}
 use Rattle.expression.specs.Trees.{Tree}
 use Rattle.store.specs.Storing as Storing
-use Rattle.store.specs.Storing.{nothing, State, state, Answer, gives, fresh}
+use Rattle.store.specs.Storing.{State, Answer, gives, fresh}
 use Rattle.listing.specs.Listings as Listings
 use Rattle.listing.specs.Listings.{Listing, Swap, accepted, listing}
 use Rattle.sheet.specs.Rows.{Rows}
@@ -22,7 +22,7 @@ use Rattle.simplification.proofs.Stored.{Given, simplified-is-in}
 use Rattle.substitution.specs.Substituting.{substitute}
 use Rattle.writing.specs.declared.Written.{Written}
 use Rattle.writing.specs.Order.{order, textOf, written}
-use Rattle.writing.proofs.ReadBack.{reads-back}
+use Rattle.writing.proofs.ReadBack.{storeOf, reads-back}
 use Rattle.calls.specs.declared.Simplified.{Simplified}
 use Rattle.calls.specs.Calls as Calls
 use Rattle.calls.specs.Calls.{Job, ready, afterListing, job, writtenAnswer, withCalls, callsIn, substituteCall, simplifyJob, simplifyCall}
@@ -32,7 +32,7 @@ use Rattle.calls.proofs.Accepted.{Listed, listing-listed, Jobbed, job-i
 -- the first bytes of an output are read as this tree, by a call that substitutes or not, in any store with as much room
 abbrev pub ReadsBack : (room bytes : ℕ) (out′ : List ℕ) → Tree → Type 0
 ReadsBack room bytes out′ t = (substituting : Bool) (room′ : ℕ) → room ≤ room′
-    → listing substituting (take bytes out′) (fresh room′ 0) ≡ accepted t [] (state room′ (order t) (λ u. nothing) 0)
+    → listing substituting (take bytes out′) (fresh room′ 0) ≡ accepted t [] (storeOf room′ (order t))
 
 -- what was given, and stands there
 pub record GivenBack (room : ℕ) (a : Answer) (bytes : ℕ) (out′ : List ℕ) : Type 0 where

@@ -107,7 +107,7 @@ either-answer false x y p q = q
 
 storing-by : (t : Tree) (s : State) → AnswerBy (intern t s)
 unfolding intern AnswerBy
-storing-by t (state room ts kept calls) =
+storing-by t (state room ts kept tally) =
     either-answer (among ts t) _ _ tt
     (either-answer (ltb largest (size t)) _ _ six
     (either-answer (ltb deepest (depth t)) _ _ seven

@@ -6,6 +6,7 @@ use Prim.Native.Nat.{ℕ, _+_, _≤_, _<_}
 use native.Mathlib.Omega.{arith}
 use lib.Dec.{ltb, eqb}
 use lib.ListN.{length}
+use Rattle.memory.specs.Marks.{noMarks}
 use Rattle.expression.specs.declared.refusal.Refusal.{Refusal}
 use Rattle.expression.specs.Trees.{Tree, size, depth}
 use Rattle.expression.specs.Limits.{Limited, Proper, largest, deepest}
@@ -25,12 +26,14 @@ use Rattle.listing.specs.Listings as Listings
 use Rattle.listing.specs.Listings.{Listing, Swap, accepted, Known, known, stored, formed, mostNodes, mostSwaps, nodeLine, swapFields, swapped, swapLine, listingLine, rooted, whole, listing, aboveVariable}
 use Rattle.node_lines.specs.NodeLines.{nodeFields}
 use Rattle.writing.specs.Order.{order, textOf}
+use Rattle.writing.proofs.ReadBack.{storeOf}
 use Rattle.writing.proofs.Fits.{written-reads-back}
 use Rattle.sheet.specs.Rows.{Rows, sheet}
 use Rattle.tasks.specs.Tasks.{isAllowed}
 use Rattle.simplification.specs.Bounds.{mostCalls}
 use Rattle.simplification.specs.Simplifying.{simplify}
 use Rattle.simplification.proofs.Counting.{count, Below, bounded, bound-at-ten}
+use Rattle.simplification.proofs.Marking.{marksOf}
 use Rattle.calls.specs.declared.Simplified.{Simplified}
 use Rattle.calls.specs.Lent.{Work, capacity}
 use Rattle.calls.specs.Calls as Calls
@@ -38,11 +41,12 @@ use Rattle.calls.specs.Calls.{Job, ready, afterListing, withSheet, job, 
 use Rattle.calls.specs.Promises.{Simplifies}
 use Rattle.calls.proofs.Lining.{LineHas, WholeHas, InLine, InWhole, to-the-end}
 
--- ---- a store into which a listing was read: nothing is counted, and nothing kept
+-- ---- a store into which a listing was read: nothing is counted, nothing kept and nothing marked
 
 pub record Fresh (s : State) : Type 0 where
   pub uncounted : count s ≡ 0
   pub unkept : (t : Tree) → recall t s ≡ nothing
+  pub unmarked : marksOf s ≡ noMarks
 
 FreshIn : Answer → Type 0
 FreshIn (gives t s) = Fresh s
@@ -53,12 +57,12 @@ either-way true x y p q = p
 either-way false x y p q = q
 
 stores : (t : Tree) (s : State) → Fresh s → FreshIn (intern t s)
-unfolding intern FreshIn count recall
-stores t (state room ts kept calls) f =
+unfolding intern FreshIn count recall marksOf
+stores t (state room ts kept tally) f =
     either-way (among ts t) _ _ f
     (either-way (ltb largest (size t)) _ _ tt
     (either-way (ltb deepest (depth t)) _ _ tt
-    (either-way (ltb (length ts) room) _ _ (record { uncounted = f .uncounted; unkept = f .unkept }) tt)))
+    (either-way (ltb (length ts) room) _ _ (record { uncounted = f .uncounted; unkept = f .unkept; unmarked = f .unmarked }) tt)))
 
 FreshKnown : Known → Type 0
 FreshKnown k = Fresh (k .store)
@@ -104,8 +108,8 @@ whole-fresh (Lines.read k) f = rooted-fresh (k .nodes) (k .swaps) (k .store) f
 whole-fresh (Lines.refused why) f = tt
 
 fresh-is : (room : ℕ) → Fresh (fresh room 0)
-unfolding count recall
-fresh-is room = record { uncounted = refl; unkept = λ t. refl }
+unfolding count recall marksOf
+fresh-is room = record { uncounted = refl; unkept = λ t. refl; unmarked = refl }
 
 listing-fresh : (substituting : Bool) (bs : List ℕ) (room : ℕ) → FreshListing (listing substituting bs (fresh room 0))
 unfolding listing FreshKnown
@@ -138,8 +142,8 @@ Within most (Simplified.Refused why) = Unit {0}
 
 answer-within : (n : ℕ) (a : Answer) (w : Written) → Below n a → Within n (withCalls (callsIn a) w)
 unfolding withCalls callsIn Below count Within
-answer-within n (gives t (state room ts kept calls)) (Written.Bytes bytes) b = b
-answer-within n (gives t (state room ts kept calls)) (Written.Refused why) b = tt
+answer-within n (gives t (state room ts kept tally)) (Written.Bytes bytes) b = b
+answer-within n (gives t (state room ts kept tally)) (Written.Refused why) b = tt
 answer-within n (Storing.refused why s) (Written.Bytes bytes) b = omega arith
 answer-within n (Storing.refused why s) (Written.Refused why′) b = tt
 
@@ -187,5 +191,5 @@ module _ {want : Answer} {i : ℕ} {l l′ : Lent} (b : Built want i l l′) (x 
   result-proper = proper (b .step .sound .holds) i
 
   pub result-reads-back : length (order (treeIn l′ i)) ≤ 1024 → (substituting : Bool) (room′ : ℕ) → room (l′ .rows) ≤ room′
-      → listing substituting (textOf (treeIn l′ i)) (fresh room′ 0) ≡ accepted (treeIn l′ i) [] (state room′ (order (treeIn l′ i)) (λ u. nothing) 0)
+      → listing substituting (textOf (treeIn l′ i)) (fresh room′ 0) ≡ accepted (treeIn l′ i) [] (storeOf room′ (order (treeIn l′ i)))
   result-reads-back = written-reads-back (b .step .sound .holds) (b .inside x)

@@ -17,7 +17,7 @@ use Rattle.text.specs.Reading.{Read, is, bad}
 use Rattle.text.specs.Lines as Lines
 use Rattle.text.specs.Lines.{Line, goes, stops, Whole, afterLine, atLine, lines, linesBy, none, aboveLast}
 use Rattle.store.specs.Storing as Storing
-use Rattle.store.specs.Storing.{Kept, State, state, Answer, gives, among, intern, fresh}
+use Rattle.store.specs.Storing.{Kept, Tally, State, state, Answer, gives, among, intern, fresh}
 use Rattle.listing.specs.Listings as Listings
 use Rattle.listing.specs.Listings.{Listing, Swap, accepted, Known, known, stored, formed, mostNodes, mostSwaps, nodeLine, aboveVariable, swapFields, swapped, swapLine, listingLine, rooted, whole, listing}
 use Rattle.node_lines.specs.NodeLines.{nodeFields}
@@ -57,8 +57,8 @@ module _ {S R : Type 0} (P : S → S → Type 0) (early : R) where
 -- ---- a line of a listing, with less and with more room
 
 data Beside : Known → Known → Type 0 where
-  beside : (nodes : List Tree) (swaps : List Swap) (room room′ : ℕ) (ts : List Tree) (kept : Tree → Kept) (calls : ℕ) → room ≤ room′
-      → Beside (known nodes swaps (state room ts kept calls)) (known nodes swaps (state room′ ts kept calls))
+  beside : (nodes : List Tree) (swaps : List Swap) (room room′ : ℕ) (ts : List Tree) (kept : Tree → Kept) (tally : Tally) → room ≤ room′
+      → Beside (known nodes swaps (state room ts kept tally)) (known nodes swaps (state room′ ts kept tally))
 
 abbrev Lined : Line Known Refusal → Line Known Refusal → Type 0
 Lined = LineBeside Beside Refusal.Room
@@ -67,12 +67,12 @@ either : (b : Bool) {x y x′ y′ : Line Known Refusal} → Lined x x′ → Li
 either true p q = p
 either false p q = q
 
-module _ (nodes : List Tree) (swaps : List Swap) (room room′ : ℕ) (ts : List Tree) (kept : Tree → Kept) (calls : ℕ) (more : room ≤ room′) where
+module _ (nodes : List Tree) (swaps : List Swap) (room room′ : ℕ) (ts : List Tree) (kept : Tree → Kept) (tally : Tally) (more : room ≤ room′) where
   abbrev less-known : Known
-  less-known = known nodes swaps (state room ts kept calls)
+  less-known = known nodes swaps (state room ts kept tally)
 
   abbrev more-known : Known
-  more-known = known nodes swaps (state room′ ts kept calls)
+  more-known = known nodes swaps (state room′ ts kept tally)
 
   module _ (t : Tree) (rest : List ℕ) where
     abbrev Stored : Answer → Answer → Type 0
@@ -84,17 +84,17 @@ module _ (nodes : List Tree) (swaps : List Swap) (room room′ : ℕ) (ts : List
 
     -- where both have room, or the first has none
     new-beside : (b b′ : Bool) → (b ≡ true → b′ ≡ true)
-        → Stored (cond b (gives t (state room (ts ++ (t ∷ [])) kept calls)) (Storing.refused Refusal.Room (state room ts kept calls)))
-        (cond b′ (gives t (state room′ (ts ++ (t ∷ [])) kept calls)) (Storing.refused Refusal.Room (state room′ ts kept calls)))
+        → Stored (cond b (gives t (state room (ts ++ (t ∷ [])) kept tally)) (Storing.refused Refusal.Room (state room ts kept tally)))
+        (cond b′ (gives t (state room′ (ts ++ (t ∷ [])) kept tally)) (Storing.refused Refusal.Room (state room′ ts kept tally)))
     unfolding stored
     new-beside false b′ f = stops-early
-    new-beside true true f = both-go rest (beside (nodes ++ (t ∷ [])) swaps room room′ (ts ++ (t ∷ [])) kept calls more)
+    new-beside true true f = both-go rest (beside (nodes ++ (t ∷ [])) swaps room room′ (ts ++ (t ∷ [])) kept tally more)
     new-beside true false f = absurd (subst T (sym (f refl)) tt)
 
-    stored-beside : Stored (intern t (state room ts kept calls)) (intern t (state room′ ts kept calls))
+    stored-beside : Stored (intern t (state room ts kept tally)) (intern t (state room′ ts kept tally))
     unfolding stored intern
     stored-beside =
-        either-way (among ts t) _ _ _ _ (both-go rest (beside (nodes ++ (t ∷ [])) swaps room room′ ts kept calls more))
+        either-way (among ts t) _ _ _ _ (both-go rest (beside (nodes ++ (t ∷ [])) swaps room room′ ts kept tally more))
         (either-way (ltb largest (size t)) _ _ _ _ (both-stop Refusal.Big)
         (either-way (ltb deepest (depth t)) _ _ _ _ (both-stop Refusal.Deep)
         (new-beside (ltb (length ts) room) (ltb (length ts) room′) λ e. lt-ltb (length ts) room′ (omega (arith, ltb-true (length ts) room e, more)))))
@@ -108,16 +108,16 @@ module _ (nodes : List Tree) (swaps : List Swap) (room room′ : ℕ) (ts : List
   unfolding swapped
   swapped-beside substituting bad = both-stop _
   swapped-beside substituting (is s rest) =
-      either (substituting && aboveLast aboveVariable swaps s) (both-go rest (beside nodes (swaps ++ (s ∷ [])) room room′ ts kept calls more)) (both-stop _)
+      either (substituting && aboveLast aboveVariable swaps s) (both-go rest (beside nodes (swaps ++ (s ∷ [])) room room′ ts kept tally more)) (both-stop _)
 
 line-beside : (substituting : Bool) (k k′ : Known) (first : ℕ) (bs : List ℕ) → Beside k k′
     → Lined (listingLine substituting k first bs) (listingLine substituting k′ first bs)
 unfolding listingLine swapLine nodeLine
-line-beside substituting k k′ first bs (beside nodes swaps room room′ ts kept calls more) =
+line-beside substituting k k′ first bs (beside nodes swaps room room′ ts kept tally more) =
     either (eqb first 115)
-    (either (ltb (length swaps) mostSwaps) (swapped-beside nodes swaps room room′ ts kept calls more substituting (swapFields nodes first bs)) (both-stop _))
+    (either (ltb (length swaps) mostSwaps) (swapped-beside nodes swaps room room′ ts kept tally more substituting (swapFields nodes first bs)) (both-stop _))
     (either (ltb (length nodes) mostNodes)
-    (formed-beside nodes swaps room room′ ts kept calls more (cond (none swaps) (nodeFields nodes first bs) bad)) (both-stop _))
+    (formed-beside nodes swaps room room′ ts kept tally more (cond (none swaps) (nodeFields nodes first bs) bad)) (both-stop _))
 
 -- ---- a listing
 
@@ -135,7 +135,7 @@ rooted-beside (t ∷ ts) swaps store store′ = both-accepted _ _
 whole-beside : {w w′ : Whole Known Refusal} → WholeBeside Beside Refusal.Room w w′ → ListingBeside (whole w) (whole w′)
 unfolding whole
 whole-beside ends-early = full
-whole-beside (both-read (beside nodes swaps room room′ ts kept calls more)) = rooted-beside nodes swaps _ _
+whole-beside (both-read (beside nodes swaps room room′ ts kept tally more)) = rooted-beside nodes swaps _ _
 whole-beside (both-refused why) = both-refused-by why
 
 one-root : {root root′ : Tree} {swaps swaps′ : List Swap} {store store′ : State} → ListingBeside (accepted root swaps store) (accepted root′ swaps′ store′)
@@ -146,7 +146,7 @@ module _ (substituting : Bool) (bs : List ℕ) where
   pub more-room : (room room′ : ℕ) → room ≤ room′ → ListingBeside (listing substituting bs (fresh room 0)) (listing substituting bs (fresh room′ 0))
   unfolding listing
   more-room room room′ more =
-      whole-beside (read-twice Beside Refusal.Room (listingLine substituting) (line-beside substituting) _ _ bs (beside [] [] room room′ [] _ 0 more))
+      whole-beside (read-twice Beside Refusal.Room (listingLine substituting) (line-beside substituting) _ _ bs (beside [] [] room room′ [] _ _ more))
 
   -- accepted with this root and these s lines
   abbrev pub Accepts : (room : ℕ) → Tree → List Swap → Type 0

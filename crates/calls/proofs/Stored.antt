@@ -24,7 +24,7 @@ use Rattle.expression.specs.Alike.{identical, equal}
 use Rattle.expression.specs.Codes.{operationCode}
 use Rattle.expression.specs.Limits.{Limited, Proper, ProperLeaf, largest, deepest}
 use Rattle.expression.proofs.Likeness.{identical-same}
-use Rattle.store.specs.Storing.{nothing, result, State, state, Answer, andThen, among, place, intern, recall, keep}
+use Rattle.store.specs.Storing.{nothing, result, State, state, Answer, andThen, among, place, intern, recall, keep, noting}
 use Rattle.store.proofs.Places.{place-within, place-hit, among-no}
 use Rattle.sheet.specs.Rows.{Rows, Row, row, Lookup, found, missing, functionValue}
 use Rattle.evaluation.specs.declared.Evaluation.{Evaluation}
@@ -85,10 +85,10 @@ pub record Good (t : Tree) : Type 0 where
   pub proper : Proper t
 
 unfoldable pub storedIn : State → List Tree
-storedIn (state room ts kept calls) = ts
+storedIn (state room ts kept tally) = ts
 
 unfoldable pub roomIn : State → ℕ
-roomIn (state room ts kept calls) = room
+roomIn (state room ts kept tally) = room
 
 abbrev pub StoredIn : State → Tree → Type 0
 StoredIn s t = In (storedIn s) t
@@ -126,7 +126,7 @@ module _ (room : ℕ) where
 
   pub stores : (t : Tree) (s : State) → Sane room s → New (storedIn s) t → GivenIn s (intern t s)
   unfolding Given intern storedIn roomIn recall
-  stores t (state r ts kept calls) g x =
+  stores t (state r ts kept tally) g x =
       let more : (u : Tree) → In ts u → In (ts ++ (t ∷ [])) u = λ u i. record { all = all-more ts (t ∷ []) u (i .all); proper = i .proper } in
       let last = new-in (ts ++ (t ∷ [])) t (new-stays more t x) (among-last ts t) in
       either-way _ (among ts t) _ _ (λ e. got (Sane room) StoredIn g (new-in ts t x e)) λ _.
@@ -146,7 +146,7 @@ module _ (room : ℕ) where
 
   keeps : (t u : Tree) (s : State) → Sane room s → StoredIn s u → Got (Sane room) StoredIn s (keep t u s) u
   unfolding keep storedIn roomIn recall
-  keeps t u (state r ts kept calls) g i = record {
+  keeps t u (state r ts kept tally) g i = record {
     sane = record { roomy = g .roomy; few = g .few; good = g .good; kept = λ v w e. go v w (equal t v) e };
     is-in = i;
     stay = λ v x. x;
@@ -158,11 +158,15 @@ module _ (room : ℕ) where
 
   counts : (more : ℕ → ℕ) (t : Tree) (s : State) → Sane room s → StoredIn s t → Got (Sane room) StoredIn s (counted more s) t
   unfolding counted storedIn roomIn recall
-  counts more t (state r ts kept calls) g i = record {
+  counts more t (state r ts kept tally) g i = record {
     sane = record { roomy = g .roomy; few = g .few; good = g .good; kept = g .kept };
     is-in = i;
     stay = λ v x. x;
   }
+
+  notes : (js : List ℕ) (s : State) → Sane room s → Sane room (noting js s) × ((u : Tree) → StoredIn s u → StoredIn (noting js s) u)
+  unfolding noting storedIn roomIn recall
+  notes js (state r ts kept tally) g = (record { roomy = g .roomy; few = g .few; good = g .good; kept = g .kept }, λ u x. x)
 
   closed : (ts : List Tree) → Closed (In ts) (New ts)
   unfolding New
@@ -187,6 +191,7 @@ module _ (room : ℕ) where
     recalls = λ t u s g. g .kept t u;
     keeps = keeps;
     counts = counts;
+    notes = notes;
   }
 
 -- ---- substituting

@@ -181,11 +181,11 @@ pub data FromAnywhere (tape values : List ℕ) : Type 0 where
 module _ (tape values : List ℕ) (sound : check tape ≡ Checked.Sound) where
   answered-by : (w : Whole Rows Refusal) → sheet values ≡ w → Answered tape values
   unfolding playSheet evaluated result
-  answered-by (Lines.refused why) e = sheet-refused why e (sym (plays-sound tape values sound refl) ∙ ap (playSheet tape) e)
+  answered-by (Lines.refused why) e = sheet-refused why e (sym (ap (λ x. x .0) (plays-sound tape values sound refl)) ∙ ap (playSheet tape) e)
   answered-by (Lines.read rows) e = go (run rows (stepsIn tape) []) refl (sound-ends rows tape sound)
     where
       answer : {o : Outcome} → run rows (stepsIn tape) [] ≡ o → playCall tape values ≡ evaluated (result o)
-      answer f = sym (plays-sound tape values sound refl) ∙ ap (playSheet tape) e ∙ ap (λ o. evaluated (result o)) f
+      answer f = sym (ap (λ x. x .0) (plays-sound tape values sound refl)) ∙ ap (playSheet tape) e ∙ ap (λ o. evaluated (result o)) f
 
       go : (o : Outcome) → run rows (stepsIn tape) [] ≡ o → Ends o → Answered tape values
       go o f (one-value z) = value rows z e f (answer f)
@@ -197,4 +197,4 @@ from-anywhere tape values = go (check tape) refl
   where
     go : (c : Checked) → check tape ≡ c → FromAnywhere tape values
     go Checked.Sound e = plays e (λ rows k. sound-prefix rows tape e k) (answered-by tape values e (sheet values) refl)
-    go (Checked.Bad step) e = refused-first step e (sym (plays-bad tape values e))
+    go (Checked.Bad step) e = refused-first step e (sym (ap (λ x. x .0) (plays-bad tape values e refl)))

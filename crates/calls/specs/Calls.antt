@@ -82,7 +82,7 @@ withCalls calls (Written.Bytes bytes) = Simplified.Bytes bytes calls
 withCalls calls (Written.Refused why) = Simplified.Refused why
 
 unfoldable pub callsIn : Answer → ℕ
-callsIn (Storing.gives t (state room stored kept calls)) = calls
+callsIn (Storing.gives t (state room stored kept tally)) = tally .calls
 callsIn (Storing.refused why s) = 0
 
 abbrev pub simplifiedAnswer : (out : List ℕ) → Answer → Simplified × List ℕ

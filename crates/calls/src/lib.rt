@@ -6,9 +6,9 @@ ghost use Prim.Native.Nat.{_≤_};
 ghost use lib.ListN.{length};
 ghost use Rattle.memory.specs.Layout.{tableWords};
 ghost use Rattle.calls.specs.Lent.{work, capacity};
-ghost use Rattle.calls.specs.Calls.{evaluated, evaluateCall, toRealCall, withCalls};
-ghost use Rattle.calls.specs.Frame.{SubstitutesTexts, SimplifiesTexts};
-ghost use Rattle.calls.specs.Promises.{Evaluates, Substitutes, ReadsReal, Simplifies};
+ghost use Rattle.calls.specs.Calls.{evaluated, toRealCall, withCalls};
+ghost use Rattle.calls.specs.Frame.{EvaluatesTexts, SubstitutesTexts, SimplifiesTexts};
+ghost use Rattle.calls.specs.Promises.{Evaluates, EvaluatesMarked, Substitutes, ReadsReal, Simplifies, SimplifiesMarked};
 use complex::Complex;
 use evaluation::Evaluation;
 use evaluation::real::Real;
@@ -18,7 +18,9 @@ use frame::read_job;
 use frame::write_answer;
 use listing::Listing;
 use listing::read_listing;
+use marks::show_marks;
 use memory::layout::DESK_WORDS;
+use memory::layout::MARKS;
 use memory::layout::TABLE_WORDS;
 use sheet::Counts;
 use store::desk::calls_made;
@@ -28,6 +30,7 @@ use tasks::limit::Limit;
 use writing::Written;
 
 pub mod frame;
+mod marks;
 pub mod tapes;
 
 // A listing and a sheet that were read: the node of the root, and the rows of the sheet.
@@ -64,21 +67,40 @@ fn evaluate_texts(
     store: &mut [[u64; 4]],
     desk: &mut [u64; DESK_WORDS],
     table: &mut [u64],
+    marks: &mut [u8; MARKS],
 ) -> Evaluated
     requires { ⌜ tableWords ≤ length (now table) ⌝ }
-    ensures { λ r. ⌜ r ≡ evaluateCall (capacity (work (now (store .entry)) (now (desk .entry)) (now (table .entry)))) (now (list .entry)) (now (values .entry)) ⌝ }
+    ensures { λ r. ⌜ EvaluatesTexts (now (list .entry)) (now (values .entry)) (work (now (store .entry)) (now (desk .entry)) (now (table .entry))) r (now (marks .entry)) (now (marks .exit)) ⌝ }
 {
     let job = read_job(list, values, store, desk, table);
     match job {
         Job::Ready { root, counts } => {
             let nodes = standing(desk);
-            answer_of(evaluation::evaluate(store, table, counts, root, nodes))
+            let value = evaluation::evaluate(store, table, counts, root, nodes, marks);
+            answer_of(value)
         }
         Job::Refused(why) => Evaluated::Refused(why),
     }
 }
 
-// The value of an expression under a sheet.
+// The value of an expression under a sheet, and the marks of the sheet's function values that were used.
+pub fn evaluate_marked(
+    list: &[u8],
+    values: &[u8],
+    store: &mut [[u64; 4]],
+    desk: &mut [u64; DESK_WORDS],
+    table: &mut [u64; TABLE_WORDS],
+    marks: &mut [u8; MARKS],
+) -> Evaluated
+    ensures { λ r. ⌜ EvaluatesMarked (now (list .entry)) (now (values .entry)) (work (now (store .entry)) (now (desk .entry)) (now (table .entry))) r (now (marks .exit)) (work (now (store .exit)) (now (desk .exit)) (now (table .exit))) ⌝ }
+{
+    *marks = [0; MARKS];
+    let answer = evaluate_texts(list, values, store, desk, table, marks);
+    clear_work(store, desk, table);
+    answer
+}
+
+// The value alone.
 pub fn evaluate(
     list: &[u8],
     values: &[u8],
@@ -88,9 +110,8 @@ pub fn evaluate(
 ) -> Evaluated
     ensures { λ r. ⌜ Evaluates (now (list .entry)) (now (values .entry)) (work (now (store .entry)) (now (desk .entry)) (now (table .entry))) r (work (now (store .exit)) (now (desk .exit)) (now (table .exit))) ⌝ }
 {
-    let answer = evaluate_texts(list, values, store, desk, table);
-    clear_work(store, desk, table);
-    answer
+    let mut marks: [u8; MARKS] = [0; MARKS];
+    evaluate_marked(list, values, store, desk, table, &mut marks)
 }
 
 fn substitute_texts(
@@ -177,7 +198,7 @@ fn simplify_texts(
     out: &mut [u8],
 ) -> Simplified
     requires { ⌜ tableWords ≤ length (now table) ⌝ }
-    ensures { λ r. ⌜ SimplifiesTexts limit (now (list .entry)) (now (values .entry)) (now (out .entry)) (work (now (store .entry)) (now (desk .entry)) (now (table .entry))) r (now (out .exit)) ⌝ }
+    ensures { λ r. ⌜ SimplifiesTexts limit (now (list .entry)) (now (values .entry)) (now (out .entry)) (work (now (store .entry)) (now (desk .entry)) (now (table .entry))) r (now (out .exit)) (now (desk .exit)) ⌝ }
 {
     let limit = Limit(limit);
     if !limit.is_allowed() {
@@ -194,7 +215,26 @@ fn simplify_texts(
     }
 }
 
-// An expression simplified at a limit, written as a listing.
+// An expression simplified at a limit, written as a listing, and the marks of the sheet's function values that were used.
+pub fn simplify_marked(
+    list: &[u8],
+    values: &[u8],
+    limit: u64,
+    store: &mut [[u64; 4]],
+    desk: &mut [u64; DESK_WORDS],
+    table: &mut [u64; TABLE_WORDS],
+    out: &mut [u8],
+    marks: &mut [u8; MARKS],
+) -> Simplified
+    ensures { λ r. ⌜ SimplifiesMarked limit (now (list .entry)) (now (values .entry)) (now (out .entry)) (work (now (store .entry)) (now (desk .entry)) (now (table .entry))) r (now (marks .exit)) (now (out .exit)) (work (now (store .exit)) (now (desk .exit)) (now (table .exit))) ⌝ }
+{
+    let answer = simplify_texts(list, values, limit, store, desk, table, out);
+    show_marks(answer, desk, marks);
+    clear_work(store, desk, table);
+    answer
+}
+
+// The listing alone.
 pub fn simplify(
     list: &[u8],
     values: &[u8],

@@ -6,9 +6,8 @@ ghost use Rattle.memory.specs.Layout.{tableWords};
 ghost use Rattle.tape.specs.declared.Checked.{Checked};
 ghost use Rattle.tape.specs.Tapes as Tapes;
 ghost use Rattle.calls.specs.Lent.{work};
-ghost use Rattle.calls.specs.Calls.{playCall};
-ghost use Rattle.calls.specs.Frame.{CompilesText, PlaysSheet};
-ghost use Rattle.calls.specs.Promises.{Compiles, Plays};
+ghost use Rattle.calls.specs.Frame.{CompilesText, PlaysSheet, PlaysTexts};
+ghost use Rattle.calls.specs.Promises.{Compiles, Plays, PlaysMarked};
 use super::Evaluated;
 use super::answer_of;
 use super::frame::clear_work;
@@ -16,6 +15,7 @@ use expression::refusal::Refusal;
 use listing::Listing;
 use listing::read_listing;
 use memory::layout::DESK_WORDS;
+use memory::layout::MARKS;
 use memory::layout::TABLE_WORDS;
 use memory::zero;
 use sheet::Sheet;
@@ -61,35 +61,50 @@ pub fn compile(
 }
 
 // A sound tape under the sheet that was read, if it was.
-fn play_sheet(tape: &[u8], table: &[u64], found: Sheet) -> Evaluated
+fn play_sheet(tape: &[u8], table: &[u64], found: Sheet, marks: &mut [u8; MARKS]) -> Evaluated
     requires { ⌜ Tapes.check (now tape) ≡ Checked.Sound ⌝ }
-    ensures { λ r. ⌜ PlaysSheet (now (tape .entry)) (now (table .entry)) found r ⌝ }
+    ensures { λ r. ⌜ PlaysSheet (now (tape .entry)) (now (table .entry)) found r (now (marks .entry)) (now (marks .exit)) ⌝ }
 {
     match found {
-        Sheet::Read(counts) => answer_of(tape::play::play(tape, table, counts)),
+        Sheet::Read(counts) => answer_of(tape::play::play(tape, table, counts, marks)),
         Sheet::Refused(why) => Evaluated::Refused(why),
     }
 }
 
-fn play_texts(tape: &[u8], values: &[u8], table: &mut [u64]) -> Evaluated
+fn play_texts(tape: &[u8], values: &[u8], table: &mut [u64], marks: &mut [u8; MARKS]) -> Evaluated
     requires { ⌜ tableWords ≤ length (now table) ⌝ }
-    ensures { λ r. ⌜ r ≡ playCall (now (tape .entry)) (now (values .entry)) ⌝ }
+    ensures { λ r. ⌜ PlaysTexts (now (tape .entry)) (now (values .entry)) r (now (marks .entry)) (now (marks .exit)) ⌝ }
 {
     let checked = check(tape);
     match checked {
         Checked::Sound => {
             let found = read_sheet(values, table);
-            play_sheet(tape, table, found)
+            play_sheet(tape, table, found, marks)
         }
         Checked::Bad(step) => Evaluated::Refused(Refusal::BadTape(step)),
     }
 }
 
-// What a tape plays under a sheet: no store, and the table alone as work memory.
+// What a tape plays under a sheet, and the marks of the sheet's function values that were used: no store, and the table alone as work
+// memory.
+pub fn play_marked(
+    tape: &[u8],
+    values: &[u8],
+    table: &mut [u64; TABLE_WORDS],
+    marks: &mut [u8; MARKS],
+) -> Evaluated
+    ensures { λ r. ⌜ PlaysMarked (now (tape .entry)) (now (values .entry)) (now (table .entry)) r (now (marks .exit)) (now (table .exit)) ⌝ }
+{
+    *marks = [0; MARKS];
+    let answer = play_texts(tape, values, table, marks);
+    zero(table);
+    answer
+}
+
+// What it plays alone.
 pub fn play(tape: &[u8], values: &[u8], table: &mut [u64; TABLE_WORDS]) -> Evaluated
     ensures { λ r. ⌜ Plays (now (tape .entry)) (now (values .entry)) (now (table .entry)) r (now (table .exit)) ⌝ }
 {
-    let answer = play_texts(tape, values, table);
-    zero(table);
-    answer
+    let mut marks: [u8; MARKS] = [0; MARKS];
+    play_marked(tape, values, table, &mut marks)
 }

@@ -1,6 +1,7 @@
 -- From words and results to what is printed and said. Assumes nothing.
 use mathlib.Core.Path.{_≡_, refl, sym, ap, subst, _∙_}
 use mathlib.Core.List.{List, [], _∷_, _++_}
+use mathlib.Core.Bool.{Bool}
 use Prim.Native.Nat.{ℕ, _≤_, _<_}
 use native.Mathlib.Omega.{arith}
 use lib.ListN.{length, take}
@@ -17,15 +18,16 @@ use Rattle.commands.specs.declared.Printed.{Printed}
 use Rattle.outcomes.specs.declared.Outcome.{Outcome}
 use Rattle.commands.specs.declared.words.Asked.{Asked}
 use Rattle.commands.specs.declared.words.Command.{Command}
-use Rattle.commands.specs.Words.{firstOf, request}
+use Rattle.commands.specs.Words.{firstOf, request, shows}
 use Rattle.commands.specs.Asking as Asking
 use Rattle.commands.specs.Help as Help
-use Rattle.commands.specs.Results.{result}
-use Rattle.outcomes.specs.Outcomes.{output, said}
+use Rattle.commands.specs.Results.{result, marks}
+use Rattle.marks.specs.Marking.{usedLine}
+use Rattle.outcomes.specs.Outcomes.{said, outputWith, saidWith}
 use Rattle.commands.specs.Printing.{outputOf, Answers}
 use Rattle.commands.specs.Printing as Printing
-use Rattle.outcomes.specs.Coming.{seen, Comes, Prints, saidOf}
-use Rattle.commands.specs.Coming.{PrintsJob}
+use Rattle.outcomes.specs.Coming.{seen, saidOf, Stands}
+use Rattle.commands.specs.Coming.{ComesMarked, PrintsJob}
 use Rattle.commands.proofs.Choosing.{chosen, passed}
 
 -- ---- what is said goes by no byte of the output
@@ -39,14 +41,15 @@ said-alike out Outcome.TooLong = refl
 
 -- ---- a job
 
-pub prints-job : (command : Command) (input out : List ℕ) {outcome : Outcome} {mid out′ said₀ said′ : List ℕ} {n m : ℕ} → Comes (result command input out) outcome mid
-    → Prints mid outcome n out′ → Line said₀ (saidOf outcome) m said′ → PrintsJob command input out (record { out = n; said = m }) out′ said′
-prints-job command input out {outcome} {mid} c p l = record {
-  prints = p .bytes ∙ ap output (c .answer);
-  says = stands l ∙ said-alike mid outcome ∙ ap said (c .answer);
-  printed-within = p .within;
-  said-within = l .1;
-}
+module _ (command : Command) (input out : List ℕ) {outcome : Outcome} {mid marks′ : List ℕ} (c : ComesMarked (result command input out) (marks command input out) outcome mid marks′) where
+  pub prints-job : {shown : Bool} {out′ said′ : List ℕ} {n m : ℕ} → shown ≡ shows command → Stands (outputWith shown marks′ (seen mid outcome)) n out′
+      → Stands (saidOf outcome ++ usedLine marks′) m said′ → PrintsJob command input out (record { out = n; said = m }) out′ said′
+  prints-job e p l = record {
+    prints = p .are ∙ (λ i. outputWith (e i) (c .marked i) (c .comes .answer i));
+    says = l .are ∙ (λ i. said-alike mid outcome i ++ usedLine (c .marked i)) ∙ ap (saidWith (marks command input out)) (c .comes .answer);
+    printed-within = p .within;
+    said-within = l .within;
+  }
 
 -- ---- the words
 

@@ -1,6 +1,11 @@
 -- How tests pick the case of a definition. Assumes nothing.
 use mathlib.Core.Path.{_≡_, refl, sym, ap, subst, _∙_}
 use mathlib.Core.Bool.{Bool, true, false, cond}
+use lib.Dec.{T}
+
+-- no is not yes
+pub never : {A : Type 0} → false ≡ true → A
+never e = absurd (subst T (sym e) tt)
 
 -- a test that the code has made, as the definition makes it
 module _ {A : Type 0} {test t : Bool} (e : t ≡ test) where

@@ -1,8 +1,8 @@
 -- What `rack evaluate` prints, by the public call's answer: the value where there is one, `incomplete` where the call answers 10, and the line of
 -- any other refusal. Assumes nothing.
 use mathlib.Core.Path.{_≡_, refl, sym, ap, _∙_}
-use mathlib.Core.List.{List, []}
-use mathlib.Core.Bool.{cond}
+use mathlib.Core.List.{List, [], append-nil}
+use mathlib.Core.Bool.{false, cond}
 use Prim.Native.Nat.{ℕ, _≤_}
 use lib.Dec.{ltb, eqb}
 use lib.ListN.{length}
@@ -21,12 +21,12 @@ use Rattle.lacks.specs.Lacking.{missingInJob}
 use Rattle.outcomes.specs.Outcomes.{Result, refusedText, output}
 use Rattle.commands.specs.declared.words.Command.{Command}
 use Rattle.commands.specs.declared.words.Parted.{Parted}
-use Rattle.commands.specs.Words.{job, jobWord, firstWord, withFile, request}
+use Rattle.commands.specs.Words.{job, afterMarks, jobWord, firstWord, withFile, request, partedShows, shows}
 use Rattle.commands.specs.Results.{ofEvaluated, parted, resultIn, result}
 use Rattle.commands.specs.Printing.{outputOf, standardOutput}
 
-word : request (bytes "evaluate\n") ≡ job (Command.Parted Parted.Evaluate) []
-unfolding request withFile firstWord jobWord starts nextLine
+word : request (bytes "evaluate\n") ≡ job (Command.Parted (Parted.Evaluate false)) []
+unfolding request withFile firstWord jobWord starts afterMarks nextLine
 word = refl
 
 module _ (input out : List ℕ) (h : length input ≤ 262144) where
@@ -36,8 +36,8 @@ module _ (input out : List ℕ) (h : length input ≤ 262144) where
 
   prints : standardOutput (bytes "evaluate\n") input out
       ≡ output (ofEvaluated (missingInJob 4096 (listingIn input) (sheetIn input)) (listingIn input) (sheetIn input) called)
-  unfolding outputOf result resultIn parted
-  prints = ap (λ r. outputOf r input out) word ∙ rw (le-ltb 262144 (length input) h)
+  unfolding outputOf shows partedShows result resultIn parted
+  prints = ap (λ r. outputOf r input out) word ∙ rw (append-nil, le-ltb 262144 (length input) h)
 
   pub value-printed : {z : Complex} → called ≡ Evaluated.Value z → standardOutput (bytes "evaluate\n") input out ≡ valueLine z
   unfolding ofEvaluated output

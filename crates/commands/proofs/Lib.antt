@@ -3,6 +3,7 @@ pub mod Choosing
 pub mod Requests
 pub mod Resulting
 pub mod Rooms
+pub mod Shown
 pub mod Answering
 pub mod FirstWord
 pub mod Accepted

@@ -1,30 +1,59 @@
--- What follows on the first word: a limit, a file, nothing. Assumes nothing.
+-- What follows on the first word: a limit, the word `marks`, a file, nothing. Assumes nothing.
 use mathlib.Core.Path.{_≡_, refl, sym, ap, _∙_}
-use mathlib.Core.List.{List, []}
-use mathlib.Core.Bool.{cond}
-use Prim.Native.Nat.{ℕ, _≤_, _<_}
+use mathlib.Core.List.{List, [], _∷_}
+use mathlib.Core.Bool.{Bool, true, false, cond}
+use Prim.Native.Nat.{ℕ, _+_, _≤_, _<_}
 use native.Mathlib.Omega.{arith}
 use lib.Dec.{eqb}
 use lib.ListN.{length, drop, length-drop, drop-of-length-le}
+use lib.Seq.{drop-drop}
 use borrow.Author.Tests.{eq-eqb, ne-eqb}
 use Rattle.text.specs.declared.reading.Number.{Number}
-use Rattle.text.specs.Reading.{Read, is, bad}
+use Rattle.text.specs.Letters.{bytes}
+use Rattle.text.specs.Reading.{Read, is, bad, starts}
 use Rattle.text.specs.Seen as Seen
+use Rattle.steps.proofs.Knowing.{second-true}
 use Rattle.console.specs.TapeText.{nextLine}
 use Rattle.commands.specs.declared.words.Asked.{Asked}
 use Rattle.commands.specs.declared.words.Command.{Command}
+use Rattle.commands.specs.declared.words.Marks.{Marks}
 use Rattle.commands.specs.declared.words.Parted.{Parted}
-use Rattle.commands.specs.Words.{Request, job, tooMany, withLimit, firstWord, withFile, request}
-use Rattle.commands.specs.Asking.{seen, Inside}
+use Rattle.commands.specs.Words.{Request, job, tooMany, afterMarks, marking, withLimit, firstWord, withFile, request}
+use Rattle.commands.specs.Asking.{seen, MarksAt, Inside}
+use Rattle.commands.proofs.Choosing.{never, chosen, passed}
+
+-- ---- the word `marks`
+
+starts-inside : (word bs : List ℕ) → starts word bs ≡ true → length word ≤ length bs
+unfolding starts
+starts-inside [] bs e = omega arith
+starts-inside (w ∷ ws) [] e = never e
+starts-inside (w ∷ ws) (b ∷ bs) e = omega (arith, starts-inside ws bs (second-true (eqb b w) (starts ws bs) e))
+
+module _ (words : List ℕ) (at : ℕ) {t : Bool} (q : t ≡ starts (bytes "marks\n") (drop at words)) where
+  pub marks-inside : t ≡ true → at + 6 ≤ length words
+  marks-inside o = omega (arith, starts-inside (bytes "marks\n") (drop at words) (sym q ∙ o), length-drop at words)
+
+  pub marks-there : t ≡ true → MarksAt words at (record { shown = true; next = at + 6 })
+  unfolding afterMarks
+  marks-there o = (sym o ∙ q, sym (drop-drop 6 at words) ∙ chosen q o _ _)
+
+  pub no-marks-there : t ≡ false → MarksAt words at (record { shown = false; next = at })
+  unfolding afterMarks
+  no-marks-there o = (sym o ∙ q, passed q o _ _ refl)
+
+pub takes-marks : (words : List ℕ) (at : ℕ) (command : Bool → Parted) (m : Marks) → MarksAt words at m
+    → job (Command.Parted (command (m .shown))) (drop (m .next) words) ≡ marking command (drop at words)
+takes-marks words at command m (p, q) = λ i. job (Command.Parted (command (p i))) (q i)
 
 -- ---- the limit
 
 module _ (words : List ℕ) (rest : List ℕ) {x : Number} {want : Read ℕ} (q : Seen.seen words x ≡ want) where
-  pub limit-given : {n next : ℕ} → x ≡ Number.Is n next → job (Command.Parted (Parted.Simplify n)) (drop next words) ≡ withLimit want rest
+  pub limit-given : {n next : ℕ} → x ≡ Number.Is n next → marking (Parted.Simplify n) (drop next words) ≡ withLimit want rest
   unfolding withLimit
   limit-given e = ap (λ n. withLimit (Seen.seen words n) rest) (sym e) ∙ ap (λ w. withLimit w rest) q
 
-  pub no-limit : x ≡ Number.Bad → job (Command.Parted (Parted.Simplify 10)) rest ≡ withLimit want rest
+  pub no-limit : x ≡ Number.Bad → marking (Parted.Simplify 10) rest ≡ withLimit want rest
   unfolding withLimit
   no-limit e = ap (λ n. withLimit (Seen.seen words n) rest) (sym e) ∙ ap (λ w. withLimit w rest) q
 

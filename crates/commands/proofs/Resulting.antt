@@ -19,6 +19,7 @@ use Rattle.evaluation.specs.declared.real.Real.{Real}
 use Rattle.calls.specs.declared.Evaluated.{Evaluated}
 use Rattle.calls.specs.declared.Simplified.{Simplified}
 use Rattle.calls.specs.Lent.{Work, capacity, zeroed}
+use Rattle.memory.specs.Marks.{noMarks}
 use Rattle.calls.specs.Calls.{evaluateCall, substituteCall, toRealCall, simplifyCall, compileCall}
 use Rattle.calls.specs.Promises.{Evaluates, Substitutes, ReadsReal, Simplifies}
 use Rattle.tape.specs.declared.Checked.{Checked}
@@ -37,7 +38,8 @@ use Rattle.outcomes.specs.declared.Outcome.{Outcome}
 use Rattle.commands.specs.declared.words.Command.{Command}
 use Rattle.commands.specs.declared.words.Parted.{Parted}
 use Rattle.commands.specs.declared.words.Whole.{Whole}
-use Rattle.commands.specs.Results.{faultOf, emptyAt, aloneOf, lackOf, ofEvaluated, evaluated, ofSimplified, simplified, playedOf, played, ofWritten, substituted, ofReal, real, ofTape, emptyTape, compiled, ofChecked, whole, parted, resultIn, result}
+use Rattle.commands.specs.Results.{faultOf, emptyAt, aloneOf, lackOf, ofEvaluated, evaluated, ofSimplified, simplified, playedOf, played, ofWritten, substituted, ofReal, real, ofTape, emptyTape, compiled, ofChecked, whole, parted, resultIn, result, partedMarks, marksIn, marks}
+use Rattle.commands.specs.Coming.{ComesMarked}
 use Rattle.outcomes.specs.Outcomes.{Result, printed, withCalls, refused}
 use Rattle.outcomes.specs.Coming.{seen, Comes}
 use Rattle.commands.proofs.Choosing.{chosen, passed}
@@ -189,6 +191,10 @@ pub of-text : (want : List ℕ → Result) (text : List ℕ) {bytes tape : List 
     → Comes (want (take n tape)) r out → Comes (want (tapeIn text)) r out
 of-text want text l {r} {out} c = subst (λ t. Comes (want t) r out) (stands l) c
 
+pub of-text-marked : (want : List ℕ → Result) (used : List ℕ → List ℕ) (text : List ℕ) {bytes tape : List ℕ} {n : ℕ} → Line bytes (tapeIn text) n tape
+    → {r : Outcome} {out marks′ : List ℕ} → ComesMarked (want (take n tape)) (used (take n tape)) r out marks′ → ComesMarked (want (tapeIn text)) (used (tapeIn text)) r out marks′
+of-text-marked want used text l {r} {out} {marks′} c = subst (λ t. ComesMarked (want t) (used t) r out marks′) (stands l) c
+
 module _ (sound : List ℕ) (call : Checked) {answer : Checked} (q : answer ≡ call) where
   pub sound-comes : {n : ℕ} {out out′ : List ℕ} → answer ≡ Checked.Sound → Line out sound n out′ → Comes (ofChecked sound call) (Outcome.Printed n) out′
   unfolding ofChecked
@@ -227,24 +233,37 @@ module _ (room : ℕ) (text out : List ℕ) {r : Outcome} {out′ : List ℕ} wh
   pub whole-is : {command : Whole} (c : Whole) → command ≡ c → Comes (whole room c text out) r out′ → Comes (whole room command text out) r out′
   whole-is c e x = subst (λ k. Comes (whole room k text out) r out′) (sym e) x
 
-  pub command-is : {command : Command} (c : Command) → command ≡ c → Comes (resultIn room c text out) r out′ → Comes (resultIn room command text out) r out′
-  command-is c e x = subst (λ k. Comes (resultIn room k text out) r out′) (sym e) x
+  module _ {marks′ : List ℕ} where
+    pub command-is : {command : Command} (c : Command) → command ≡ c → ComesMarked (resultIn room c text out) (marksIn room c text out) r out′ marks′
+        → ComesMarked (resultIn room command text out) (marksIn room command text out) r out′ marks′
+    command-is c e x = subst (λ k. ComesMarked (resultIn room k text out) (marksIn room k text out) r out′ marks′) (sym e) x
 
-  pub of-parts : (command : Parted) {n : ℕ} {values : List ℕ} → Parting.Parted text n → values ≡ drop 1 (take (length text - n) (drop n text))
-      → Comes (parted room command (take n text) values out) r out′ → Comes (resultIn room (Command.Parted command) text out) r out′
-  unfolding resultIn
-  of-parts command {n} p q x =
-      let z = parted-in p in
-      subst (λ l. Comes (parted room command l (sheetIn text) out) r out′) (z .0)
-      (subst (λ v. Comes (parted room command (take n text) v out) r out′) (q ∙ ap (drop 1) (rest text n) ∙ z .1) x)
+    -- a command whose input is one text says no rows
+    pub of-whole : (command : Whole) → marks′ ≡ noMarks → Comes (whole room command text out) r out′
+        → ComesMarked (resultIn room (Command.Whole command) text out) (marksIn room (Command.Whole command) text out) r out′ marks′
+    unfolding resultIn marksIn
+    of-whole command e x = record { comes = x; marked = e }
 
-pub parted-is : (room : ℕ) (list values out : List ℕ) {r : Outcome} {out′ : List ℕ} {command : Parted} (c : Parted) → command ≡ c
-    → Comes (parted room c list values out) r out′ → Comes (parted room command list values out) r out′
-parted-is room list values out {r} {out′} c e x = subst (λ k. Comes (parted room k list values out) r out′) (sym e) x
+    pub of-parts : (command : Parted) {n : ℕ} {values : List ℕ} → Parting.Parted text n → values ≡ drop 1 (take (length text - n) (drop n text))
+        → ComesMarked (parted room command (take n text) values out) (partedMarks room command (take n text) values out) r out′ marks′
+        → ComesMarked (resultIn room (Command.Parted command) text out) (marksIn room (Command.Parted command) text out) r out′ marks′
+    unfolding resultIn marksIn
+    of-parts command {n} p q x =
+        let z = parted-in p in
+        subst (λ l. ComesMarked (parted room command l (sheetIn text) out) (partedMarks room command l (sheetIn text) out) r out′ marks′) (z .0)
+        (subst (λ v. ComesMarked (parted room command (take n text) v out) (partedMarks room command (take n text) v out) r out′ marks′) (q ∙ ap (drop 1) (rest text n) ∙ z .1) x)
+
+module _ (room : ℕ) (list values out : List ℕ) {r : Outcome} {out′ marks′ : List ℕ} where
+  pub parted-is : {command : Parted} (c : Parted) → command ≡ c → ComesMarked (parted room c list values out) (partedMarks room c list values out) r out′ marks′
+      → ComesMarked (parted room command list values out) (partedMarks room command list values out) r out′ marks′
+  parted-is c e x = subst (λ k. ComesMarked (parted room k list values out) (partedMarks room k list values out) r out′ marks′) (sym e) x
 
 -- ---- an input that is too long
 
 module _ (command : Command) (input out : List ℕ) where
-  pub too-long : 262144 < length input → {out′ : List ℕ} → Comes (result command input out) Outcome.TooLong out′
-  unfolding result
-  too-long h = record { answer = rw (lt-ltb 262144 (length input) h); inside = tt }
+  pub too-long : 262144 < length input → {out′ marks′ : List ℕ} → marks′ ≡ noMarks → ComesMarked (result command input out) (marks command input out) Outcome.TooLong out′ marks′
+  unfolding result marks
+  too-long h e = record {
+    comes = record { answer = rw (lt-ltb 262144 (length input) h); inside = tt };
+    marked = rw (lt-ltb 262144 (length input) h) e;
+  }

@@ -4,6 +4,7 @@ use mathlib.Core.List.{List, []}
 use mathlib.Core.Bool.{Bool, cond, _&&_}
 use lib.Dec.{eqb, ltb}
 use lib.ListN.{length, getD, take, replicate}
+use Rattle.memory.specs.Marks.{noMarks}
 use Rattle.text.specs.Letters.{bytes}
 use Rattle.text.specs.Reading.{lf}
 use Rattle.expression.specs.declared.refusal.Refusal.{Refusal}
@@ -14,6 +15,7 @@ use Rattle.tape.specs.declared.Checked.{Checked}
 use Rattle.tape.specs.Tapes as Tapes
 use Rattle.calls.specs.declared.Evaluated.{Evaluated}
 use Rattle.calls.specs.declared.Simplified.{Simplified}
+use Rattle.calls.specs.Marks.{evaluateMarks, simplifyMarks, playMarks}
 use Rattle.calls.specs.Calls.{evaluateCall, substituteCall, toRealCall, simplifyCall, compileCall, playCall}
 use Rattle.console.specs.Answers.{valueLine, realLine}
 use Rattle.console.specs.TapeText.{inLines, tapeIn}
@@ -134,10 +136,10 @@ whole room Whole.Check text out = checked text
 
 -- those whose input parts
 unfoldable pub parted : (room : ℕ) → Parted → (list values out : List ℕ) → Result
-parted room Parted.Evaluate list values out = evaluated room list values
-parted room (Parted.Simplify limit) list values out = simplified room limit list values out
+parted room (Parted.Evaluate shown) list values out = evaluated room list values
+parted room (Parted.Simplify limit shown) list values out = simplified room limit list values out
 parted room Parted.Played list values out = played room list values out
-parted room Parted.Play list values out = playing list values
+parted room (Parted.Play shown) list values out = playing list values
 
 unfoldable pub resultIn : (room : ℕ) → Command → (input out : List ℕ) → Result
 resultIn room (Command.Whole command) input out = whole room command input out
@@ -146,3 +148,18 @@ resultIn room (Command.Parted command) input out = parted room command (listingI
 -- with a store of 4096; an input may have 262,144 bytes
 unfoldable pub result : Command → (input out : List ℕ) → Result
 result command input out = cond (ltb 262144 (length input)) tooLong (resultIn 4096 command input out)
+
+-- ---- the t rows that it used, as marks; commands that do not say them have none
+
+unfoldable pub partedMarks : (room : ℕ) → Parted → (list values out : List ℕ) → List ℕ
+partedMarks room (Parted.Evaluate shown) list values out = evaluateMarks room list values
+partedMarks room (Parted.Simplify limit shown) list values out = simplifyMarks room limit list values out
+partedMarks room Parted.Played list values out = noMarks
+partedMarks room (Parted.Play shown) list values out = playMarks (tapeIn list) values
+
+unfoldable pub marksIn : (room : ℕ) → Command → (input out : List ℕ) → List ℕ
+marksIn room (Command.Whole command) input out = noMarks
+marksIn room (Command.Parted command) input out = partedMarks room command (listingIn input) (sheetIn input) out
+
+unfoldable pub marks : Command → (input out : List ℕ) → List ℕ
+marks command input out = cond (ltb 262144 (length input)) noMarks (marksIn 4096 command input out)

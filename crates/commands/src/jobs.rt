@@ -5,6 +5,8 @@ ghost use Rattle.io.specs.Counts.{Counts};
 ghost use Rattle.calls.specs.Lent.{work, capacity};
 ghost use Rattle.commands.specs.Results.{evaluated, simplified, played, substituted, real};
 ghost use Rattle.outcomes.specs.Coming.{Comes};
+ghost use Rattle.calls.specs.Marks.{evaluateMarks, simplifyMarks};
+ghost use Rattle.commands.specs.Coming.{ComesMarked};
 use super::details::fault_alone;
 use super::details::fault_of;
 use super::details::lack_of;
@@ -15,6 +17,7 @@ use console::line::write_real;
 use console::line::write_value;
 use evaluation::real::Real;
 use memory::layout::DESK_WORDS;
+use memory::layout::MARKS;
 use memory::layout::TABLE_WORDS;
 use outcomes::Outcome;
 use writing::Written;
@@ -29,11 +32,12 @@ pub fn evaluate(
     desk: &mut [u64; DESK_WORDS],
     table: &mut [u64; TABLE_WORDS],
     out: &mut [u8],
+    marks: &mut [u8; MARKS],
 ) -> Outcome
     requires { ⌜ 96 ≤ length (now out) ⌝ }
-    ensures { λ r. ⌜ Comes (evaluated (capacity (work (now (store .entry)) (now (desk .entry)) (now (table .entry)))) (now (list .entry)) (now (values .entry))) r (now (out .exit)) ⌝ }
+    ensures { λ r. ⌜ ComesMarked (evaluated (capacity (work (now (store .entry)) (now (desk .entry)) (now (table .entry)))) (now (list .entry)) (now (values .entry))) (evaluateMarks (capacity (work (now (store .entry)) (now (desk .entry)) (now (table .entry)))) (now (list .entry)) (now (values .entry))) r (now (out .exit)) (now (marks .exit)) ⌝ }
 {
-    let answer = calls::evaluate(list, values, store, desk, table);
+    let answer = calls::evaluate_marked(list, values, store, desk, table, marks);
     match answer {
         Evaluated::Value(z) => Outcome::Printed(write_value(out, z)),
         Evaluated::Refused(why) => {
@@ -50,10 +54,11 @@ pub fn simplify(
     desk: &mut [u64; DESK_WORDS],
     table: &mut [u64; TABLE_WORDS],
     out: &mut [u8],
+    marks: &mut [u8; MARKS],
 ) -> Outcome
-    ensures { λ r. ⌜ Comes (simplified (capacity (work (now (store .entry)) (now (desk .entry)) (now (table .entry)))) limit (now (list .entry)) (now (values .entry)) (now (out .entry))) r (now (out .exit)) ⌝ }
+    ensures { λ r. ⌜ ComesMarked (simplified (capacity (work (now (store .entry)) (now (desk .entry)) (now (table .entry)))) limit (now (list .entry)) (now (values .entry)) (now (out .entry))) (simplifyMarks (capacity (work (now (store .entry)) (now (desk .entry)) (now (table .entry)))) limit (now (list .entry)) (now (values .entry)) (now (out .entry))) r (now (out .exit)) (now (marks .exit)) ⌝ }
 {
-    let answer = calls::simplify(list, values, limit, store, desk, table, out);
+    let answer = calls::simplify_marked(list, values, limit, store, desk, table, out, marks);
     match answer {
         Simplified::Bytes { bytes, calls } => Outcome::Simplified(part(out, bytes), calls),
         Simplified::Refused(why) => Outcome::Refused(why, fault_of(why, list, values)),

@@ -1,7 +1,9 @@
 // The commands of rack, on slices: what is printed on standard output and said on standard error for all words of the
 // command line and every input.
+ghost use mathlib.Core.Path.{_≡_};
 ghost use Prim.Native.Nat.{_+_, _≤_};
 ghost use lib.ListN.{length};
+ghost use Rattle.memory.specs.Marks.{noMarks};
 ghost use Rattle.commands.specs.Printing.{Answers};
 ghost use Rattle.commands.specs.Coming.{PrintsJob};
 use help::write_help;
@@ -9,13 +11,15 @@ use help::write_too_many;
 use help::write_unknown;
 use help::write_usage;
 use help::write_version;
-use outcomes::print;
-use outcomes::say;
+use memory::layout::MARKS;
+use outcomes::print_marked;
+use outcomes::say_marked;
 use running::run;
 use words::Asked;
 use words::Command;
 use words::first_length;
 use words::read_words;
+use words::shows;
 
 mod details;
 mod help;
@@ -30,19 +34,27 @@ pub struct Printed {
     pub said: usize,
 }
 
+// No t row is marked.
+fn no_marks() -> [u8; MARKS]
+    ensures { λ r. ⌜ r ≡ noMarks ⌝ }
+{
+    [0; MARKS]
+}
+
 fn run_job(command: Command, input: &[u8], out: &mut [u8], said: &mut [u8]) -> Printed
-    requires { ⌜ (65536 ≤ length (now out)) × (81920 ≤ length (now said)) ⌝ }
+    requires { ⌜ (65536 ≤ length (now out)) × (82960 ≤ length (now said)) ⌝ }
     ensures { λ r. ⌜ PrintsJob command (now (input .entry)) (now (out .entry)) r (now (out .exit)) (now (said .exit)) ⌝ }
 {
-    let outcome = run(command, input, out);
-    let n = print(out, outcome);
-    let m = say(said, outcome);
+    let mut marks = no_marks();
+    let outcome = run(command, input, out, &mut marks);
+    let n = print_marked(out, outcome, marks, shows(command));
+    let m = say_marked(said, outcome, marks);
     Printed { out: n, said: m }
 }
 
 // The words of the command line, each ended by a line feed; the input, which a command reads; and the two outputs.
 pub fn answer(words: &[u8], input: &[u8], out: &mut [u8], said: &mut [u8]) -> Printed
-    requires { ⌜ (65536 ≤ length (now out)) × (length (now words) + 81920 ≤ length (now said)) ⌝ }
+    requires { ⌜ (65536 ≤ length (now out)) × (length (now words) + 82960 ≤ length (now said)) ⌝ }
     ensures { λ r. ⌜ Answers (now (words .entry)) (now (input .entry)) (now (out .entry)) r (now (out .exit)) (now (said .exit)) ⌝ }
 {
     let asked = read_words(words);

@@ -5,9 +5,11 @@ ghost use Prim.Native.Nat.{_≤_};
 ghost use lib.ListN.{length};
 ghost use Rattle.calls.specs.Lent.{work, capacity};
 ghost use Rattle.commands.specs.Results as Results;
-ghost use Rattle.commands.specs.Results.{resultIn, result};
+ghost use Rattle.commands.specs.Results.{resultIn, result, marksIn};
 ghost use Rattle.commands.specs.Needing.{WholeAlike, PartedAlike, Alike};
 ghost use Rattle.outcomes.specs.Coming.{Comes};
+ghost use Rattle.memory.specs.Marks.{noMarks};
+ghost use Rattle.commands.specs.Coming.{ComesMarked};
 use super::jobs;
 use super::tapes;
 use super::words::Command;
@@ -16,6 +18,7 @@ use super::words::Whole;
 use console::input::listing_length;
 use console::input::sheet_of;
 use memory::layout::DESK_WORDS;
+use memory::layout::MARKS;
 use memory::layout::TABLE_WORDS;
 use outcomes::Outcome;
 
@@ -50,15 +53,18 @@ fn run_parted(
     desk: &mut [u64; DESK_WORDS],
     table: &mut [u64; TABLE_WORDS],
     out: &mut [u8],
+    marks: &mut [u8; MARKS],
 ) -> Outcome
-    requires { ⌜ 65536 ≤ length (now out) ⌝ }
-    ensures { λ r. ⌜ Comes (Results.parted (capacity (work (now (store .entry)) (now (desk .entry)) (now (table .entry)))) command (now (list .entry)) (now (values .entry)) (now (out .entry))) r (now (out .exit)) ⌝ }
+    requires { ⌜ (65536 ≤ length (now out)) × (now marks ≡ noMarks) ⌝ }
+    ensures { λ r. ⌜ ComesMarked (Results.parted (capacity (work (now (store .entry)) (now (desk .entry)) (now (table .entry)))) command (now (list .entry)) (now (values .entry)) (now (out .entry))) (Results.partedMarks (capacity (work (now (store .entry)) (now (desk .entry)) (now (table .entry)))) command (now (list .entry)) (now (values .entry)) (now (out .entry))) r (now (out .exit)) (now (marks .exit)) ⌝ }
 {
     match command {
-        Parted::Evaluate => jobs::evaluate(list, values, store, desk, table, out),
-        Parted::Simplify(limit) => jobs::simplify(list, values, limit, store, desk, table, out),
+        Parted::Evaluate(_) => jobs::evaluate(list, values, store, desk, table, out, marks),
+        Parted::Simplify(limit, _) => {
+            jobs::simplify(list, values, limit, store, desk, table, out, marks)
+        }
         Parted::Played => jobs::played(list, values, store, desk, table, out),
-        Parted::Play => tapes::play(list, values, table, out),
+        Parted::Play(_) => tapes::play(list, values, table, out, marks),
     }
 }
 
@@ -69,16 +75,17 @@ fn run_lent(
     desk: &mut [u64; DESK_WORDS],
     table: &mut [u64; TABLE_WORDS],
     out: &mut [u8],
+    marks: &mut [u8; MARKS],
 ) -> Outcome
-    requires { ⌜ 65536 ≤ length (now out) ⌝ }
-    ensures { λ r. ⌜ Comes (resultIn (capacity (work (now (store .entry)) (now (desk .entry)) (now (table .entry)))) command (now (input .entry)) (now (out .entry))) r (now (out .exit)) ⌝ }
+    requires { ⌜ (65536 ≤ length (now out)) × (now marks ≡ noMarks) ⌝ }
+    ensures { λ r. ⌜ ComesMarked (resultIn (capacity (work (now (store .entry)) (now (desk .entry)) (now (table .entry)))) command (now (input .entry)) (now (out .entry))) (marksIn (capacity (work (now (store .entry)) (now (desk .entry)) (now (table .entry)))) command (now (input .entry)) (now (out .entry))) r (now (out .exit)) (now (marks .exit)) ⌝ }
 {
     match command {
         Command::Whole(whole) => run_whole(whole, input, store, desk, table, out),
         Command::Parted(parted) => {
             let n = listing_length(input);
             let values = sheet_of(&input[n..]);
-            run_parted(parted, &input[..n], values, store, desk, table, out)
+            run_parted(parted, &input[..n], values, store, desk, table, out, marks)
         }
     }
 }
@@ -111,10 +118,10 @@ fn parted_stores_little(command: Parted) -> bool
     ensures { λ r. ⌜ (r ≡ true → PartedAlike command) ⌝ }
 {
     match command {
-        Parted::Evaluate => true,
-        Parted::Simplify(_) => false,
+        Parted::Evaluate(_) => true,
+        Parted::Simplify(_, _) => false,
         Parted::Played => false,
-        Parted::Play => true,
+        Parted::Play(_) => true,
     }
 }
 
@@ -129,36 +136,52 @@ fn stores_little(command: Command) -> bool
     }
 }
 
-fn run_in_1024(command: Command, input: &[u8], out: &mut [u8]) -> Outcome
-    requires { ⌜ 65536 ≤ length (now out) ⌝ }
-    ensures { λ r. ⌜ Comes (resultIn 1024 command (now (input .entry)) (now (out .entry))) r (now (out .exit)) ⌝ }
+fn run_in_1024(command: Command, input: &[u8], out: &mut [u8], marks: &mut [u8; MARKS]) -> Outcome
+    requires { ⌜ (65536 ≤ length (now out)) × (now marks ≡ noMarks) ⌝ }
+    ensures { λ r. ⌜ ComesMarked (resultIn 1024 command (now (input .entry)) (now (out .entry))) (marksIn 1024 command (now (input .entry)) (now (out .entry))) r (now (out .exit)) (now (marks .exit)) ⌝ }
 {
     let mut store = rows_for_a_listing();
     let mut desk = [0; DESK_WORDS];
     let mut table = [0; TABLE_WORDS];
-    run_lent(command, input, &mut store, &mut desk, &mut table, out)
+    run_lent(
+        command,
+        input,
+        &mut store,
+        &mut desk,
+        &mut table,
+        out,
+        marks,
+    )
 }
 
-fn run_in_4096(command: Command, input: &[u8], out: &mut [u8]) -> Outcome
-    requires { ⌜ 65536 ≤ length (now out) ⌝ }
-    ensures { λ r. ⌜ Comes (resultIn 4096 command (now (input .entry)) (now (out .entry))) r (now (out .exit)) ⌝ }
+fn run_in_4096(command: Command, input: &[u8], out: &mut [u8], marks: &mut [u8; MARKS]) -> Outcome
+    requires { ⌜ (65536 ≤ length (now out)) × (now marks ≡ noMarks) ⌝ }
+    ensures { λ r. ⌜ ComesMarked (resultIn 4096 command (now (input .entry)) (now (out .entry))) (marksIn 4096 command (now (input .entry)) (now (out .entry))) r (now (out .exit)) (now (marks .exit)) ⌝ }
 {
     let mut store = rows_of_the_store();
     let mut desk = [0; DESK_WORDS];
     let mut table = [0; TABLE_WORDS];
-    run_lent(command, input, &mut store, &mut desk, &mut table, out)
+    run_lent(
+        command,
+        input,
+        &mut store,
+        &mut desk,
+        &mut table,
+        out,
+        marks,
+    )
 }
 
 // A command is lent the rows that it needs.
-pub fn run(command: Command, input: &[u8], out: &mut [u8]) -> Outcome
-    requires { ⌜ 65536 ≤ length (now out) ⌝ }
-    ensures { λ r. ⌜ Comes (result command (now (input .entry)) (now (out .entry))) r (now (out .exit)) ⌝ }
+pub fn run(command: Command, input: &[u8], out: &mut [u8], marks: &mut [u8; MARKS]) -> Outcome
+    requires { ⌜ (65536 ≤ length (now out)) × (now marks ≡ noMarks) ⌝ }
+    ensures { λ r. ⌜ ComesMarked (result command (now (input .entry)) (now (out .entry))) (Results.marks command (now (input .entry)) (now (out .entry))) r (now (out .exit)) (now (marks .exit)) ⌝ }
 {
     if MOST < input.len() {
         return Outcome::TooLong;
     }
     if stores_little(command) {
-        return run_in_1024(command, input, out);
+        return run_in_1024(command, input, out, marks);
     }
-    run_in_4096(command, input, out)
+    run_in_4096(command, input, out, marks)
 }

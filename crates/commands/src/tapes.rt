@@ -6,6 +6,9 @@ ghost use Rattle.calls.specs.Lent.{work, capacity};
 ghost use Rattle.lacks.specs.Lacking.{missingOnTape};
 ghost use Rattle.commands.specs.Results.{lackOf, emptyTape, compiled, playingTape, playing, checked, shownText};
 ghost use Rattle.outcomes.specs.Coming.{Comes};
+ghost use Rattle.calls.specs.Marks.{playMarks};
+ghost use Rattle.console.specs.TapeText.{tapeIn};
+ghost use Rattle.commands.specs.Coming.{ComesMarked};
 use super::details::fault_alone;
 use super::details::fault_of;
 use calls::Evaluated;
@@ -17,6 +20,7 @@ use console::tape::write_tape;
 use expression::refusal::Refusal;
 use lacks::tapes::missing_on_tape;
 use memory::layout::DESK_WORDS;
+use memory::layout::MARKS;
 use memory::layout::TABLE_WORDS;
 use outcomes::Outcome;
 use sentences::Detail;
@@ -75,11 +79,12 @@ fn play_tape(
     values: &[u8],
     table: &mut [u64; TABLE_WORDS],
     out: &mut [u8],
+    marks: &mut [u8; MARKS],
 ) -> Outcome
     requires { ⌜ 96 ≤ length (now out) ⌝ }
-    ensures { λ r. ⌜ Comes (playingTape (now (tape .entry)) (now (text .entry)) (now (values .entry))) r (now (out .exit)) ⌝ }
+    ensures { λ r. ⌜ ComesMarked (playingTape (now (tape .entry)) (now (text .entry)) (now (values .entry))) (playMarks (now (tape .entry)) (now (values .entry))) r (now (out .exit)) (now (marks .exit)) ⌝ }
 {
-    let answer = calls::tapes::play(tape, values, table);
+    let answer = calls::tapes::play_marked(tape, values, table, marks);
     match answer {
         Evaluated::Value(z) => Outcome::Printed(write_value(out, z)),
         Evaluated::Refused(why) => {
@@ -88,13 +93,19 @@ fn play_tape(
     }
 }
 
-pub fn play(text: &[u8], values: &[u8], table: &mut [u64; TABLE_WORDS], out: &mut [u8]) -> Outcome
+pub fn play(
+    text: &[u8],
+    values: &[u8],
+    table: &mut [u64; TABLE_WORDS],
+    out: &mut [u8],
+    marks: &mut [u8; MARKS],
+) -> Outcome
     requires { ⌜ 96 ≤ length (now out) ⌝ }
-    ensures { λ r. ⌜ Comes (playing (now (text .entry)) (now (values .entry))) r (now (out .exit)) ⌝ }
+    ensures { λ r. ⌜ ComesMarked (playing (now (text .entry)) (now (values .entry))) (playMarks (tapeIn (now (text .entry))) (now (values .entry))) r (now (out .exit)) (now (marks .exit)) ⌝ }
 {
     let mut tape = [0u8; ROOM];
     let n = read_tape(&mut tape, text);
-    play_tape(&tape[..n], text, values, table, out)
+    play_tape(&tape[..n], text, values, table, out, marks)
 }
 
 pub fn check(text: &[u8], out: &mut [u8]) -> Outcome

@@ -2,8 +2,8 @@
 ghost use mathlib.Core.Path.{_≡_};
 ghost use lib.ListN.{take};
 ghost use Rattle.io.specs.Counts.{Counts};
-ghost use Rattle.commands.specs.Words.{tapeWord, jobWord, firstWord, firstOf};
-ghost use Rattle.commands.specs.Asking.{Asks, AsksAtLimit, AsksFile, AsksAll};
+ghost use Rattle.commands.specs.Words.{tapeWord, jobWord, firstWord, firstOf, partedShows, shows};
+ghost use Rattle.commands.specs.Asking.{Asks, MarksAt, AsksAtLimit, AsksFile, AsksAll};
 use console::tape::next_line;
 use text::reading::Number;
 use text::reading::decimal_field;
@@ -26,12 +26,12 @@ pub enum Whole {
     Check,
 }
 
-// Those whose input parts at the first empty line.
+// Those whose input parts at the first empty line; three of them by whether the marks are asked for.
 pub enum Parted {
-    Evaluate,
-    Simplify(u64),
+    Evaluate(bool),
+    Simplify(u64, bool),
     Played,
-    Play,
+    Play(bool),
 }
 
 pub enum Command {
@@ -49,14 +49,47 @@ pub enum Asked {
     TooMany,
 }
 
+// Whether the word `marks` stands at a place, and where the words after it begin.
+struct Marks {
+    shown: bool,
+    next: usize,
+}
+
+fn marks_at(words: &[u8], at: usize) -> Marks
+    ensures { λ r. ⌜ MarksAt (now (words .entry)) at r ⌝ }
+{
+    if word_at(words, at, b"marks\n") {
+        return Marks {
+            shown: true,
+            next: at + 6,
+        };
+    }
+    Marks {
+        shown: false,
+        next: at,
+    }
+}
+
 // "simplify" and, if one follows, its limit.
 fn at_limit(words: &[u8], at: usize) -> Asked
     ensures { λ r. ⌜ AsksAtLimit (now (words .entry)) at r ⌝ }
 {
     let limit = decimal_field(words, at, LF, LIMITS);
     match limit {
-        Number::Is(n, next) => Asked::Job(Command::Parted(Parted::Simplify(n)), next),
-        Number::Bad => Asked::Job(Command::Parted(Parted::Simplify(LIMIT)), at),
+        Number::Is(n, next) => {
+            let marks = marks_at(words, next);
+            Asked::Job(
+                Command::Parted(Parted::Simplify(n, marks.shown)),
+                marks.next,
+            )
+        }
+        Number::Bad => {
+            let marks = marks_at(words, at);
+            Asked::Job(
+                Command::Parted(Parted::Simplify(LIMIT, marks.shown)),
+                marks.next,
+            )
+        }
     }
 }
 
@@ -67,7 +100,8 @@ fn tape_word(words: &[u8]) -> Asked
         return Asked::Job(Command::Whole(Whole::Compile), 8);
     }
     if word_at(words, 0, b"play\n") {
-        return Asked::Job(Command::Parted(Parted::Play), 5);
+        let marks = marks_at(words, 5);
+        return Asked::Job(Command::Parted(Parted::Play(marks.shown)), marks.next);
     }
     if word_at(words, 0, b"show\n") {
         return Asked::Job(Command::Whole(Whole::Show), 5);
@@ -82,7 +116,8 @@ fn job_word(words: &[u8]) -> Asked
     ensures { λ r. ⌜ Asks jobWord (now (words .entry)) r ⌝ }
 {
     if word_at(words, 0, b"evaluate\n") {
-        return Asked::Job(Command::Parted(Parted::Evaluate), 9);
+        let marks = marks_at(words, 9);
+        return Asked::Job(Command::Parted(Parted::Evaluate(marks.shown)), marks.next);
     }
     if word_at(words, 0, b"substitute\n") {
         return Asked::Job(Command::Whole(Whole::Substitute), 11);
@@ -157,4 +192,25 @@ pub fn first_length(words: &[u8]) -> usize
         i += 1;
     }
     i
+}
+
+fn parted_shows(command: Parted) -> bool
+    ensures { λ r. ⌜ r ≡ partedShows command ⌝ }
+{
+    match command {
+        Parted::Evaluate(shown) => shown,
+        Parted::Simplify(_, shown) => shown,
+        Parted::Played => false,
+        Parted::Play(shown) => shown,
+    }
+}
+
+// Whether the marks are asked for.
+pub fn shows(command: Command) -> bool
+    ensures { λ r. ⌜ r ≡ shows command ⌝ }
+{
+    match command {
+        Command::Whole(_) => false,
+        Command::Parted(parted) => parted_shows(parted),
+    }
 }

@@ -1,9 +1,11 @@
 -- Nodes that become their values: each return of `settle` and of what it calls. Assumes nothing.
 use mathlib.Core.Path.{_≡_, refl, sym, ap, _∙_, subst}
 use mathlib.Core.Bool.{Bool, true, false}
+use mathlib.Core.List.{List, [], _++_}
 use mathlib.Core.Logic.{⊎-elim}
 use Prim.Native.Nat.{ℕ, _+_, _-_, _<_}
 use native.Mathlib.Omega.{arith}
+use native.Mathlib.Decide.{ℕ-discrete}
 use lib.Dec.{T}
 use Rattle.complex.specs.declared.Complex.{Complex}
 use Rattle.complex.specs.Bits.{Fitting}
@@ -12,15 +14,19 @@ use Rattle.expression.specs.declared.node.Operands.{Operands}
 use Rattle.expression.specs.Trees.{Tree, leaf, number}
 use Rattle.expression.specs.Nodes.{operandsOf, grown}
 use Rattle.expression.proofs.Under.{IsOne, IsTwo, one-under, two-under}
+use Rattle.memory.specs.Marks.{noted}
+use Rattle.memory.proofs.Marks.{noted-append, noted-again}
 use Rattle.store.specs.Memory.{Memory, expressionAt, treeAt}
 use Rattle.store.specs.Numbers.{Tells, IsNumber, numberAt, withNumber, Numbers, OverNumbers, Ordered, Settling}
 use Rattle.store.proofs.Trees.{tree-own}
-use Rattle.store.proofs.Settling.{Compositional, put-is-number, settles, settles-nothing, settles-both, stays-number, over-numbers}
+use Rattle.store.proofs.Settling.{number-tree, put-is-number, settles, settles-nothing, settles-both, stays-number, over-numbers}
 use Rattle.sheet.specs.Rows.{Rows}
 use Rattle.evaluation.specs.declared.Evaluation.{Evaluation}
 use Rattle.evaluation.specs.Evaluating.{andThen, calculateFunction, calculateInfix, calculatePrefix, leafValue, evaluate}
-use Rattle.evaluation.specs.Run.{NoValue, LacksAt, Settled, Finished}
+use Rattle.evaluation.specs.Using.{used}
+use Rattle.evaluation.specs.Run.{WorkedOut, NoValue, LacksAt, given, Settled, Ended, Finished}
 use Rattle.evaluation.proofs.Valued.{Lacks, number-value}
+use Rattle.evaluation.proofs.Used.{Begins, begun-covered, by-parts, with-more, same-value, same-marks, one-begins, one-all, left-all, both-begin, both-all}
 
 -- ---- lacks
 
@@ -37,15 +43,6 @@ passed Evaluation.Incomplete next k = refl
 passed (Evaluation.Need operation x y) next k = refl
 
 module _ (rows : Rows) where
-  -- evaluating hangs on the parts of a tree only through their evaluations
-  by-parts : Compositional (evaluate rows)
-  unfolding evaluate
-  by-parts = record {
-    calls = λ f t u p. ap (λ w. andThen w λ x. calculateFunction rows f x) p;
-    prefixes = λ o t u p. ap (λ w. andThen w λ x. Evaluation.Value (calculatePrefix o x)) p;
-    infixes = λ o s t u v p q. (λ i. andThen (p i) λ x. andThen (q i) λ y. calculateInfix rows o x y);
-  }
-
   -- the first lack of a node is that of its one operand, or of its left one
   one-lacks : (look : ℕ → Tree) (e : Expression) (a : ℕ) → operandsOf e ≡ Operands.One a → NoValue (evaluate rows (look a))
       → evaluate rows (look a) ≡ evaluate rows (grown look e)
@@ -90,86 +87,154 @@ module _ (rows : Rows) where
 
   -- ---- a node whose operands are numbers
 
-  module _ {m : Memory} {n node : ℕ} (o : Ordered m n) (l : node < n) where
-    pub finished : {m′ : Memory} {z : Complex} → Evaluation.Value z ≡ evaluate rows (treeAt m node) → m′ ≡ withNumber m node z → Fitting z → Finished rows n node true m m′
-    unfolding evaluate leafValue
-    finished {z = z} p e f = subst (Finished rows n node true m) (sym e) record {
-      settling = settles by-parts o l f p;
-      done = λ x. put-is-number by-parts o l f;
+  module _ {m : Memory} {n node : ℕ} (o : Ordered m n) (l : node < n) {marks : List ℕ} where
+    pub ended : {m′ : Memory} {z : Complex} → Evaluation.Value z ≡ evaluate rows (treeAt m node) → noted (used rows (treeAt m node)) marks ≡ marks → m′ ≡ withNumber m node z → Fitting z
+        → Ended rows n node true m m′ marks
+    unfolding evaluate leafValue used noted given
+    ended {z = z} p q e f = subst (λ x. Ended rows n node true m x marks) (sym e) record {
+      settling = settles (by-parts rows marks) o l f (λ i. (p i, sym q i));
+      done = λ x. put-is-number (by-parts rows marks) o l f;
       lack = λ x. absurd (subst T x tt);
     }
 
-    pub not-finished : {w : Evaluation} → OverNumbers m node → w ≡ evaluate rows (treeAt m node) → Lacks w → Finished rows n node false m m
-    not-finished {w} over p k = record {
+    pub not-ended : {w : Evaluation} → OverNumbers m node → w ≡ evaluate rows (treeAt m node) → Lacks w → Ended rows n node false m m marks
+    not-ended {w} over p k = record {
       settling = settles-nothing o;
       done = λ x. absurd (subst T (sym x) tt);
       lack = λ x. record { inside = l; ready = over; same = refl; none = subst NoValue p (no-value w k) };
     }
 
+    -- no row, or the rows of what was asked, are marked then
+    pub none-noted : [] ≡ used rows (treeAt m node) → noted (used rows (treeAt m node)) marks ≡ marks
+    unfolding noted
+    none-noted u = ap (λ x. noted x marks) (sym u)
+
+    pub unmarked-finished : {r : Bool} {m′ : Memory} → [] ≡ used rows (treeAt m node) → Ended rows n node r m m′ marks → Finished rows n node r m m′ marks marks
+    unmarked-finished u e = record { ended = e; marked = sym (none-noted u) }
+
+    pub marked-finished : {r : Bool} {m′ : Memory} {u marks′ : List ℕ} → marks′ ≡ noted u marks → u ≡ used rows (treeAt m node) → (noted (used rows (treeAt m node)) marks′ ≡ marks′ → Ended rows n node r m m′ marks′)
+        → Finished rows n node r m m′ marks marks′
+    marked-finished p q f =
+        let e = p ∙ ap (λ u. noted u marks) q in
+        record { ended = f (ap (noted (used rows (treeAt m node))) e ∙ noted-again (used rows (treeAt m node)) marks ∙ sym e); marked = e }
+
     -- ---- a node
 
-    pub is-settled : {b : Bool} → Tells b (IsNumber m node) → b ≡ true → Settled rows n node 0 m m (IsNumber m node)
-    is-settled h e = record { settling = settles-nothing o; done = λ x. subst (λ b. Tells b (IsNumber m node)) e h; lack = λ q. absurd (q refl) }
+    pub is-settled : {b : Bool} → Tells b (IsNumber m node) → b ≡ true → Settled rows n node 0 m m (IsNumber m node) marks marks
+    is-settled h e = record { settling = settles-nothing o; covered = refl; done = λ x. subst (λ b. Tells b (IsNumber m node)) e h; lack = λ q. absurd (q refl); all = λ q. absurd (q refl) }
 
-  module _ {m m′ : Memory} {n node lack : ℕ} {D : Type 0} (s : Settled rows n node lack m m′ D) where
-    pub lack-settled : {E : Type 0} → (lack ≡ 0 → ⊥) → Settled rows n node lack m m′ E
-    lack-settled q = record { settling = s .settling; done = λ x. absurd (q x); lack = s .lack }
+  module _ {m m′ : Memory} {n node lack : ℕ} {D : Type 0} {marks marks′ : List ℕ} (l : node < n) (s : Settled rows n node lack m m′ D marks marks′) where
+    pub lack-settled : {E : Type 0} → (lack ≡ 0 → ⊥) → Settled rows n node lack m m′ E marks marks′
+    lack-settled q = record { settling = s .settling; covered = s .covered; done = λ x. absurd (q x); lack = s .lack; all = s .all }
 
-    pub value-settled : {m″ : Memory} {b : Bool} → Finished rows n node b m′ m″ → b ≡ true → Settled rows n node 0 m m″ (IsNumber m″ node)
-    value-settled f e = record { settling = settles-both (s .settling) (f .settling); done = λ x. f .done e; lack = λ q. absurd (q refl) }
+    module _ {m″ : Memory} {b : Bool} {marks″ : List ℕ} (f : Finished rows n node b m′ m″ marks′ marks″) where
+      all-marked : marks″ ≡ noted (used rows (treeAt m node)) marks
+      all-marked = f .marked ∙ same-marks rows marks′ (s .settling) node l ∙ s .covered
 
-    pub last-lacks : {m″ : Memory} {b : Bool} → Finished rows n node b m′ m″ → b ≡ false → Settled rows n node (1 + node) m m″ (IsNumber m″ node)
-    last-lacks {m″} f e = record {
-      settling = settles-both (s .settling) (f .settling);
-      done = λ x. absurd (omega (arith, x));
-      lack = λ q. subst (LacksAt rows m″ n node) (omega arith) (f .lack e);
-    }
+      both-settling : Settling (given rows marks″) n m m″
+      both-settling = settles-both (with-more rows marks′ (used rows (treeAt m′ node)) (f .marked) (s .settling)) (f .ended .settling)
 
-  module _ {m m′ : Memory} {n node r : ℕ} (s : Settled rows n node r m m′ (IsNumber m′ node)) (l : node < n) where
-    pub settled-value : r ≡ 0 → {z : Complex} → z ≡ numberAt m′ node → Evaluation.Value z ≡ evaluate rows (treeAt m node)
-    settled-value q p = ap Evaluation.Value p ∙ sym (number-value rows m′ node (s .done q)) ∙ s .settling .same node l
+      all-covered : noted (used rows (treeAt m node)) marks″ ≡ noted (used rows (treeAt m node)) marks
+      all-covered = ap (noted (used rows (treeAt m node))) all-marked ∙ noted-again (used rows (treeAt m node)) marks
 
-    pub settled-lack : (r ≡ 0 → ⊥) → {w : Evaluation} → w ≡ evaluate rows (treeAt m′ (r - 1)) → w ≡ evaluate rows (treeAt m node)
-    settled-lack q p = p ∙ s .lack q .same ∙ s .settling .same node l
+      pub value-settled : b ≡ true → Settled rows n node 0 m m″ (IsNumber m″ node) marks marks″
+      value-settled e = record { settling = both-settling; covered = all-covered; done = λ x. f .ended .done e; lack = λ q. absurd (q refl); all = λ q. absurd (q refl) }
+
+      pub last-lacks : b ≡ false → Settled rows n node (1 + node) m m″ (IsNumber m″ node) marks marks″
+      last-lacks e = record {
+        settling = both-settling;
+        covered = all-covered;
+        done = λ x. absurd (omega (arith, x));
+        lack = λ q. subst (LacksAt rows m″ n node) (omega arith) (f .ended .lack e);
+        all = λ q. all-marked;
+      }
+
+  -- a number's tree uses no row
+  number-uses : (m : Memory) (k : ℕ) → IsNumber m k → used rows (treeAt m k) ≡ []
+  unfolding used
+  number-uses m k h = ap (used rows) (number-tree m k h)
+
+  module _ {m m′ : Memory} {n node r : ℕ} {marks marks′ : List ℕ} (s : Settled rows n node r m m′ (IsNumber m′ node) marks marks′) (l : node < n) where
+    pub settled-marks : marks′ ≡ noted (used rows (treeAt m node)) marks
+    unfolding noted
+    settled-marks = elim (ℕ-discrete r 0) [
+      | yes q ↦ ap (λ u. noted u marks′) (sym (number-uses m′ node (s .done q))) ∙ same-marks rows marks′ (s .settling) node l ∙ s .covered
+      | no q ↦ s .all q
+    ]
+
+    pub settled-value : r ≡ 0 → {z : Complex} → z ≡ numberAt m′ node → WorkedOut rows (treeAt m node) (Evaluation.Value z) marks marks′
+    settled-value q p = record { value = ap Evaluation.Value p ∙ sym (number-value rows m′ node (s .done q)) ∙ same-value rows marks′ (s .settling) node l; marked = settled-marks }
+
+    pub settled-lack : (r ≡ 0 → ⊥) → {w : Evaluation} → w ≡ evaluate rows (treeAt m′ (r - 1)) → WorkedOut rows (treeAt m node) w marks marks′
+    settled-lack q p = record { value = p ∙ s .lack q .same ∙ same-value rows marks′ (s .settling) node l; marked = settled-marks }
 
   -- ---- the operands of a node
 
   module _ {m : Memory} {n node : ℕ} (o : Ordered m n) (l : node < n) {operands : Operands} (is : operands ≡ operandsOf (expressionAt m node)) where
-    pub no-operands : operands ≡ Operands.Nothing → Settled rows n node 0 m m (OverNumbers m node)
-    no-operands told = record { settling = settles-nothing o; done = λ x. subst (Numbers m) (sym told ∙ is) tt; lack = λ q. absurd (q refl) }
+    pub no-operands : {marks : List ℕ} → operands ≡ Operands.Nothing → Settled rows n node 0 m m (OverNumbers m node) marks marks
+    no-operands told = record { settling = settles-nothing o; covered = refl; done = λ x. subst (Numbers m) (sym told ∙ is) tt; lack = λ q. absurd (q refl); all = λ q. absurd (q refl) }
+
+    own : treeAt m node ≡ grown (treeAt m) (expressionAt m node)
+    own = tree-own m node (o .within node l)
 
     -- the lack of an operand is that of the node
-    of-operand : {m′ : Memory} {a k : ℕ} → Settling (evaluate rows) n m m′ → a < n → (NoValue (evaluate rows (treeAt m a)) → evaluate rows (treeAt m a) ≡ evaluate rows (grown (treeAt m) (expressionAt m node)))
+    of-operand : {m′ : Memory} {a k : ℕ} (marks′ : List ℕ) → Settling (given rows marks′) n m m′ → a < n → (NoValue (evaluate rows (treeAt m a)) → evaluate rows (treeAt m a) ≡ evaluate rows (grown (treeAt m) (expressionAt m node)))
         → LacksAt rows m′ n a k → LacksAt rows m′ n node k
-    of-operand {a = a} s i first x = record {
+    of-operand {a = a} marks′ s i first x = record {
       inside = x .inside;
       ready = x .ready;
-      same = x .same ∙ s .same a i ∙ first (subst NoValue (x .same ∙ s .same a i) (x .none)) ∙ ap (evaluate rows) (sym (tree-own m node (o .within node l))) ∙ sym (s .same node l);
+      same = x .same ∙ same-value rows marks′ s a i ∙ first (subst NoValue (x .same ∙ same-value rows marks′ s a i) (x .none)) ∙ ap (evaluate rows) (sym own) ∙ sym (same-value rows marks′ s node l);
       none = x .none;
     }
 
-    module _ {m′ : Memory} {a r : ℕ} (s : Settled rows n a r m m′ (IsNumber m′ a)) where
-      pub one-operand : a < n → operands ≡ Operands.One a → Settled rows n node r m m′ (OverNumbers m′ node)
-      one-operand i told = record {
+    -- it has no value
+    lacking : {m′ : Memory} {a k : ℕ} (marks′ : List ℕ) → Settling (given rows marks′) n m m′ → a < n → LacksAt rows m′ n a k → NoValue (evaluate rows (treeAt m a))
+    lacking {a = a} marks′ s i x = subst NoValue (x .same ∙ same-value rows marks′ s a i) (x .none)
+
+    -- rows that the node's begin with were marked, or all of them
+    some-marked : (marks : List ℕ) {w marks′ : List ℕ} → marks′ ≡ noted w marks → Begins w (used rows (grown (treeAt m) (expressionAt m node))) → noted (used rows (treeAt m node)) marks′ ≡ noted (used rows (treeAt m node)) marks
+    some-marked marks e b = rw own (ap (noted _) e ∙ begun-covered marks b)
+
+    every-marked : (marks : List ℕ) {w marks′ : List ℕ} → marks′ ≡ noted w marks → used rows (grown (treeAt m) (expressionAt m node)) ≡ w → marks′ ≡ noted (used rows (treeAt m node)) marks
+    every-marked marks e u = e ∙ ap (λ x. noted x marks) (sym u ∙ ap (used rows) (sym own))
+
+    module _ {m′ : Memory} {a r : ℕ} {marks marks′ : List ℕ} (s : Settled rows n a r m m′ (IsNumber m′ a) marks marks′) (i : a < n) where
+      pub one-operand : operands ≡ Operands.One a → Settled rows n node r m m′ (OverNumbers m′ node) marks marks′
+      one-operand told = record {
         settling = s .settling;
+        covered = some-marked marks (settled-marks s i) (one-begins rows (treeAt m) (expressionAt m node) a (sym is ∙ told));
         done = λ x. over-numbers (s .settling) node (subst (Numbers m′) (sym told ∙ is) (s .done x));
-        lack = λ q. of-operand (s .settling) i (one-lacks (treeAt m) (expressionAt m node) a (sym is ∙ told)) (s .lack q);
+        lack = λ q. of-operand marks′ (s .settling) i (one-lacks (treeAt m) (expressionAt m node) a (sym is ∙ told)) (s .lack q);
+        all = λ q. every-marked marks (settled-marks s i) (one-all rows (treeAt m) (expressionAt m node) a (sym is ∙ told) (lacking marks′ (s .settling) i (s .lack q)));
       }
 
-      module _ {b : ℕ} (i : a < n) (told : operands ≡ Operands.Two a b) where
-        pub left-operand : (r ≡ 0 → ⊥) → Settled rows n node r m m′ (OverNumbers m′ node)
-        left-operand q = record {
-          settling = s .settling;
-          done = λ x. absurd (q x);
-          lack = λ q. of-operand (s .settling) i (left-lacks (treeAt m) (expressionAt m node) a b (sym is ∙ told)) (s .lack q);
-        }
+      module _ {b : ℕ} (told : operands ≡ Operands.Two a b) where
+        pub left-operand : (r ≡ 0 → ⊥) → Settled rows n node r m m′ (OverNumbers m′ node) marks marks′
+        left-operand q =
+            let whole = every-marked marks (settled-marks s i) (left-all rows (treeAt m) (expressionAt m node) a b (sym is ∙ told) (lacking marks′ (s .settling) i (s .lack q))) in
+            record {
+              settling = s .settling;
+              covered = ap (noted (used rows (treeAt m node))) whole ∙ noted-again (used rows (treeAt m node)) marks;
+              done = λ x. absurd (q x);
+              lack = λ q. of-operand marks′ (s .settling) i (left-lacks (treeAt m) (expressionAt m node) a b (sym is ∙ told)) (s .lack q);
+              all = λ q. whole;
+            }
 
-        pub both-operands : {m″ : Memory} {r′ : ℕ} → r ≡ 0 → b < n → Settled rows n b r′ m′ m″ (IsNumber m″ b) → Settled rows n node r′ m m″ (OverNumbers m″ node)
-        both-operands {m″} z j t = record {
-          settling = both;
-          done = λ x. over-numbers both node (subst (Numbers m″) (sym told ∙ is) (stays-number (t .settling) a (s .done z), t .done x));
-          lack = λ q. of-operand both j (right-lacks (treeAt m) (expressionAt m node) a b (sym is ∙ told) (numberAt m′ a) (sym (s .settling .same a i) ∙ number-value rows m′ a (s .done z))) (t .lack q);
-        }
-          where
-            both : Settling (evaluate rows) n m m″
-            both = settles-both (s .settling) (t .settling)
+        module _ {m″ : Memory} {r′ : ℕ} {marks″ : List ℕ} (z : r ≡ 0) (j : b < n) (t : Settled rows n b r′ m′ m″ (IsNumber m″ b) marks′ marks″) where
+          left-value : evaluate rows (treeAt m a) ≡ Evaluation.Value (numberAt m′ a)
+          left-value = sym (same-value rows marks′ (s .settling) a i) ∙ number-value rows m′ a (s .done z)
+
+          both : Settling (given rows marks″) n m m″
+          both = settles-both (with-more rows marks′ (used rows (treeAt m′ b)) (settled-marks t j) (s .settling)) (t .settling)
+
+          both-marked : marks″ ≡ noted (used rows (treeAt m a) ++ used rows (treeAt m b)) marks
+          both-marked = settled-marks t j ∙ same-marks rows marks′ (s .settling) b j ∙ ap (noted (used rows (treeAt m b))) (settled-marks s i) ∙ sym (noted-append (used rows (treeAt m a)) (used rows (treeAt m b)) marks)
+
+          pub both-operands : Settled rows n node r′ m m″ (OverNumbers m″ node) marks marks″
+          both-operands = record {
+            settling = both;
+            covered = some-marked marks both-marked (both-begin rows (treeAt m) (expressionAt m node) a b (sym is ∙ told) left-value);
+            done = λ x. over-numbers both node (subst (Numbers m″) (sym told ∙ is) (stays-number (t .settling) a (s .done z), t .done x));
+            lack = λ q. of-operand marks″ both j (right-lacks (treeAt m) (expressionAt m node) a b (sym is ∙ told) (numberAt m′ a) left-value) (t .lack q);
+            all = λ q. every-marked marks both-marked (both-all rows (treeAt m) (expressionAt m node) a b (sym is ∙ told) left-value (lacking marks″ both j (t .lack q)));
+          }

@@ -1,4 +1,5 @@
--- The definitions that the contracts of `evaluation` cite. To believe: Evaluating and Reals; Run only connects.
+-- The definitions that the contracts of `evaluation` cite. To believe: Evaluating, Using and Reals; Run only connects.
 pub mod Evaluating
+pub mod Using
 pub mod Reals
 pub mod Run

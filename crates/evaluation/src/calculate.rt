@@ -1,11 +1,16 @@
 // The value of an operation on values: arithmetic by `complex`, and what the sheet's rows give for sin, cos, exp, sqrt
 // and ^.
+ghost use mathlib.Core.List.{[]};
 ghost use mathlib.Core.Path.{_≡_};
 ghost use Rattle.sheet.specs.Rows.{Rows};
 ghost use Rattle.sheet.specs.Table.{rowsOf, Held};
 ghost use Rattle.expression.specs.declared.InfixOperator.{InfixOperator};
+ghost use Rattle.expression.specs.declared.ExpressionFunction.{ExpressionFunction as Functions};
 ghost use Rattle.evaluation.specs.declared.Evaluation.{Evaluation};
 ghost use Rattle.evaluation.specs.Evaluating.{asked, cis, imaginaryUnit, calculateFunction, calculateInfix, calculatePrefix};
+ghost use Rattle.evaluation.specs.Using.{usedFor, usedByFunction, usedByInfix};
+ghost use Rattle.evaluation.specs.Run.{Answers, AnswersOne};
+use super::Asked;
 use super::Evaluation;
 use complex::Complex;
 use complex::add;
@@ -19,17 +24,37 @@ use expression::InfixOperator;
 use expression::PrefixOperator;
 use expression::refusal::Operation;
 use sheet::Counts;
-use sheet::Found;
-use sheet::function_value;
+use sheet::FoundRow;
+use sheet::Used;
+use sheet::function_row;
+
+// An answer for which no row was used.
+pub fn unused(value: Evaluation) -> Asked
+    ensures { λ r. ⌜ AnswersOne value [] r ⌝ }
+{
+    Asked {
+        value,
+        used: Used {
+            first: 0,
+            second: 0,
+        },
+    }
+}
 
 // A row's value, or the lack of one.
-fn ask(table: &[u64], counts: Counts, operation: Operation, x: Complex, y: Complex) -> Evaluation
-    ensures { λ r. ⌜ (Held (now (table .entry)) counts → r ≡ asked (rowsOf (now (table .entry)) counts) operation x y) ⌝ }
+fn ask(table: &[u64], counts: Counts, operation: Operation, x: Complex, y: Complex) -> Asked
+    ensures { λ r. ⌜ (Held (now (table .entry)) counts → AnswersOne (asked (rowsOf (now (table .entry)) counts) operation x y) (usedFor (rowsOf (now (table .entry)) counts) operation x y) r) ⌝ }
 {
-    let found = function_value(table, counts, operation, x, y);
+    let found = function_row(table, counts, operation, x, y);
     match found {
-        Found::Value(z) => Evaluation::Value(z),
-        Found::Nothing => Evaluation::Need(operation, x, y),
+        FoundRow::At(j, z) => Asked {
+            value: Evaluation::Value(z),
+            used: Used {
+                first: j + 1,
+                second: 0,
+            },
+        },
+        FoundRow::Nothing => unused(Evaluation::Need(operation, x, y)),
     }
 }
 
@@ -39,19 +64,29 @@ fn imaginary_unit() -> Complex
     Complex { re: 0.0, im: 1.0 }
 }
 
-// "cis x asks cos, then sin, and is cos + (0+1i)*sin."
-fn calculate_cis(table: &[u64], counts: Counts, x: Complex) -> Evaluation
-    ensures { λ r. ⌜ (Held (now (table .entry)) counts → r ≡ cis (rowsOf (now (table .entry)) counts) x) ⌝ }
+// "cis x asks cos, then sin, and is cos + (0+1i)*sin." The row of cos was used also where that of sin is lacking.
+fn calculate_cis(table: &[u64], counts: Counts, x: Complex) -> Asked
+    ensures { λ r. ⌜ (Held (now (table .entry)) counts → Answers (cis (rowsOf (now (table .entry)) counts) x) (usedByFunction (rowsOf (now (table .entry)) counts) Functions.Cis x) r) ⌝ }
 {
-    let first = ask(table, counts, Operation::Cosine, x, zero());
+    let asked = ask(table, counts, Operation::Cosine, x, zero());
+    let first = asked.value;
     let Evaluation::Value(cosine) = first else {
-        return first;
+        return asked;
     };
-    let second = ask(table, counts, Operation::Sine, x, zero());
+    let more = ask(table, counts, Operation::Sine, x, zero());
+    let used = Used {
+        first: asked.used.first,
+        second: more.used.first,
+    };
+    let second = more.value;
     let Evaluation::Value(sine) = second else {
-        return second;
+        return Asked {
+            value: second,
+            used,
+        };
     };
-    Evaluation::Value(add(cosine, mul(imaginary_unit(), sine)))
+    let value = Evaluation::Value(add(cosine, mul(imaginary_unit(), sine)));
+    Asked { value, used }
 }
 
 pub fn calculate_function(
@@ -59,8 +94,8 @@ pub fn calculate_function(
     counts: Counts,
     function: ExpressionFunction,
     argument: Complex,
-) -> Evaluation
-    ensures { λ r. ⌜ (Held (now (table .entry)) counts → r ≡ calculateFunction (rowsOf (now (table .entry)) counts) function argument) ⌝ }
+) -> Asked
+    ensures { λ r. ⌜ (Held (now (table .entry)) counts → Answers (calculateFunction (rowsOf (now (table .entry)) counts) function argument) (usedByFunction (rowsOf (now (table .entry)) counts) function argument) r) ⌝ }
 {
     match function {
         ExpressionFunction::Sine => ask(table, counts, Operation::Sine, argument, zero()),
@@ -96,13 +131,13 @@ pub fn calculate_infix(
     left: Complex,
     operator: InfixOperator,
     right: Complex,
-) -> Evaluation
-    ensures { λ r. ⌜ (Held (now (table .entry)) counts → r ≡ calculateInfix (rowsOf (now (table .entry)) counts) operator left right) ⌝ }
+) -> Asked
+    ensures { λ r. ⌜ (Held (now (table .entry)) counts → Answers (calculateInfix (rowsOf (now (table .entry)) counts) operator left right) (usedByInfix (rowsOf (now (table .entry)) counts) operator left right) r) ⌝ }
 {
     if let InfixOperator::Caret = operator {
         return ask(table, counts, Operation::Power, left, right);
     }
-    Evaluation::Value(arithmetic(left, operator, right))
+    unused(Evaluation::Value(arithmetic(left, operator, right)))
 }
 
 pub fn calculate_prefix(operator: PrefixOperator, value: Complex) -> Complex

@@ -23,7 +23,7 @@ use Rattle.calls.specs.declared.Evaluated.{Evaluated}
 use Rattle.calls.specs.declared.Simplified.{Simplified}
 use Rattle.calls.specs.Lent.{Work}
 use Rattle.calls.specs.Promises as Calls
-use Rattle.exports.specs.Words.{words, carriedWords, refusalWords, evaluatedWords, realWords, writtenWords, simplifiedWords, firstWord, Answered, Evaluates, Substitutes, ReadsReal, Simplifies, Compiles, Plays, Picks, whichNumber}
+use Rattle.exports.specs.Words.{words, carriedWords, refusalWords, evaluatedWords, realWords, writtenWords, simplifiedWords, firstWord, Answered, Evaluates, EvaluatesMarked, Substitutes, ReadsReal, Simplifies, SimplifiesMarked, Compiles, Plays, PlaysMarked, Picks, whichNumber}
 
 -- all six are written
 pub six : (s : List ℕ) (a b c d e f : ℕ) → length s ≡ 6 → set (set (set (set (set (set s 0 a) 1 b) 2 c) 3 d) 4 e) 5 f ≡ words a b c d e f
@@ -76,6 +76,10 @@ pub evaluates : {list values : List ℕ} {w w′ : Work} {e : Evaluated} {r : �
     → Answered (evaluatedWords e) r answer → Evaluates list values w r answer w′
 evaluates p a = record { answered = known-as (ap (λ x. evaluatedWords (x .0)) p) a; left = ap (λ x. x .1) p }
 
+pub evaluates-marked : {list values : List ℕ} {w w′ : Work} {e : Evaluated} {r : ℕ} {answer marks : List ℕ} → Calls.EvaluatesMarked list values w e marks w′
+    → Answered (evaluatedWords e) r answer → EvaluatesMarked list values w r answer marks w′
+evaluates-marked p a = record { answered = known-as (ap (λ x. evaluatedWords (x .0 .0)) p) a; marked = ap (λ x. x .0 .1) p; left = ap (λ x. x .1) p }
+
 pub substitutes : {list out : List ℕ} {w w′ : Work} {e : Written} {r : ℕ} {answer out′ : List ℕ} → Calls.Substitutes list out w e out′ w′
     → Answered (writtenWords e) r answer → Substitutes list out w r answer out′ w′
 substitutes p a = record { answered = known-as (ap (λ x. writtenWords (x .0 .0)) p) a; output = ap (λ x. x .0 .1) p; left = ap (λ x. x .1) p }
@@ -88,6 +92,11 @@ pub simplifies : {limit : ℕ} {list values out : List ℕ} {w w′ : Work} {e :
     → Answered (simplifiedWords e) r answer → Simplifies limit list values out w r answer out′ w′
 simplifies p a = record { answered = known-as (ap (λ x. simplifiedWords (x .0 .0)) p) a; output = ap (λ x. x .0 .1) p; left = ap (λ x. x .1) p }
 
+pub simplifies-marked : {limit : ℕ} {list values out : List ℕ} {w w′ : Work} {e : Simplified} {r : ℕ} {answer marks out′ : List ℕ} → Calls.SimplifiesMarked limit list values out w e marks out′ w′
+    → Answered (simplifiedWords e) r answer → SimplifiesMarked limit list values out w r answer marks out′ w′
+simplifies-marked p a =
+    record { answered = known-as (ap (λ x. simplifiedWords (x .0 .0 .0)) p) a; marked = ap (λ x. x .0 .1) p; output = ap (λ x. x .0 .0 .1) p; left = ap (λ x. x .1) p }
+
 -- ---- tapes
 
 pub compiles : {list out : List ℕ} {w w′ : Work} {e : Written} {r : ℕ} {answer out′ : List ℕ} → Calls.Compiles list out w e out′ w′
@@ -97,6 +106,10 @@ compiles p a = record { answered = known-as (ap (λ x. writtenWords (x .0 .0)) p
 pub plays : {tape values table table′ : List ℕ} {e : Evaluated} {r : ℕ} {answer : List ℕ} → Calls.Plays tape values table e table′
     → Answered (evaluatedWords e) r answer → Plays tape values table r answer table′
 plays p a = record { answered = known-as (ap (λ x. evaluatedWords (x .0)) p) a; left = ap (λ x. x .1) p }
+
+pub plays-marked : {tape values table table′ : List ℕ} {e : Evaluated} {r : ℕ} {answer marks : List ℕ} → Calls.PlaysMarked tape values table e marks table′
+    → Answered (evaluatedWords e) r answer → PlaysMarked tape values table r answer marks table′
+plays-marked p a = record { answered = known-as (ap (λ x. evaluatedWords (x .0 .0)) p) a; marked = ap (λ x. x .0 .1) p; left = ap (λ x. x .1) p }
 
 pub two : (s : List ℕ) (a b : ℕ) → length s ≡ 2 → Answered (a ∷ b ∷ []) a (set (set s 0 a) 1 b)
 unfolding firstWord

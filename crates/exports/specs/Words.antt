@@ -16,6 +16,7 @@ use Rattle.calls.specs.declared.Evaluated.{Evaluated}
 use Rattle.calls.specs.declared.Simplified.{Simplified}
 use Rattle.calls.specs.Lent.{Work, capacity, zeroed}
 use Rattle.calls.specs.Calls.{evaluateCall, substituteCall, toRealCall, simplifyCall, compileCall, playCall}
+use Rattle.calls.specs.Marks.{evaluateMarks, simplifyMarks, playMarks}
 
 -- 0 or the refusal's number; then a count, a place or an operation; two numbers as the bits of their parts
 abbrev pub words : (number detail re im re2 im2 : ℕ) → List ℕ
@@ -68,10 +69,15 @@ pub record Answered (want : List ℕ) (r : ℕ) (answer : List ℕ) : Type 0 whe
   pub words : answer ≡ want
   pub number : r ≡ firstWord want
 
--- ---- the promises: answer words, output bytes and work memory, for all inputs
+-- ---- the promises: answer words, marks where they are asked for, output bytes and work memory, for all inputs
 
 pub record Evaluates (list values : List ℕ) (w : Work) (r : ℕ) (answer : List ℕ) (w′ : Work) : Type 0 where
   pub answered : Answered (evaluatedWords (evaluateCall (capacity w) list values)) r answer
+  pub left : w′ ≡ zeroed w
+
+pub record EvaluatesMarked (list values : List ℕ) (w : Work) (r : ℕ) (answer marks : List ℕ) (w′ : Work) : Type 0 where
+  pub answered : Answered (evaluatedWords (evaluateCall (capacity w) list values)) r answer
+  pub marked : marks ≡ evaluateMarks (capacity w) list values
   pub left : w′ ≡ zeroed w
 
 pub record Substitutes (list out : List ℕ) (w : Work) (r : ℕ) (answer out′ : List ℕ) (w′ : Work) : Type 0 where
@@ -88,6 +94,12 @@ pub record Simplifies (limit : ℕ) (list values out : List ℕ) (w : Work) (r :
   pub output : out′ ≡ simplifyCall (capacity w) limit list values out .1
   pub left : w′ ≡ zeroed w
 
+pub record SimplifiesMarked (limit : ℕ) (list values out : List ℕ) (w : Work) (r : ℕ) (answer marks out′ : List ℕ) (w′ : Work) : Type 0 where
+  pub answered : Answered (simplifiedWords (simplifyCall (capacity w) limit list values out .0)) r answer
+  pub marked : marks ≡ simplifyMarks (capacity w) limit list values out
+  pub output : out′ ≡ simplifyCall (capacity w) limit list values out .1
+  pub left : w′ ≡ zeroed w
+
 pub record Compiles (list out : List ℕ) (w : Work) (r : ℕ) (answer out′ : List ℕ) (w′ : Work) : Type 0 where
   pub answered : Answered (writtenWords (compileCall (capacity w) list out .0)) r answer
   pub output : out′ ≡ compileCall (capacity w) list out .1
@@ -95,6 +107,11 @@ pub record Compiles (list out : List ℕ) (w : Work) (r : ℕ) (answer out′ : 
 
 pub record Plays (tape values table : List ℕ) (r : ℕ) (answer table′ : List ℕ) : Type 0 where
   pub answered : Answered (evaluatedWords (playCall tape values)) r answer
+  pub left : table′ ≡ replicate (length table) 0
+
+pub record PlaysMarked (tape values table : List ℕ) (r : ℕ) (answer marks table′ : List ℕ) : Type 0 where
+  pub answered : Answered (evaluatedWords (playCall tape values)) r answer
+  pub marked : marks ≡ playMarks tape values
   pub left : table′ ≡ replicate (length table) 0
 
 abbrev pub Checks : (tape : List ℕ) (r : ℕ) (answer : List ℕ) → Type 0

@@ -2,7 +2,7 @@
 // parameter and each answer word is.
 ghost use mathlib.Core.Path.{_≡_};
 ghost use Rattle.calls.specs.Lent.{work};
-ghost use Rattle.exports.specs.Words.{Evaluates, Substitutes, ReadsReal, Simplifies, Compiles, Plays, Checks, Picks};
+ghost use Rattle.exports.specs.Words.{Evaluates, EvaluatesMarked, Substitutes, ReadsReal, Simplifies, SimplifiesMarked, Compiles, Plays, PlaysMarked, Checks, Picks};
 use answer::put_checked;
 use answer::put_evaluated;
 use answer::put_real;
@@ -10,12 +10,16 @@ use answer::put_simplified;
 use answer::put_two;
 use answer::put_written;
 use calls::evaluate;
+use calls::evaluate_marked;
 use calls::simplify;
+use calls::simplify_marked;
 use calls::substitute;
 use calls::tapes::compile;
 use calls::tapes::play;
+use calls::tapes::play_marked;
 use calls::to_real;
 use memory::layout::DESK_WORDS;
+use memory::layout::MARKS;
 use memory::layout::TABLE_WORDS;
 use tape::Picked;
 use tape::check;
@@ -24,11 +28,11 @@ use tape::which;
 mod answer;
 
 // 10000 times the major number, 100 times the minor one and the patch's: FINDAVOREB_VERSION_NUMBER of the header.
-pub const VERSION: u64 = 20_000;
+pub const VERSION: u64 = 20_100;
 
 #[no_mangle]
 pub extern "C" fn findavoreb_version() -> u64
-    ensures { λ r. ⌜ r ≡ 20000 ⌝ }
+    ensures { λ r. ⌜ r ≡ 20100 ⌝ }
 {
     VERSION
 }
@@ -45,6 +49,24 @@ pub extern "C" fn findavoreb_evaluate(
     ensures { λ r. ⌜ Evaluates (now (list .entry)) (now (values .entry)) (work (now (store .entry)) (now (desk .entry)) (now (table .entry))) r (now (answer .exit)) (work (now (store .exit)) (now (desk .exit)) (now (table .exit))) ⌝ }
 {
     put_evaluated(answer, evaluate(list, values, store, desk, table))
+}
+
+#[no_mangle]
+pub extern "C" fn findavoreb_evaluate_marked(
+    list: &[u8],
+    values: &[u8],
+    store: &mut [[u64; 4]],
+    desk: &mut [u64; DESK_WORDS],
+    table: &mut [u64; TABLE_WORDS],
+    answer: &mut [u64; 6],
+    marks: &mut [u8; MARKS],
+) -> u64
+    ensures { λ r. ⌜ EvaluatesMarked (now (list .entry)) (now (values .entry)) (work (now (store .entry)) (now (desk .entry)) (now (table .entry))) r (now (answer .exit)) (now (marks .exit)) (work (now (store .exit)) (now (desk .exit)) (now (table .exit))) ⌝ }
+{
+    put_evaluated(
+        answer,
+        evaluate_marked(list, values, store, desk, table, marks),
+    )
 }
 
 #[no_mangle]
@@ -94,6 +116,26 @@ pub extern "C" fn findavoreb_simplify(
 }
 
 #[no_mangle]
+pub extern "C" fn findavoreb_simplify_marked(
+    list: &[u8],
+    values: &[u8],
+    limit: u64,
+    store: &mut [[u64; 4]],
+    desk: &mut [u64; DESK_WORDS],
+    table: &mut [u64; TABLE_WORDS],
+    out: &mut [u8],
+    answer: &mut [u64; 6],
+    marks: &mut [u8; MARKS],
+) -> u64
+    ensures { λ r. ⌜ SimplifiesMarked limit (now (list .entry)) (now (values .entry)) (now (out .entry)) (work (now (store .entry)) (now (desk .entry)) (now (table .entry))) r (now (answer .exit)) (now (marks .exit)) (now (out .exit)) (work (now (store .exit)) (now (desk .exit)) (now (table .exit))) ⌝ }
+{
+    put_simplified(
+        answer,
+        simplify_marked(list, values, limit, store, desk, table, out, marks),
+    )
+}
+
+#[no_mangle]
 pub extern "C" fn findavoreb_compile(
     list: &[u8],
     store: &mut [[u64; 4]],
@@ -117,6 +159,19 @@ pub extern "C" fn findavoreb_play(
     ensures { λ r. ⌜ Plays (now (tape .entry)) (now (values .entry)) (now (table .entry)) r (now (answer .exit)) (now (table .exit)) ⌝ }
 {
     put_evaluated(answer, play(tape, values, table))
+}
+
+#[no_mangle]
+pub extern "C" fn findavoreb_play_marked(
+    tape: &[u8],
+    values: &[u8],
+    table: &mut [u64; TABLE_WORDS],
+    answer: &mut [u64; 6],
+    marks: &mut [u8; MARKS],
+) -> u64
+    ensures { λ r. ⌜ PlaysMarked (now (tape .entry)) (now (values .entry)) (now (table .entry)) r (now (answer .exit)) (now (marks .exit)) (now (table .exit)) ⌝ }
+{
+    put_evaluated(answer, play_marked(tape, values, table, marks))
 }
 
 #[no_mangle]

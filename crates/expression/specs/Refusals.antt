@@ -1,5 +1,7 @@
 -- 01's table of refusals, 1 to 15, and the five of the change requests, 16 to 20: the number of each, and what it carries. Definitions only.
 use Prim.Native.Nat.{ℕ}
+use mathlib.Core.Bool.{Bool, _||_}
+use lib.Dec.{eqb}
 use Rattle.complex.specs.declared.Complex.{Complex}
 use Rattle.expression.specs.declared.refusal.Operation.{Operation}
 use Rattle.expression.specs.declared.refusal.Refusal.{Refusal}
@@ -27,6 +29,10 @@ numberOf (Refusal.Many listing) = 19
 numberOf Refusal.NoText = 20
 
 -- a line, a step or a listing, or 0; or the name and the operands of a function value that is lacking
+-- NEED and INCOMPLETE: the sheet lacks what was looked up in it
+abbrev pub isLack : Refusal → Bool
+isLack why = eqb (numberOf why) 9 || eqb (numberOf why) 10
+
 pub data Carried : Type 0 where
   place : ℕ → Carried
   lacking : Operation → Complex → Complex → Carried

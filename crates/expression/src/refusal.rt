@@ -2,7 +2,7 @@
 // it carries.
 ghost use mathlib.Core.Path.{_≡_};
 ghost use Rattle.expression.specs.Codes.{operationCode, operationOf};
-ghost use Rattle.expression.specs.Refusals.{numberOf, placeOf};
+ghost use Rattle.expression.specs.Refusals.{numberOf, placeOf, isLack};
 use complex::Complex;
 
 // What a row of the sheet gives a value of: the names sin, cos, exp, sqrt and pow.
@@ -91,6 +91,17 @@ impl Refusal {
             Refusal::Many(_) => 19,
             Refusal::NoText => 20,
         }
+    }
+
+    // NEED and INCOMPLETE: the sheet lacks what was looked up in it.
+    pub fn is_lack(self) -> bool
+        ensures { λ r. ⌜ r ≡ isLack self ⌝ }
+    {
+        let number = self.number();
+        if number == 9 {
+            return true;
+        }
+        number == 10
     }
 
     // The line, step or listing that it carries, else 0.

@@ -127,14 +127,14 @@ module _ (s : Known) {k : ℕ} where
   -- what storing refuses, it refuses by another number
   bad-stored : {A : Type 0} (rest : List ℕ) (t : Tree) (store : State) → stored s rest (intern t store) ≡ stops (Refusal.BadList k) → A
   unfolding stored intern
-  bad-stored {A} rest t (state room trees kept calls) e = go (among trees t) (ltb largest (size t)) (ltb deepest (depth t)) (ltb (length trees) room) e
+  bad-stored {A} rest t (state room trees kept tally) e = go (among trees t) (ltb largest (size t)) (ltb deepest (depth t)) (ltb (length trees) room) e
     where
       go : (a b c d : Bool)
           → stored s rest
-          (cond a (Storing.gives t (state room trees kept calls))
-          (cond b (Storing.refused Refusal.Big (state room trees kept calls))
-          (cond c (Storing.refused Refusal.Deep (state room trees kept calls))
-          (cond d (Storing.gives t (state room (trees ++ (t ∷ [])) kept calls)) (Storing.refused Refusal.Room (state room trees kept calls))))))
+          (cond a (Storing.gives t (state room trees kept tally))
+          (cond b (Storing.refused Refusal.Big (state room trees kept tally))
+          (cond c (Storing.refused Refusal.Deep (state room trees kept tally))
+          (cond d (Storing.gives t (state room (trees ++ (t ∷ [])) kept tally)) (Storing.refused Refusal.Room (state room trees kept tally))))))
           ≡ stops (Refusal.BadList k) → A
       go true b c d e = differ e
       go false true c d e = let z : _≡_ {A = ℕ} 0 1 = cc in absurd (omega arith)

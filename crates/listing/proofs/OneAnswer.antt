@@ -34,7 +34,7 @@ store-in (accepted root swaps σ) other = σ
 store-in (Spec.refused why) other = other
 
 trees-in : State → List Tree
-trees-in (state room stored kept calls) = stored
+trees-in (state room stored kept tally) = stored
 
 why-in : Spec.Listing → Refusal → Refusal
 why-in (accepted root swaps σ) other = other

@@ -2,5 +2,6 @@
 pub mod Slices
 pub mod Values
 pub mod Ascending
+pub mod Marks
 pub mod OneAnswer
 mod Seeking

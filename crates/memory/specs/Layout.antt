@@ -1,5 +1,6 @@
 -- How long the desk and the table are that a call lends; and where things stand in them, as src/layout.rt has it, which only connects.
-use Prim.Native.Nat.{ℕ}
+use Prim.Native.Nat.{ℕ, zero, suc}
+use mathlib.Core.List.{List, [], _∷_}
 
 abbrev pub deskWords : ℕ
 deskWords = 272
@@ -22,3 +23,12 @@ cellsFrom = 768
 -- function values from here on, seven each
 abbrev pub functionsFrom : ℕ
 functionsFrom = 2816
+
+-- the desk: the marks are its last words, one for each t row
+abbrev pub marksFrom : ℕ
+marksFrom = 16
+
+-- a row's number plus one, as a word has it; 0 says none
+unfoldable pub numbered : ℕ → List ℕ
+numbered zero = []
+numbered (suc j) = j ∷ []

@@ -2,9 +2,14 @@
 // where things stand in them. specs/Layout says the same for the definitions.
 
 // The desk: how many nodes stand, how many simplify calls were made, and what a refusal NEED carries, in five words: the number of its
-// operation and the bits of its operands. The words after these are free: the last 256 are for marks, one for each function value of a
-// sheet.
+// operation and the bits of its operands. The words after these are free, but for the last 256.
 pub const DESK_WORDS: usize = 272;
+
+// The marks that a call writes, a byte for each function value.
+pub const MARKS: usize = 256;
+
+// The marks, one for each function value of a sheet in the order of its t lines: 1 where its row was used in simplifying, else 0.
+pub const MARKS_FROM: usize = 16;
 
 // The table. It serves one thing after another: the lines of a listing that is read, the rows of a sheet, which need the most, and the
 // order in which nodes are written: word i is the node of line i, for at most 4096 nodes.

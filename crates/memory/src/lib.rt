@@ -1,7 +1,9 @@
-// Lent memory: words that are read and written at any place, cleared, and sought by halving, and where things stand in what a
-// call lends.
+// Lent memory: words that are read and written at any place, cleared, and sought by halving, marks that are set, and where things
+// stand in what a call lends.
 ghost use mathlib.Core.Path.{_≡_};
 ghost use lib.ListN.{getD, set, length, replicate};
+ghost use Rattle.memory.specs.Layout.{numbered};
+ghost use Rattle.memory.specs.Marks.{noted};
 ghost use Rattle.memory.specs.Rows.{blank};
 
 pub mod halving;
@@ -42,5 +44,17 @@ pub fn zero_rows(store: &mut [[u64; 4]])
     while row < store.len() {
         store[row] = [0, 0, 0, 0];
         row += 1;
+    }
+}
+
+// The mark of a row that was used, given by its number plus one; 0 says none, and past the end there is no mark.
+pub fn mark(marks: &mut [u8], row: usize)
+    ensures { λ _. ⌜ now (marks .exit) ≡ noted (numbered row) (now (marks .entry)) ⌝ }
+{
+    if row == 0 {
+        return;
+    }
+    if row <= marks.len() {
+        marks[row - 1] = 1;
     }
 }

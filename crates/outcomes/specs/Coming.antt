@@ -1,6 +1,6 @@
 -- What the code's outcome says, as a result. Only connecting.
 use mathlib.Core.Path.{_≡_}
-use Prim.Native.Nat.{ℕ}
+use Prim.Native.Nat.{ℕ, _≤_}
 use mathlib.Core.List.{List, []}
 use lib.ListN.{take}
 use Rattle.io.specs.Counts.{Counts}
@@ -25,6 +25,13 @@ pub record Comes (want : Result) (r : Outcome) (out : List ℕ) : Type 0 where
   pub answer : seen out r ≡ want
   pub inside : Inside out r
 
+-- the bytes leave room for a line of marks
+abbrev pub Short : Outcome → Type 0
+Short (Outcome.Printed n) = n ≤ 64496
+Short (Outcome.Simplified n calls) = n ≤ 64496
+Short (Outcome.Refused why detail) = Unit {0}
+Short Outcome.TooLong = Unit {0}
+
 -- what is printed of an outcome, whose bytes stand at the start of the output
 pub record Prints (out : List ℕ) (r : Outcome) (n : ℕ) (out′ : List ℕ) : Type 0 where
   pub bytes : take n out′ ≡ output (seen out r)
@@ -36,3 +43,8 @@ saidOf (Outcome.Printed n) = []
 saidOf (Outcome.Simplified n calls) = callsSentence calls
 saidOf (Outcome.Refused why detail) = sentence why detail
 saidOf Outcome.TooLong = tooLongSentence
+
+-- these bytes stand at the start of an output, and are so many
+pub record Stands (bytes : List ℕ) (n : ℕ) (out : List ℕ) : Type 0 where
+  pub are : take n out ≡ bytes
+  pub within : Counts n out

@@ -1,11 +1,12 @@
 -- What a command comes to, and what is printed of it on standard output and said on standard error. Definitions only.
 use Prim.Native.Nat.{ℕ}
-use mathlib.Core.List.{List, []}
-use mathlib.Core.Bool.{cond}
+use mathlib.Core.List.{List, [], _++_}
+use mathlib.Core.Bool.{Bool, cond}
 use lib.Dec.{eqb}
 use Rattle.expression.specs.declared.refusal.Refusal.{Refusal}
 use Rattle.expression.specs.Refusals.{numberOf}
 use Rattle.text.specs.Letters.{bytes}
+use Rattle.marks.specs.Marking.{marksLine, usedLine}
 use Rattle.console.specs.Answers.{refusedLine, refusalLine}
 use Rattle.sentences.specs.declared.Detail.{Detail}
 use Rattle.sentences.specs.Sentences.{sentence, callsSentence, tooLongSentence}
@@ -32,3 +33,13 @@ said (printed text) = []
 said (withCalls text calls) = callsSentence calls
 said (refused why detail) = sentence why detail
 said tooLong = tooLongSentence
+
+-- ---- and of the t rows that were used
+
+-- after the answer the line of the marks, where it is asked for
+abbrev pub outputWith : (shown : Bool) (marks : List ℕ) → Result → List ℕ
+outputWith shown marks r = output r ++ cond shown (marksLine marks) []
+
+-- after the sentence the rows, where there are any
+abbrev pub saidWith : (marks : List ℕ) → Result → List ℕ
+saidWith marks r = said r ++ usedLine marks

@@ -1,14 +1,20 @@
 // What a command has come to, what is printed of it and what is said of it: bytes that stand at the start of the output
 // already, or a refusal.
+ghost use mathlib.Core.Path.{_≡_};
+ghost use mathlib.Core.Bool.{true};
+ghost use mathlib.Core.List.{_++_};
 ghost use Prim.Native.Nat.{_≤_};
 ghost use lib.ListN.{length};
 ghost use Rattle.io.specs.Counts.{Counts};
 ghost use Rattle.text.specs.Put.{Put};
-ghost use Rattle.outcomes.specs.Outcomes.{refusedText};
-ghost use Rattle.outcomes.specs.Coming.{Prints, saidOf, Inside};
+ghost use Rattle.marks.specs.Marking.{usedLine};
+ghost use Rattle.outcomes.specs.Outcomes.{refusedText, outputWith};
+ghost use Rattle.outcomes.specs.Coming.{seen, Prints, saidOf, Inside, Short, Stands};
 use console::line::write_refusal;
 use console::line::write_refused;
 use expression::refusal::Refusal;
+use marks::write_marks;
+use marks::write_used;
 use sentences::Detail;
 use sentences::write_calls;
 use sentences::write_sentence;
@@ -24,6 +30,12 @@ pub enum Outcome {
     TooLong,
 }
 
+// Where a line of marks can begin at the latest, in an output of 65536 bytes.
+const BEFORE_MARKS: usize = 64_496;
+
+// The room for a sentence, after which the rows are said.
+const BEFORE_ROWS: usize = 81_920;
+
 fn print_refusal(out: &mut [u8], why: Refusal) -> usize
     requires { ⌜ 96 ≤ length (now out) ⌝ }
     ensures { λ r. ⌜ Put (now (out .entry)) 0 (refusedText why) r (now (out .exit)) ⌝ }
@@ -36,7 +48,7 @@ fn print_refusal(out: &mut [u8], why: Refusal) -> usize
 }
 
 // Bytes that stand at the start of the output stay there.
-pub fn print(out: &mut [u8], outcome: Outcome) -> usize
+fn print(out: &mut [u8], outcome: Outcome) -> usize
     requires { ⌜ (96 ≤ length (now out)) × Inside (now out) outcome ⌝ }
     ensures { λ r. ⌜ Prints (now (out .entry)) outcome r (now (out .exit)) ⌝ }
 {
@@ -48,7 +60,7 @@ pub fn print(out: &mut [u8], outcome: Outcome) -> usize
     }
 }
 
-pub fn say(said: &mut [u8], outcome: Outcome) -> usize
+fn say(said: &mut [u8], outcome: Outcome) -> usize
     requires { ⌜ 81920 ≤ length (now said) ⌝ }
     ensures { λ r. ⌜ Put (now (said .entry)) 0 (saidOf outcome) r (now (said .exit)) ⌝ }
     ensures within { λ r. ⌜ Counts r (now (said .exit)) ⌝ }
@@ -59,4 +71,25 @@ pub fn say(said: &mut [u8], outcome: Outcome) -> usize
         Outcome::Refused(why, detail) => write_sentence(said, why, detail),
         Outcome::TooLong => write_too_long(said),
     }
+}
+
+// The answer and, where it is asked for, the line of the marks.
+pub fn print_marked(out: &mut [u8], outcome: Outcome, marks: [u8; 256], shown: bool) -> usize
+    requires { ⌜ (65536 ≤ length (now out)) × Inside (now out) outcome × (shown ≡ true → Short outcome) ⌝ }
+    ensures { λ r. ⌜ Stands (outputWith shown marks (seen (now (out .entry)) outcome)) r (now (out .exit)) ⌝ }
+{
+    if shown {
+        let n = print(&mut out[..BEFORE_MARKS], outcome);
+        return write_marks(out, n, &marks);
+    }
+    print(out, outcome)
+}
+
+// The sentence, and the rows that were used.
+pub fn say_marked(said: &mut [u8], outcome: Outcome, marks: [u8; 256]) -> usize
+    requires { ⌜ 82960 ≤ length (now said) ⌝ }
+    ensures { λ r. ⌜ Stands (saidOf outcome ++ usedLine marks) r (now (said .exit)) ⌝ }
+{
+    let n = say(&mut said[..BEFORE_ROWS], outcome);
+    write_used(said, n, &marks)
 }

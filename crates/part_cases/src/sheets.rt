@@ -12,9 +12,10 @@ use replay::say::count;
 use replay::say::word;
 use sheet::Counts;
 use sheet::Found;
+use sheet::FoundRow;
 use sheet::Sheet;
 use sheet::cell;
-use sheet::function_value;
+use sheet::function_row;
 use sheet::read_sheet;
 use sheet::variable;
 
@@ -54,7 +55,7 @@ fn found(table: &[u64], counts: Counts, line: Line) -> Found {
     match mark {
         b'v' => variable(table, counts, (a % 65536) as u16),
         b'm' => cell(table, counts, (a % 65536) as u16, (b % 4294967296) as u32),
-        _ => function_value(
+        _ => value_in(function_row(
             table,
             counts,
             operation_of(mark),
@@ -66,7 +67,14 @@ fn found(table: &[u64], counts: Counts, line: Line) -> Found {
                 re: from_bits(line.fields[3]),
                 im: from_bits(line.fields[4]),
             },
-        ),
+        )),
+    }
+}
+
+fn value_in(row: FoundRow) -> Found {
+    match row {
+        FoundRow::At(_, z) => Found::Value(z),
+        FoundRow::Nothing => Found::Nothing,
     }
 }
 

@@ -22,11 +22,11 @@ fn input_room() -> [u8; 262_145]
     [0; 262_145]
 }
 
-// Room for a sentence that names a word.
-fn saying_room() -> [u8; 90_112]
-    ensures { λ r. ⌜ 90112 ≡ length r ⌝ }
+// Room for a sentence that names a word, or for one and the rows that were used.
+fn saying_room() -> [u8; 92_160]
+    ensures { λ r. ⌜ 92160 ≡ length r ⌝ }
 {
-    [0; 90_112]
+    [0; 92_160]
 }
 
 // The first bytes of the two outputs.

@@ -1,7 +1,7 @@
 -- What is looked up: the row that a search found is the one that the definition finds. Assumes nothing.
 use mathlib.Core.Path.{_≡_, refl, sym, ap, _∙_}
 use mathlib.Core.List.{List, [], _∷_}
-use mathlib.Core.Bool.{Bool, _&&_}
+use mathlib.Core.Bool.{Bool, true, false, _&&_}
 use Prim.Native.Nat.{ℕ, zero, suc, _+_, _*_, _/_, _%_, _≤_, _<_}
 use native.Mathlib.Omega.{arith}
 use native.Mathlib.Decide.{ℕ-discrete}
@@ -17,7 +17,7 @@ use Rattle.memory.proofs.Values.{first, first-found, first-missing}
 use Rattle.memory.specs.Layout.{cellsFrom, functionsFrom}
 use Rattle.sheet.specs.declared.Counts.{Counts}
 use Rattle.complex.specs.Equality.{identical, identicalDoubles}
-use Rattle.sheet.specs.Rows.{Variable, variable, Cell, cell, Row, row, Lookup, found, missing, valueOf, cellValue, functionValue}
+use Rattle.sheet.specs.Rows.{Variable, variable, Cell, cell, Row, row, Lookup, found, missing, valueOf, cellValue, at, nowhere, matches, valueIn, rowFrom, functionRow}
 use Rattle.expression.specs.Codes.{operationCode, operationOf}
 use Rattle.expression.proofs.Numbering.{operation-code-back}
 use Rattle.sheet.specs.Index.{wordAt, nameIn}
@@ -48,16 +48,18 @@ unfolding first cellValue placed real-of
 cells-first region index [] = refl
 cells-first region index (cell region′ index′ real ∷ cs) = rw (cells-first region index cs)
 
-called : Operation → (x y : Complex) → Row → Bool
-called o x y (row o′ x′ y′ value) = eqb (operationCode o) (operationCode o′) && (identical x x′ && identical y y′)
+row-first : (o : Operation) (x y : Complex) (n : ℕ) (f : ℕ → Row) (next r k : ℕ) → k ≡ next + r → r < n → matches o x y (f r) ≡ true → ((j : ℕ) → j < r → matches o x y (f j) ≡ false)
+    → at k (valueIn (f r)) ≡ rowFrom next o x y (upTo n f)
+unfolding rowFrom upTo
+row-first o x y zero f next r k e l h b = absurd (omega arith)
+row-first o x y (suc n) f next zero k e l h b = let p : k ≡ next = omega (arith, e) in rw (h, p)
+row-first o x y (suc n) f next (suc r) k e l h b =
+    rw (b zero (omega arith)) (row-first o x y n (λ j. f (suc j)) (suc next) r k (omega (arith, e)) (omega arith) h λ j m. b (suc j) (omega arith))
 
-result-of : Row → Lookup
-result-of (row o x y value) = found value
-
-rows-first : (o : Operation) (x y : Complex) (rs : List Row) → first (called o x y) result-of missing rs ≡ functionValue o x y rs
-unfolding first functionValue called result-of
-rows-first o x y [] = refl
-rows-first o x y (row o′ x′ y′ value ∷ rs) = rw (rows-first o x y rs)
+row-nowhere : (o : Operation) (x y : Complex) (n : ℕ) (f : ℕ → Row) (next : ℕ) → ((j : ℕ) → j < n → matches o x y (f j) ≡ false) → nowhere ≡ rowFrom next o x y (upTo n f)
+unfolding rowFrom upTo
+row-nowhere o x y zero f next b = refl
+row-nowhere o x y (suc n) f next b = rw (b zero (omega arith)) (row-nowhere o x y n (λ j. f (suc j)) (suc next) λ j m. b (suc j) (omega arith))
 
 -- ---- tests on the table's words
 
@@ -74,8 +76,8 @@ pair-key region index w h = elim (ℕ-discrete region (w / 4294967296)) [
 pub number-back : (w : ℕ) → 0 < w → w < 6 → operationCode (operationOf w) ≡ w
 number-back w p q = operation-code-back w (record { least = omega (arith, p); most = omega (arith, q) })
 
-row-test : (t : List ℕ) (o : Operation) (x y : Complex) (j : ℕ) → Comparable t j → rowMatches t (operationCode o) (wordsOf x) (wordsOf y) j ≡ called o x y (rowAt t j)
-unfolding called identical identicalDoubles
+row-test : (t : List ℕ) (o : Operation) (x y : Complex) (j : ℕ) → Comparable t j → rowMatches t (operationCode o) (wordsOf x) (wordsOf y) j ≡ matches o x y (rowAt t j)
+unfolding matches identical identicalDoubles
 row-test t o x y j c =
     let xr : bitsOf (doubleOf (getD t (7 * j + functionsFrom + 1) 0)) ≡ getD t (7 * j + functionsFrom + 1) 0 = bits-back _ (c .operands (7 * j + functionsFrom + 1) (omega arith) (omega arith)) in
     let xi : bitsOf (doubleOf (getD t (7 * j + functionsFrom + 1 + 1) 0)) ≡ getD t (7 * j + functionsFrom + 1 + 1) 0 = bits-back _ (c .operands (7 * j + functionsFrom + 1 + 1) (omega arith) (omega arith)) in
@@ -109,13 +111,11 @@ module _ (t : List ℕ) (n : Counts) (h : Held t n) (r : ℕ) where
         ∙ cells-first region index _
 
   module _ (o : Operation) (x y : Complex) (s : First (rowMatches t (operationCode o) (wordsOf x) (wordsOf y)) (n .functions) r) where
-    pub row-found : r < n .functions → found (numberAt t (7 * r + functionsFrom + 5)) ≡ functionValue o x y (upTo (n .functions) (rowAt t))
-    unfolding result-of
+    pub row-found : r < n .functions → at r (numberAt t (7 * r + functionsFrom + 5)) ≡ functionRow o x y (upTo (n .functions) (rowAt t))
+    unfolding valueIn
     row-found l =
-        first-found (called o x y) result-of missing (n .functions) (rowAt t) r l (sym (row-test t o x y r (h .operands r l)) ∙ s .hit l)
-        (λ j m. sym (row-test t o x y j (h .operands j (omega arith))) ∙ s .before j m) ∙ rows-first o x y _
+        row-first o x y (n .functions) (rowAt t) 0 r r (omega arith) l (sym (row-test t o x y r (h .operands r l)) ∙ s .hit l)
+        (λ j m. sym (row-test t o x y j (h .operands j (omega arith))) ∙ s .before j m)
 
-    pub row-missing : n .functions ≤ r → missing ≡ functionValue o x y (upTo (n .functions) (rowAt t))
-    row-missing l =
-        first-missing (called o x y) result-of missing (n .functions) (rowAt t) (λ j m. sym (row-test t o x y j (h .operands j m)) ∙ s .before j (omega arith))
-        ∙ rows-first o x y _
+    pub row-missing : n .functions ≤ r → nowhere ≡ functionRow o x y (upTo (n .functions) (rowAt t))
+    row-missing l = row-nowhere o x y (n .functions) (rowAt t) 0 λ j m. sym (row-test t o x y j (h .operands j m)) ∙ s .before j (omega arith)

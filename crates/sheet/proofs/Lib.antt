@@ -7,6 +7,7 @@ mod Entering
 mod Parsing
 mod Taking
 mod Finding
+pub mod Numbering
 pub mod Shortening
 mod Sheets
 mod Examples

@@ -18,13 +18,14 @@ use Rattle.memory.proofs.Values.{length-upTo}
 use Rattle.sheet.specs.declared.Counts.{Counts}
 use Rattle.sheet.specs.declared.Sheet.{Sheet}
 use Rattle.sheet.specs.declared.Found.{Found}
+use Rattle.sheet.specs.declared.FoundRow.{FoundRow}
 use Rattle.sheet.specs.declared.fields.VariableFields.{VariableFields}
 use Rattle.sheet.specs.declared.fields.CellFields.{CellFields}
 use Rattle.sheet.specs.declared.fields.RowFields.{RowFields}
 use Rattle.sheet.specs.declared.lines.Step.{Step}
-use Rattle.sheet.specs.Rows.{Variable, Cell, Row, Rows, Lookup, found, missing, sheet}
+use Rattle.sheet.specs.Rows.{Variable, Cell, Row, Rows, Lookup, found, missing, Numbered, at, nowhere, sheet}
 use Rattle.sheet.specs.Seen.{numberOf, seenVariable, seenCell, seenRow, smallCell, smallRow, VariableInside, CellInside, RowInside}
-use Rattle.sheet.specs.Table.{rowsOf, seen, seenFound, Takes}
+use Rattle.sheet.specs.Table.{rowsOf, seen, seenFound, seenFoundRow, Takes}
 use Rattle.sheet.proofs.Finding.{number-back}
 
 -- the rows that a table holds have their counts
@@ -83,6 +84,25 @@ one-found (Found.Value x) (Found.Value y) p q = ap (λ l. Found.Value (value-in 
 one-found (Found.Value x) Found.Nothing p q = absurd (subst IsFound (p ∙ sym q) tt)
 one-found Found.Nothing (Found.Value y) p q = absurd (subst IsFound (q ∙ sym p) tt)
 one-found Found.Nothing Found.Nothing p q = refl
+
+row-in : Numbered → ℕ → ℕ
+row-in (at j z) other = j
+row-in nowhere other = other
+
+row-value-in : Numbered → Complex → Complex
+row-value-in (at j z) other = z
+row-value-in nowhere other = other
+
+IsAt : Numbered → Type 0
+IsAt (at j z) = Unit {0}
+IsAt nowhere = ⊥
+
+pub one-found-row : {want : Numbered} (r r′ : FoundRow) → seenFoundRow r ≡ want → seenFoundRow r′ ≡ want → r ≡ r′
+unfolding row-in row-value-in IsAt
+one-found-row (FoundRow.At j x) (FoundRow.At k y) p q = ap (λ l. FoundRow.At (row-in l j) (row-value-in l x)) (p ∙ sym q)
+one-found-row (FoundRow.At j x) FoundRow.Nothing p q = absurd (subst IsAt (p ∙ sym q) tt)
+one-found-row FoundRow.Nothing (FoundRow.At k y) p q = absurd (subst IsAt (q ∙ sym p) tt)
+one-found-row FoundRow.Nothing FoundRow.Nothing p q = refl
 
 -- ---- the fields of a line: the numbers, the doubles and the place. The words of a double that is a NaN are not told, so that the doubles are
 -- compared and not their words

@@ -1,5 +1,5 @@
 -- A value sheet, on bytes: what its lines bind, when a line is refused, and what is looked up in it. Definitions only.
-use Prim.Native.Nat.{ℕ, _+_}
+use Prim.Native.Nat.{ℕ, suc, _+_}
 use mathlib.Core.List.{List, [], _∷_, _++_}
 use mathlib.Core.Bool.{Bool, true, false, cond, _&&_, _||_}
 use lib.ListN.{length}
@@ -161,3 +161,25 @@ unfoldable pub functionValue : Operation → (x y : Complex) → List Row → Lo
 functionValue o x y [] = missing
 functionValue o x y (row o′ x′ y′ value ∷ rs) =
     cond (eqb (operationCode o) (operationCode o′) && (identical x x′ && identical y y′)) (found value) (functionValue o x y rs)
+
+-- ---- "The look-up of a function value shall hand back the row's number as well"
+
+pub data Numbered : Type 0 where
+  at : (number : ℕ) (value : Complex) → Numbered
+  nowhere : Numbered
+
+-- whether a row is one for this operation and these operands
+unfoldable pub matches : Operation → (x y : Complex) → Row → Bool
+matches o x y (row o′ x′ y′ value) = eqb (operationCode o) (operationCode o′) && (identical x x′ && identical y y′)
+
+unfoldable pub valueIn : Row → Complex
+valueIn (row o x y value) = value
+
+-- the first row that matches, of those from number `next` on
+unfoldable pub rowFrom : (next : ℕ) → Operation → (x y : Complex) → List Row → Numbered
+rowFrom next o x y [] = nowhere
+rowFrom next o x y (r ∷ rs) = cond (matches o x y r) (at next (valueIn r)) (rowFrom (suc next) o x y rs)
+
+-- its number is counted from 0, among the t rows
+abbrev pub functionRow : Operation → (x y : Complex) → List Row → Numbered
+functionRow o x y rs = rowFrom 0 o x y rs

@@ -1,7 +1,7 @@
 -- What a table of words holds, read as the rows of a sheet, when it is one, and how a row is added. Only connecting.
 use Prim.Native.Nat.{ℕ, zero, suc, _+_, _*_, _/_, _%_, _≤_, _<_}
 use mathlib.Core.Path.{_≡_}
-use mathlib.Core.List.{List}
+use mathlib.Core.List.{List, _++_}
 use mathlib.Core.Bool.{Bool, true, _&&_}
 use lib.ListN.{length, getD, set, drop}
 use lib.Dec.{ltb, eqb}
@@ -11,13 +11,15 @@ use Rattle.complex.specs.Constants.{ofParts}
 use Rattle.expression.specs.declared.refusal.Refusal.{Refusal}
 use Rattle.memory.specs.Keys.{upTo, keyAt, Ascends, First}
 use Rattle.text.specs.Lines.{Line, goes, stops, Whole, read, refused}
-use Rattle.memory.specs.Layout.{tableWords, cellsFrom, functionsFrom}
+use Rattle.memory.specs.Layout.{tableWords, cellsFrom, functionsFrom, numbered}
 use Rattle.sheet.specs.declared.Counts.{Counts}
 use Rattle.sheet.specs.declared.Sheet.{Sheet}
 use Rattle.sheet.specs.declared.Found.{Found}
+use Rattle.sheet.specs.declared.FoundRow.{FoundRow}
+use Rattle.sheet.specs.declared.Used.{Used}
 use Rattle.sheet.specs.declared.fields.Words.{Words}
 use Rattle.sheet.specs.declared.lines.Step.{Step}
-use Rattle.sheet.specs.Rows.{Variable, variable, Cell, cell, Row, row, Rows, rows, mostVariables, mostCells, mostFunctions, Lookup, found, missing}
+use Rattle.sheet.specs.Rows.{Variable, variable, Cell, cell, Row, row, Rows, rows, mostVariables, mostCells, mostFunctions, Lookup, found, missing, Numbered, at, nowhere}
 use Rattle.expression.specs.Codes.{operationOf}
 use Rattle.sheet.specs.Seen.{numberOf}
 use Rattle.sheet.specs.Index.{wordAt, nameIn, nextIn, bucketOf, headFor, Leads}
@@ -163,6 +165,19 @@ cellMay t n key = eqb (n .functions) 0 && above (pairKey t) (n .cells) key
 abbrev pub seenFound : Found → Lookup
 seenFound (Found.Value z) = found z
 seenFound Found.Nothing = missing
+
+abbrev pub seenFoundRow : FoundRow → Numbered
+seenFoundRow (FoundRow.At j z) = at j z
+seenFoundRow FoundRow.Nothing = nowhere
+
+-- its number is one of 256
+abbrev pub FewRows : FoundRow → Type 0
+FewRows (FoundRow.At j z) = j < mostFunctions
+FewRows FoundRow.Nothing = Unit {0}
+
+-- the rows that an operation used, by their numbers
+abbrev pub usedIn : Used → List ℕ
+usedIn u = numbered (u .first) ++ numbered (u .second)
 
 abbrev pub wordsOf : Complex → Words
 wordsOf x = record { re = bitsOf (x .re); im = bitsOf (x .im) }

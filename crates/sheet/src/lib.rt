@@ -4,8 +4,8 @@ ghost use mathlib.Core.Path.{_≡_};
 ghost use Prim.Native.Nat.{_≤_};
 ghost use lib.ListN.{length};
 ghost use Rattle.memory.specs.Layout.{tableWords};
-ghost use Rattle.sheet.specs.Rows.{valueOf, cellValue, functionValue, sheet};
-ghost use Rattle.sheet.specs.Table.{rowsOf, Held, seen, heldBy, seenFound, numberAt};
+ghost use Rattle.sheet.specs.Rows.{valueOf, cellValue, functionRow, sheet};
+ghost use Rattle.sheet.specs.Table.{rowsOf, Held, seen, heldBy, seenFound, seenFoundRow, FewRows, numberAt};
 use complex::Complex;
 use complex::bits::from_bits;
 use expression::refusal::Operation;
@@ -40,6 +40,18 @@ pub enum Sheet {
 pub enum Found {
     Value(Complex),
     Nothing,
+}
+
+// A function value, with the number of its row: from 0, among the t rows.
+pub enum FoundRow {
+    At(usize, Complex),
+    Nothing,
+}
+
+// The rows that an operation used: up to two, each by its number plus one; 0 says none.
+pub struct Used {
+    pub first: usize,
+    pub second: usize,
 }
 
 // A whole sheet, up to its first line that is refused.
@@ -106,19 +118,20 @@ pub fn cell(table: &[u64], counts: Counts, region: u16, index: u32) -> Found
     })
 }
 
-pub fn function_value(
+// "The look-up of a function value shall hand back the row's number as well."
+pub fn function_row(
     table: &[u64],
     counts: Counts,
     operation: Operation,
     x: Complex,
     y: Complex,
-) -> Found
-    ensures { λ r. ⌜ (Held (now (table .entry)) counts → seenFound r ≡ functionValue operation x y (rowsOf (now (table .entry)) counts .functions)) ⌝ }
+) -> FoundRow
+    ensures { λ r. ⌜ (Held (now (table .entry)) counts → seenFoundRow r ≡ functionRow operation x y (rowsOf (now (table .entry)) counts .functions)) × FewRows r ⌝ }
 {
     let count = counts.functions;
     let j = find_row(table, count, operation.code(), words_of(x), words_of(y));
     if count <= j {
-        return Found::Nothing;
+        return FoundRow::Nothing;
     }
-    Found::Value(number_at(table, 7 * j + FUNCTIONS_FROM + 5))
+    FoundRow::At(j, number_at(table, 7 * j + FUNCTIONS_FROM + 5))
 }

@@ -2,16 +2,18 @@
 -- Assumes nothing.
 use mathlib.Core.Path.{_≡_, refl, ap, subst}
 use mathlib.Core.Bool.{Bool, true, false, cond}
+use mathlib.Core.List.{List}
 use Prim.Native.Nat.{ℕ, zero, suc, _+_, _*_, _-_, _≤_}
 use native.Mathlib.Omega.{arith}
 use lib.Dec.{ltb}
 use lib.ListN.{length}
 use Rattle.expression.specs.Trees.{Tree, number, leaf, infixed, size, depth}
 use Rattle.expression.specs.Limits.{largest, deepest}
-use Rattle.store.specs.Storing.{Kept, nothing, result, State, state, Answer, gives, refused, andThen, among, intern, recall, keep}
+use Rattle.store.specs.Storing.{Kept, nothing, result, State, state, Answer, gives, refused, andThen, among, intern, recall, keep, noting}
 use Rattle.sheet.specs.Rows.{Rows}
 use Rattle.evaluation.specs.declared.Evaluation.{Evaluation}
 use Rattle.evaluation.specs.Evaluating.{calculateFunction, calculateInfix}
+use Rattle.evaluation.specs.Using.{usedByFunction, usedByInfix}
 use Rattle.tasks.specs.Tasks.{Task, number-of-pi, itself, calling, prefixing, infixing, taskAt}
 use Rattle.arms.specs.Arms.{Plan, smaller, functionPlan, prefixPlan, the, new, folded, called, negation, combined, S, lesser, affine, minus, sum, product}
 use Rattle.arms.specs.Ordered.{infixPlan}
@@ -20,7 +22,7 @@ use Rattle.simplification.specs.Simplifying.{Simplifier, counted, folded
 use Rattle.simplification.proofs.Shapes.{weight, Closed, Fine, fine-infix, fine-function, fine-prefix}
 
 unfoldable pub count : State → ℕ
-count (state room stored kept calls) = calls
+count (state room stored kept tally) = tally .calls
 
 -- the count of an answer is at most n
 unfoldable pub Below : ℕ → Answer → Type 0
@@ -41,7 +43,7 @@ unfolding Below andThen
 then-below n m (gives t s) f b g = g t s b
 then-below n m (refused why s) f b g = tt
 
--- ---- storing counts nothing
+-- ---- storing and noting count nothing
 
 either-way : (n : ℕ) (b : Bool) (x y : Answer) → Below n x → Below n y → Below n (cond b x y)
 either-way n true x y p q = p
@@ -49,7 +51,7 @@ either-way n false x y p q = q
 
 stores : (t : Tree) (s : State) → Below (count s) (intern t s)
 unfolding Below count intern
-stores t (state room stored kept calls) =
+stores t (state room stored kept tally) =
     either-way _ (among stored t) _ _ (omega arith)
     (either-way _ (ltb largest (size t)) _ _ tt
     (either-way _ (ltb deepest (depth t)) _ _ tt
@@ -61,9 +63,17 @@ folds (Evaluation.Value z) s = stores (leaf (number z)) s
 folds Evaluation.Incomplete s = tt
 folds (Evaluation.Need operation x y) s = tt
 
+notes : (js : List ℕ) (s : State) → count (noting js s) ≡ count s
+unfolding count noting
+notes js (state room stored kept tally) = refl
+
+-- a value that was folded once rows were noted
+folds-noted : (n : ℕ) (js : List ℕ) (v : Evaluation) (s : State) → Below (count s + 0 * n) (foldedTo v (noting js s))
+folds-noted n js v s = more (foldedTo v (noting js s)) (omega (arith, notes js s)) (folds v (noting js s))
+
 keeps : (n : ℕ) (t : Tree) (a : Answer) → Below n a → Below n (keeping t a)
 unfolding keeping Below count keep andThen
-keeps n t (gives u (state room stored kept calls)) b = b
+keeps n t (gives u (state room stored kept tally)) b = b
 keeps n t (refused why s) b = tt
 
 -- ---- plans
@@ -82,8 +92,8 @@ carries : (R : Rows) (σ : Simplifier) (n : ℕ) → Makes σ n → (p : Plan) (
 unfolding carryOut weight Makes Below
 carries R σ n f (the t) s = omega arith
 carries R σ n f (new t) s = more (intern t s) (omega arith) (stores t s)
-carries R σ n f (folded op x y) s = more (foldedTo (calculateInfix R op x y) s) (omega arith) (folds (calculateInfix R op x y) s)
-carries R σ n f (called g x) s = more (foldedTo (calculateFunction R g x) s) (omega arith) (folds (calculateFunction R g x) s)
+carries R σ n f (folded op x y) s = folds-noted n (usedByInfix R op x y) (calculateInfix R op x y) s
+carries R σ n f (called g x) s = folds-noted n (usedByFunction R g x) (calculateFunction R g x) s
 carries R σ n f (negation p) s =
     then-below _ _ (carryOut R σ p s) (λ t s. intern (minus t) s) (carries R σ n f p s) λ t s′ l. more (intern (minus t) s′) l (stores (minus t) s′)
 carries R σ n f (combined op p q) s =
@@ -132,7 +142,7 @@ four R σ n f p x s = more (carryOut R σ p s) (heavy (count s) (weight p) n (x 
 
 once-more : (s : State) → count (counted suc s) ≤ count s + 1
 unfolding count counted
-once-more (state room stored kept calls) = omega arith
+once-more (state room stored kept tally) = omega arith
 
 module _ (R : Rows) (b f : Simplifier) (m n : ℕ) (x : Makes b m) (y : Makes f n) where
   performs : (task : Task) (s : State) → Below (count s + (2 * m + 4 * n)) (perform R b f task s)

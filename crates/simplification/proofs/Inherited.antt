@@ -2,6 +2,7 @@
 -- 10 INCOMPLETE. Assumes nothing.
 use mathlib.Core.Path.{_≡_, refl, ap, sym, _∙_, subst}
 use mathlib.Core.Bool.{Bool, true, false, cond}
+use mathlib.Core.List.{List}
 use Prim.Native.Nat.{ℕ, zero, suc, _≤_}
 use native.Mathlib.Omega.{arith}
 use lib.Dec.{ltb}
@@ -13,10 +14,11 @@ use Rattle.expression.specs.Trees.{Tree, Leaf, number, pi, variable, cell, leaf
 use Rattle.expression.specs.Alike.{equal}
 use Rattle.expression.specs.Limits.{largest, deepest}
 use Rattle.expression.specs.Refusals.{numberOf}
-use Rattle.store.specs.Storing.{Kept, nothing, result, State, state, Answer, gives, refused, andThen, among, intern, recall, keep}
+use Rattle.store.specs.Storing.{Kept, nothing, result, State, state, Answer, gives, refused, andThen, among, intern, recall, keep, noting}
 use Rattle.sheet.specs.Rows.{Rows}
 use Rattle.evaluation.specs.declared.Evaluation.{Evaluation}
 use Rattle.evaluation.specs.Evaluating.{calculateFunction, calculateInfix}
+use Rattle.evaluation.specs.Using.{usedByFunction, usedByInfix}
 use Rattle.tasks.specs.Tasks.{leafTask, taskAt}
 use Rattle.evaluation.proofs.Known.{Known, function-known, infix-known}
 use Rattle.arms.specs.Arms.{Plan, smaller, functionPlan, prefixPlan, the, new, folded, called, negation, combined, S, lesser, affine, minus, sum, product}
@@ -58,7 +60,7 @@ module _ (P : Tree → Type 0) (closed : Closed P P) (numbers : (z : Complex) �
 
   pub stores : (t : Tree) (s : State) → P t → KeptAll P s → Gives P (intern t s)
   unfolding Gives KeptAll intern recall
-  stores t (state room stored kept calls) x k =
+  stores t (state room stored kept tally) x k =
       either-way (among stored t) _ _ (x, k)
       (either-way (ltb largest (size t)) _ _ (omega arith)
       (either-way (ltb deepest (depth t)) _ _ (omega arith)
@@ -70,10 +72,14 @@ module _ (P : Tree → Type 0) (closed : Closed P P) (numbers : (z : Complex) �
   folds Evaluation.Incomplete s h k = absurd h
   folds (Evaluation.Need operation x y) s h k = omega arith
 
+  noted-all : (js : List ℕ) (s : State) → KeptAll P s → KeptAll P (noting js s)
+  unfolding KeptAll noting recall
+  noted-all js (state room stored kept tally) k = k
+
   pub keeps : (t : Tree) (a : Answer) → Gives P a → Gives P (keeping t a)
   unfolding keeping Gives KeptAll keep recall andThen kept-or
   keeps t (refused why s) x = x
-  keeps t (gives u (state room stored kept calls)) x = (x .0, λ v w e. go v w (equal t v) e)
+  keeps t (gives u (state room stored kept tally)) x = (x .0, λ v w e. go v w (equal t v) e)
     where
       go : (v w : Tree) (b : Bool) → cond b (result u) (kept v) ≡ result w → P w
       go v w true e = rw (ap (λ k. kept-or k u) e) at (x .0)
@@ -91,8 +97,8 @@ module _ (P : Tree → Type 0) (closed : Closed P P) (numbers : (z : Complex) �
       unfolding carryOut Over Gives smaller
       carries (the t) s x k = (x, k)
       carries (new t) s x k = stores t s x k
-      carries (folded op y z) s x k = folds (calculateInfix R op y z) s (infix-known R op y z) k
-      carries (called g y) s x k = folds (calculateFunction R g y) s (function-known R g y) k
+      carries (folded op y z) s x k = folds (calculateInfix R op y z) (noting (usedByInfix R op y z) s) (infix-known R op y z) (noted-all (usedByInfix R op y z) s k)
+      carries (called g y) s x k = folds (calculateFunction R g y) (noting (usedByFunction R g y) s) (function-known R g y) (noted-all (usedByFunction R g y) s k)
       carries (negation p) s x k =
           then-gives (carryOut R σ p s) (λ t s. intern (minus t) s) (carries p s x k) λ t s′ y l. stores (minus t) s′ (closed .minus-of y) l
       carries (combined op p q) s x k =
@@ -121,7 +127,7 @@ module _ (P : Tree → Type 0) (closed : Closed P P) (numbers : (z : Complex) �
 
     counted-all : (s : State) → KeptAll P s → KeptAll P (counted more s)
     unfolding KeptAll counted recall
-    counted-all (state room stored kept calls) k = k
+    counted-all (state room stored kept tally) k = k
 
     module _ (b f : Simplifier) where
       performs-leaf : (l : Leaf) (s : State) → P (leaf l) → KeptAll P s → Gives P (perform R b f (leafTask l) s)

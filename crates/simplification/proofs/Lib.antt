@@ -4,7 +4,11 @@ pub mod Operating
 pub mod Ordered
 pub mod Shapes
 pub mod Counting
+pub mod Tallying
 pub mod Machine
+pub mod Marking
+pub mod Asking
+pub mod Unused
 pub mod Computing
 pub mod Pi
 pub mod Stored

@@ -8,12 +8,12 @@ use lib.ListN.{length}
 use Rattle.expression.specs.declared.InfixOperator.{InfixOperator}
 use Rattle.expression.specs.Trees.{Tree, number, pi, variable, cell, leaf, functionCall, prefixed, infixed}
 use Rattle.expression.specs.declared.node.Expression.{Expression}
-use Rattle.store.specs.Storing.{Kept, State, Answer, gives, andThen, recall, keep, result, nothing}
+use Rattle.store.specs.Storing.{Kept, State, Answer, gives, andThen, recall, keep, result, nothing, noting}
 use Rattle.store.specs.Memory.{Memory, treeAt, treeOf, linked}
-use Rattle.store.specs.Desk.{count, callsOn, withCalls, refusedFrom}
+use Rattle.store.specs.Desk.{count, callsOn, marksOn, tallyOn, withCalls, refusedFrom}
 use Rattle.store.specs.Held.{Lent, treeIn, stateIn, Sound, Built, Recalls}
 use Rattle.store.proofs.Building.{of, older, named, stays, then-node, then-refused, sound-on, on-desk}
-use Rattle.store.proofs.Asking.{calls-set, count-kept, length-kept}
+use Rattle.store.proofs.Asking.{calls-set, count-kept, marks-kept, length-kept}
 use Rattle.store.proofs.Stored.{linked-above}
 use Rattle.sheet.specs.Rows.{Rows}
 use Rattle.evaluation.specs.declared.Evaluation.{Evaluation}
@@ -103,7 +103,10 @@ module _ (desk : List ℕ) {desk′ : List ℕ} (q : desk′ ≡ withCalls desk 
 
   state-counted : (m : Memory) → Sound (of m desk) → stateIn (of m desk′) ≡ counted oneMore (stateIn (of m desk))
   unfolding stateIn counted
-  state-counted m h = let x : callsOn desk′ ≡ oneMore (callsOn desk) = ap callsOn q ∙ calls-set desk _ (h .long) in rw (count-same, x) refl
+  state-counted m h =
+      let x : callsOn desk′ ≡ oneMore (callsOn desk) = ap callsOn q ∙ calls-set desk _ (h .long) in
+      let y : marksOn desk′ ≡ marksOn desk = ap marksOn q ∙ marks-kept desk _ in
+      rw (count-same, x, y) refl
 
 module _ (R : Rows) (k : ℕ) {kept : ℕ} {m : Memory} {desk desk′ : List ℕ} {node : ℕ} (o : node < count desk) (h : Sound (of m desk))
     (q : desk′ ≡ withCalls desk (oneMore (callsOn desk))) (c : Recalls m node kept) where
@@ -111,14 +114,14 @@ module _ (R : Rows) (k : ℕ) {kept : ℕ} {m : Memory} {desk desk′ : List ℕ
       ≡ resume R (simplifyBy oneMore R (k - 1)) (simplifyBy oneMore R (k - 1 - 1)) u k (treeAt m node) (stateIn (of m desk′))
   unfolding step stateIn
   started u e =
-      λ i. resume R (simplifyBy oneMore R (k - 1)) (simplifyBy oneMore R (k - 1 - 1)) ((sym (c (count desk) (callsOn desk) (h .holds) o .1) ∙ e) i) k (treeAt m node) (sym (state-counted desk q m h) i)
+      λ i. resume R (simplifyBy oneMore R (k - 1)) (simplifyBy oneMore R (k - 1 - 1)) ((sym (c (count desk) (tallyOn desk) (h .holds) o .1) ∙ e) i) k (treeAt m node) (sym (state-counted desk q m h) i)
 
   pub was-kept : (kept ≡ 0 → ⊥) → Built (simplifyBy oneMore R k (treeAt m node) (stateIn (of m desk))) (kept - 1) (of m desk) (of m desk′)
   unfolding resume
   was-kept x =
       on-desk m (count-same desk q)
       (named (sym (unrolled oneMore R k (treeAt m node) (stateIn (of m desk)) ∙ started (result (treeAt m (kept - 1))) (linked-above m kept x)))
-      (stays (sound-counted desk q m h) (let z = c (count desk) (callsOn desk) (h .holds) o .0 in omega (arith, z, x, count-same desk q)) refl))
+      (stays (sound-counted desk q m h) (let z = c (count desk) (tallyOn desk) (h .holds) o .0 in omega (arith, z, x, count-same desk q)) refl))
 
   pub was-done : {e : Expression} {r : ℕ} {m₁ m₂ : Memory} {desk₁ : List ℕ} → kept ≡ 0 → Sits m (count desk′) node e
       → Built (perform R (simplifyBy oneMore R (k - 1)) (simplifyBy oneMore R (k - 1 - 1)) (taskAt k (treeOf m e)) (stateIn (of m desk′))) r (of m desk′) (of m₁ desk₁)
@@ -139,6 +142,7 @@ later R k s e b = named (ap (λ t. simplifyBy oneMore R k t s) e) b
 pub chosen-later : (op : InfixOperator) {t v : Tree} (u : Tree) {arm : Arm} {n : ℕ} {m : Memory} → t ≡ v → Chosen m n arm (infixPlan op t u) → Chosen m n arm (infixPlan op v u)
 chosen-later op u e c = record { inside = c .inside; wants = c .wants ∙ ap (λ t. infixPlan op t u) e }
 
--- a value that was folded
-pub folded-by : {value value′ : Evaluation} (s : State) {r : ℕ} {l l′ : Lent} → value ≡ value′ → Built (foldedTo value s) r l l′ → Built (foldedTo value′ s) r l l′
-folded-by s e b = named (ap (λ v. foldedTo v s) e) b
+-- a value that was folded, and the rows that were found for it
+pub folded-by : {value value′ : Evaluation} {js js′ : List ℕ} (s : State) {r : ℕ} {l l′ : Lent} → (value ≡ value′) × (js ≡ js′)
+    → Built (foldedTo value (noting js s)) r l l′ → Built (foldedTo value′ (noting js′ s)) r l l′
+folded-by s e b = named (λ i. foldedTo (e .0 i) (noting (e .1 i) s)) b

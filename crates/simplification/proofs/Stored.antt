@@ -1,17 +1,19 @@
--- What is so of all stored trees is so of what simplifying gives: if their parts are such, and if storing what is made of them, keeping a result and
--- counting a call leave the stored trees such. Assumes nothing.
+-- What is so of all stored trees is so of what simplifying gives: if their parts are such, and if storing what is made of them, keeping a result,
+-- counting a call and noting rows leave the stored trees such. Assumes nothing.
 use mathlib.Core.Path.{_≡_, refl}
 use mathlib.Core.Bool.{Bool, true, false, cond}
+use mathlib.Core.List.{List}
 use Prim.Native.Nat.{ℕ, zero, suc}
 use lib.Dec.{ltb}
 use Rattle.complex.specs.declared.Complex.{Complex}
 use Rattle.expression.specs.declared.InfixOperator.{InfixOperator}
 use Rattle.expression.specs.declared.ExpressionFunction.{ExpressionFunction}
 use Rattle.expression.specs.Trees.{Tree, Leaf, number, pi, variable, cell, leaf, functionCall, prefixed, infixed, size}
-use Rattle.store.specs.Storing.{Kept, nothing, result, State, Answer, gives, refused, andThen, intern, recall, keep}
+use Rattle.store.specs.Storing.{Kept, nothing, result, State, Answer, gives, refused, andThen, intern, recall, keep, noting}
 use Rattle.sheet.specs.Rows.{Rows}
 use Rattle.evaluation.specs.declared.Evaluation.{Evaluation}
 use Rattle.evaluation.specs.Evaluating.{calculateFunction, calculateInfix}
+use Rattle.evaluation.specs.Using.{usedByFunction, usedByInfix}
 use Rattle.tasks.specs.Tasks.{leafTask, taskAt}
 use Rattle.arms.specs.Arms.{Plan, smaller, functionPlan, prefixPlan, the, new, folded, called, negation, combined, S, lesser, affine, minus, sum, product}
 use Rattle.arms.specs.Ordered.{infixPlan}
@@ -32,15 +34,17 @@ module _ (Sane : State → Type 0) (In : State → Tree → Type 0) where
   pub got : {s : State} {t : Tree} → Sane s → In s t → Got Sane In s s t
   got g i = record { sane = g; is-in = i; stay = λ u x. x }
 
+  -- what is given from a state on is given from an earlier one on
+  sooner : (s s′ : State) (a : Answer) → ((u : Tree) → In s u → In s′ u) → Given s′ a → Given s a
+  unfolding Given
+  sooner s s′ (refused why s″) f y = tt
+  sooner s s′ (gives t s″) f y = record { sane = y .sane; is-in = y .is-in; stay = λ u z. y .stay u (f u z) }
+
   pub then-given : (s : State) (a : Answer) (f : Simplifier) → Given s a
       → ((t : Tree) (s′ : State) → Got Sane In s s′ t → Given s′ (f t s′)) → Given s (andThen a f)
   unfolding Given andThen
   then-given s (refused why s′) f x h = tt
-  then-given s (gives t s′) f x h = go (f t s′) (h t s′ x)
-    where
-      go : (a : Answer) → Given s′ a → Given s a
-      go (refused why s″) y = tt
-      go (gives u s″) y = record { sane = y .sane; is-in = y .is-in; stay = λ v z. y .stay v (x .stay v z) }
+  then-given s (gives t s′) f x h = sooner s s′ (f t s′) (x .stay) (h t s′ x)
 
 -- what an operation gives, if it is a number
 unfoldable pub Gives : (Complex → Type 0) → Evaluation → Type 0
@@ -61,6 +65,7 @@ pub record Lasting (Sane : State → Type 0) (In New : State → Tree → Type 0
   pub recalls : (t u : Tree) (s : State) → Sane s → recall t s ≡ result u → In s u
   pub keeps : (t u : Tree) (s : State) → Sane s → In s u → Got Sane In s (keep t u s) u
   pub counts : (more : ℕ → ℕ) (t : Tree) (s : State) → Sane s → In s t → Got Sane In s (counted more s) t
+  pub notes : (js : List ℕ) (s : State) → Sane s → Sane (noting js s) × ((u : Tree) → In s u → In (noting js s) u)
 
 module _ (Sane : State → Type 0) (In New : State → Tree → Type 0) (N : Complex → Type 0) (law : Lasting Sane In New N) (R : Rows) (numbers : Numbers N R) where
   Passes : Simplifier → Type 0
@@ -71,6 +76,10 @@ module _ (Sane : State → Type 0) (In New : State → Tree → Type 0) (N : Com
   folds (Evaluation.Value z) s g x = law .stores (leaf (number z)) s g (law .value s z x)
   folds Evaluation.Incomplete s g x = tt
   folds (Evaluation.Need operation y z) s g x = tt
+
+  -- a value that was folded once rows were noted
+  folds-noted : (js : List ℕ) (v : Evaluation) (s : State) → Sane s → Gives N v → Given Sane In s (foldedTo v (noting js s))
+  folds-noted js v s g x = let noted = law .notes js s g in sooner Sane In s (noting js s) (foldedTo v (noting js s)) (noted .1) (folds v (noting js s) (noted .0) x)
 
   -- ---- plans
 
@@ -88,8 +97,8 @@ module _ (Sane : State → Type 0) (In New : State → Tree → Type 0) (N : Com
     unfolding carryOut Over Given Passes smaller
     carries (the t) s₀ s x g f = got Sane In g (f t x)
     carries (new t) s₀ s x g f = law .stores t s g (law .remain f t x)
-    carries (folded op y z) s₀ s x g f = folds (calculateInfix R op y z) s g (numbers .infixes op y z)
-    carries (called k y) s₀ s x g f = folds (calculateFunction R k y) s g (numbers .functions k y)
+    carries (folded op y z) s₀ s x g f = folds-noted (usedByInfix R op y z) (calculateInfix R op y z) s g (numbers .infixes op y z)
+    carries (called k y) s₀ s x g f = folds-noted (usedByFunction R k y) (calculateFunction R k y) s g (numbers .functions k y)
     carries (negation p) s₀ s x g f =
         then-given Sane In s (carryOut R σ p s) _ (carries p s₀ s x g f) λ t s′ y. law .stores (minus t) s′ (y .sane) (law .closed s′ .minus-of (y .is-in))
     carries (combined op p q) s₀ s x g f =

@@ -7,14 +7,14 @@ use Rattle.expression.specs.declared.PrefixOperator.{PrefixOperator}
 use Rattle.expression.specs.declared.ExpressionFunction.{ExpressionFunction}
 use Rattle.expression.specs.declared.node.Expression.{Expression}
 use Rattle.expression.specs.Nodes.{Within}
-use Rattle.store.specs.Storing.{State, Answer}
+use Rattle.store.specs.Storing.{State, Answer, noting}
 use Rattle.store.specs.Memory.{Memory, treeOf}
 use Rattle.store.specs.Desk.{count, refusedFrom}
 use Rattle.store.specs.Held.{Lent, treeIn, Builds, Keeps}
 use Rattle.sheet.specs.declared.Counts.{Counts}
 use Rattle.sheet.specs.Rows.{Rows}
-use Rattle.sheet.specs.Table.{rowsOf, Held}
-use Rattle.evaluation.specs.declared.Evaluation.{Evaluation}
+use Rattle.sheet.specs.Table.{rowsOf, Held, usedIn}
+use Rattle.evaluation.specs.declared.Asked.{Asked}
 use Rattle.tasks.specs.Tasks.{taskAt}
 use Rattle.tasks.specs.Deciding.{oneMore}
 use Rattle.arms.specs.declared.Arm.{Arm}
@@ -25,9 +25,9 @@ use Rattle.simplification.specs.Simplifying.{carryOut, foldedTo, simplif
 abbrev pub BuildsBy : (table : List ℕ) → Counts → (Of : Lent → Type 0) (want : Rows → Lent → State → Answer) (r : ℕ) (l l′ : Lent) → Type 0
 BuildsBy table rows Of want r l l′ = Held table rows → Builds Of (want (rowsOf table rows)) r l l′
 
--- a value that was folded is stored, or its lack refused
-abbrev pub Stores : Evaluation → (r : ℕ) (l l′ : Lent) → Type 0
-Stores value = Builds (λ l. Unit {0}) (λ l. foldedTo value)
+-- a value that was folded is stored, or its lack refused, once the rows that were found for it are noted
+abbrev pub Stores : Asked → (r : ℕ) (l l′ : Lent) → Type 0
+Stores asked = Builds (λ l. Unit {0}) (λ l s. foldedTo (asked .value) (noting (usedIn (asked .used)) s))
 
 -- an arm is carried out at a limit
 abbrev pub Carries : (limit : ℕ) (table : List ℕ) → Counts → Arm → (r : ℕ) (l l′ : Lent) → Type 0

@@ -6,10 +6,11 @@ use Rattle.expression.specs.declared.PrefixOperator.{PrefixOperator}
 use Rattle.expression.specs.declared.ExpressionFunction.{ExpressionFunction}
 use Rattle.expression.specs.declared.refusal.Refusal.{Refusal}
 use Rattle.expression.specs.Trees.{Tree, number, leaf, infixed}
-use Rattle.store.specs.Storing.{Kept, nothing, result, State, state, Answer, gives, refused, andThen, intern, recall, keep}
+use Rattle.store.specs.Storing.{Kept, nothing, result, State, state, Answer, gives, refused, andThen, intern, recall, keep, noting}
 use Rattle.sheet.specs.Rows.{Rows}
 use Rattle.evaluation.specs.declared.Evaluation.{Evaluation}
 use Rattle.evaluation.specs.Evaluating.{calculateFunction, calculateInfix}
+use Rattle.evaluation.specs.Using.{usedByFunction, usedByInfix}
 use Rattle.tasks.specs.Tasks.{Task, number-of-pi, itself, calling, prefixing, infixing, taskAt}
 use Rattle.arms.specs.Arms.{Plan, the, new, folded, called, negation, combined, S, lesser, affine, smaller, minus, sum, product, functionPlan, prefixPlan}
 use Rattle.arms.specs.Ordered.{infixPlan}
@@ -19,7 +20,7 @@ Simplifier = Tree → State → Answer
 
 -- one more simplify call, as `more` counts
 unfoldable pub counted : (more : ℕ → ℕ) → State → State
-counted more (state room stored kept calls) = state room stored kept (more calls)
+counted more (state room stored kept tally) = state room stored kept (record { calls = more (tally .calls); marks = tally .marks })
 
 -- NEED before the folded number is stored; no operation on numbers is incomplete
 unfoldable pub foldedTo : Evaluation → State → Answer
@@ -36,12 +37,13 @@ unfoldable pub keeping : Tree → Answer → Answer
 keeping t answer = andThen answer λ u s. gives u (keep t u s)
 
 module _ (rows : Rows) where
-  -- A plan carried out, where `simplified` is what S stands for: from left to right, operands before their node
+  -- A plan carried out, where `simplified` is what S stands for: from left to right, operands before their node. The rows that a fold finds are
+  -- marked, also where one is lacking
   unfoldable pub carryOut : (simplified : Simplifier) → Plan → State → Answer
   carryOut simplified (the t) s = gives t s
   carryOut simplified (new t) s = intern t s
-  carryOut simplified (folded op x y) s = foldedTo (calculateInfix rows op x y) s
-  carryOut simplified (called f x) s = foldedTo (calculateFunction rows f x) s
+  carryOut simplified (folded op x y) s = foldedTo (calculateInfix rows op x y) (noting (usedByInfix rows op x y) s)
+  carryOut simplified (called f x) s = foldedTo (calculateFunction rows f x) (noting (usedByFunction rows f x) s)
   carryOut simplified (negation p) s = andThen (carryOut simplified p s) λ t s. intern (minus t) s
   carryOut simplified (combined op p q) s = andThen (carryOut simplified p s) λ t s. andThen (carryOut simplified q s) λ u s. intern (infixed op t u) s
   carryOut simplified (S p) s = andThen (carryOut simplified p s) simplified

@@ -13,6 +13,7 @@ use arms::smaller;
 use complex::constants::one;
 use complex::constants::pi;
 use complex::constants::two;
+use evaluation::Asked;
 use evaluation::Evaluation;
 use evaluation::calculate::calculate_function;
 use evaluation::calculate::calculate_infix;
@@ -25,6 +26,7 @@ use sheet::Counts;
 use store::add;
 use store::desk::REFUSED;
 use store::desk::ask;
+use store::desk::note;
 use store::keep;
 use store::kept_at;
 use store::reading::expression_at;
@@ -33,10 +35,13 @@ use tasks::count_call;
 use tasks::limit::Limit;
 use tasks::task_at;
 
-// A folded number is stored; NEED comes before.
-fn store_value(store: &mut [[u64; 4]], desk: &mut [u64; DESK_WORDS], value: Evaluation) -> usize
-    ensures { λ o. ⌜ Stores value o (lent (now (store .entry)) (now (desk .entry))) (lent (now (store .exit)) (now (desk .exit))) ⌝ }
+// A folded number is stored; NEED comes before. The rows that were found for it are marked first, also where another is lacking.
+fn store_value(store: &mut [[u64; 4]], desk: &mut [u64; DESK_WORDS], asked: Asked) -> usize
+    ensures { λ o. ⌜ Stores asked o (lent (now (store .entry)) (now (desk .entry))) (lent (now (store .exit)) (now (desk .exit))) ⌝ }
 {
+    let value = asked.value;
+    let used = asked.used;
+    note(desk, used.first, used.second);
     match value {
         Evaluation::Value(z) => add(store, desk, Expression::Number(z)),
         Evaluation::Incomplete => REFUSED + 10,
@@ -244,12 +249,12 @@ fn carry_out(
         Arm::Use(i) => i,
         Arm::Build(e) => add(store, desk, e),
         Arm::Fold(operator, x, y) => {
-            let value = calculate_infix(table, counts, x, operator, y);
-            store_value(store, desk, value)
+            let asked = calculate_infix(table, counts, x, operator, y);
+            store_value(store, desk, asked)
         }
         Arm::Call(function, x) => {
-            let value = calculate_function(table, counts, function, x);
-            store_value(store, desk, value)
+            let asked = calculate_function(table, counts, function, x);
+            store_value(store, desk, asked)
         }
         Arm::Again(e) => again(limit, store, desk, table, counts, e),
         Arm::Inverse(x) => inverse(limit, store, desk, table, counts, x),

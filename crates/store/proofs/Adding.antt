@@ -18,13 +18,14 @@ use Rattle.expression.specs.Nodes.{measureFrom, Within, Sound}
 use Rattle.store.specs.Storing.{intern}
 use Rattle.store.specs.Memory.{Memory, room, sizeAt, depthAt, classAt, treeAt, treeOf, stateOf}
 use Rattle.store.specs.Index.{keyOf, bucketOf, headFor, entered}
-use Rattle.store.specs.Desk.{count, callsOn, withCount, refusalOn, refusedFrom}
+use Rattle.store.specs.Desk.{count, callsOn, marksOn, tallyOn, withCount, refusalOn, refusedFrom}
 use Rattle.store.specs.Held as Held
 use Rattle.store.specs.Held.{Holds, Lent, stateIn, Built, judged}
 use Rattle.store.specs.Walk.{Walked, Finds}
 use Rattle.expression.proofs.Sizes.{size-is as size-measure, depth-is as depth-measure}
 use Rattle.store.proofs.Trees.{measure-grown, room-each}
 use Rattle.store.proofs.Growing.{Limits, allowed-limits, found-answer, refused-answer, new-answer, holds-new, tree-old}
+use Rattle.store.proofs.Noting.{marks-below}
 use Rattle.store.proofs.Building.{seen-node, small, stays, refuses}
 
 -- what `add` knows once it has sought the node
@@ -62,7 +63,7 @@ module _ {m : Memory} {desk : List ℕ} {n : ℕ} (en : n ≡ count desk) {e : E
   w : Within n e
   w = rw en wl
 
-  state-is : stateIn l ≡ stateOf m n (callsOn desk)
+  state-is : stateIn l ≡ stateOf m n (tallyOn desk)
   unfolding stateIn
   state-is = rw en refl
 
@@ -76,7 +77,7 @@ module _ {m : Memory} {desk : List ℕ} {n : ℕ} (en : n ≡ count desk) {e : E
   walked = subst (λ g. Walked m n g (keyOf (classAt m) (fieldsOf e)) node class) (k .f-is) (subst (λ x. Walked m n f x node class) key-of-e (k .walk h (k .key-is) (k .head-is ∙ ap (headFor m n) bucket-among)))
 
   pub adds-found : node < n → Built (intern (treeOf m e) (stateIn l)) node l l
-  adds-found o = stays hl (rw en at o) (rw state-is (found-answer h e (k .sound) w walked (callsOn desk) o))
+  adds-found o = stays hl (rw en at o) (rw state-is (found-answer h e (k .sound) w walked (tallyOn desk) o))
 
   module _ (o : n ≤ node) {z y : ℕ} (ez : z ≡ measureFrom _+_ (sizeAt m) e) (ey : y ≡ measureFrom max (depthAt m) e) {v : ℕ}
       (ev : v ≡ judged (ltb largest z) (ltb deepest y) (ltb n most)) where
@@ -93,7 +94,7 @@ module _ {m : Memory} {desk : List ℕ} {n : ℕ} (en : n ≡ count desk) {e : E
     adds-refused x =
         refuses hl (omega arith)
         (let q : refusedFrom + v - refusedFrom ≡ v = omega arith in
-        rw (q, state-is) (refused-answer h e (k .sound) w walked (callsOn desk) o desk verdict-is x))
+        rw (q, state-is) (refused-answer h e (k .sound) w walked (tallyOn desk) o desk verdict-is x))
 
     limits : v ≡ 0 → Limits (ltb largest (size (treeOf m e))) (ltb deepest (depth (treeOf m e))) (ltb n (room m))
     limits x = allowed-limits _ _ _ (sym verdict-is ∙ x)
@@ -113,6 +114,10 @@ module _ {m : Memory} {desk : List ℕ} {n : ℕ} (en : n ≡ count desk) {e : E
       unfolding callsOn withCount
       calls-same = getD-set-other desk 0 1 (n + 1) 0 λ q. absurd (omega arith)
 
+      marks-same : marksOn (withCount desk (n + 1)) ≡ marksOn desk
+      unfolding withCount
+      marks-same = marks-below desk 0 (n + 1) (omega arith)
+
       not-big : size (treeOf m e) ≤ largest
       not-big = ltb-false largest (size (treeOf m e)) (limits x .not-big)
 
@@ -128,24 +133,24 @@ module _ {m : Memory} {desk : List ℕ} {n : ℕ} (en : n ≡ count desk) {e : E
       sound-new : Held.Sound l′
       unfolding withCount
       sound-new = record {
-        holds = rw count-new (holds-new h e (k .sound) w walked (callsOn desk) o not-big not-deep has-room bucket bucket-is-e z y size-is depth-is);
+        holds = rw count-new (holds-new h e (k .sound) w walked (tallyOn desk) o not-big not-deep has-room bucket bucket-is-e z y size-is depth-is);
         long = length-set desk 0 (n + 1) ∙ hl .long;
       }
 
-      state-new : stateIn l′ ≡ stateOf m′ (n + 1) (callsOn desk)
+      state-new : stateIn l′ ≡ stateOf m′ (n + 1) (tallyOn desk)
       unfolding stateIn
-      state-new = rw (count-new, calls-same) refl
+      state-new = rw (count-new, calls-same, marks-same) refl
 
       built-new : Built (intern (treeOf m e) (stateIn l)) n l l′
       built-new =
           let more : n < count (withCount desk (n + 1)) = rw count-new (omega arith) in
           record {
-            answer = seen-node n l′ (small {l = l′} sound-new more) ∙ rw (state-new, state-is) (new-answer h e (k .sound) w walked (callsOn desk) o not-big not-deep has-room bucket bucket-is-e z y size-is depth-is);
+            answer = seen-node n l′ (small {l = l′} sound-new more) ∙ rw (state-new, state-is) (new-answer h e (k .sound) w walked (tallyOn desk) o not-big not-deep has-room bucket bucket-is-e z y size-is depth-is);
             inside = λ _. more;
             step = record {
               sound = sound-new;
               grew = rw (count-new, ← en) (omega arith);
-              stays = λ i q. tree-old h e (k .sound) w walked (callsOn desk) o not-big not-deep has-room bucket bucket-is-e z y size-is depth-is i (rw en q);
+              stays = λ i q. tree-old h e (k .sound) w walked (tallyOn desk) o not-big not-deep has-room bucket bucket-is-e z y size-is depth-is i (rw en q);
             };
           }
 

@@ -14,7 +14,8 @@ use Rattle.expression.specs.declared.refusal.Operation.{Operation}
 use Rattle.expression.specs.declared.refusal.Refusal.{Refusal}
 use Rattle.expression.specs.Codes.{operationCode, operationOf}
 use Rattle.expression.proofs.Numbering.{operation-back}
-use Rattle.store.specs.Desk.{count, callsOn, withCount, withCalls, needOn, refusedFrom, Alike, Asks}
+use Rattle.store.proofs.Noting.{marks-below}
+use Rattle.store.specs.Desk.{count, callsOn, marksOn, withCount, withCalls, needOn, refusedFrom, Alike, Asks}
 
 -- the last of several words that are set is there, and so are the others
 module _ (d : List ℕ) (o a b p q : ℕ) where
@@ -71,6 +72,9 @@ module _ (d : List ℕ) (o a b p q : ℕ) where
   alike-written = record {
     counted = other 0 (λ x. absurd (omega arith)) (λ x. absurd (omega arith)) (λ x. absurd (omega arith)) (λ x. absurd (omega arith)) (λ x. absurd (omega arith));
     called = other 1 (λ x. absurd (omega arith)) (λ x. absurd (omega arith)) (λ x. absurd (omega arith)) (λ x. absurd (omega arith)) (λ x. absurd (omega arith));
+    marked =
+        marks-below (set (set (set (set d 2 o) 3 a) 4 b) 5 p) 6 q (omega arith) ∙ marks-below (set (set (set d 2 o) 3 a) 4 b) 5 p (omega arith)
+        ∙ marks-below (set (set d 2 o) 3 a) 4 b (omega arith) ∙ marks-below (set d 2 o) 3 a (omega arith) ∙ marks-below d 2 o (omega arith);
     long = length-written;
   }
 
@@ -104,6 +108,10 @@ calls-set d c h = getD-set-same d 1 c 0 (omega (arith, h))
 pub count-kept : (d : List ℕ) (c : ℕ) → count (withCalls d c) ≡ count d
 unfolding count withCalls
 count-kept d c = getD-set-other d 1 0 c 0 λ x. absurd (omega arith)
+
+pub marks-kept : (d : List ℕ) (c : ℕ) → marksOn (withCalls d c) ≡ marksOn d
+unfolding withCalls
+marks-kept d c = marks-below d 1 c (omega arith)
 
 pub length-kept : (d : List ℕ) (c : ℕ) → length (withCalls d c) ≡ length d
 unfolding withCalls

@@ -1,19 +1,20 @@
 -- The laws of building in steps. `stays`: nothing is built. `then-node`: a step that gave a node, and what was done after it.
--- `then-refused`: a step that was refused; its state stands. `on-desk`: something was done to the desk first. `named`: what is built by
--- another name. Assumes nothing.
+-- `then-refused`: a step that was refused; its state stands. `on-desk`: something was done to the desk first; `after-noting`: rows were
+-- noted first. `named`: what is built by another name. Assumes nothing.
 use mathlib.Core.Path.{_≡_, refl, sym, ap, _∙_, subst}
-use mathlib.Core.List.{List}
+use mathlib.Core.List.{List, _++_}
 use Prim.Native.Nat.{ℕ, _+_, _-_, _≤_, _<_}
 use native.Mathlib.Omega.{arith}
 use borrow.Author.Tests.{lt-ltb, le-ltb}
 use lib.ListN.{length}
+use Rattle.memory.specs.Layout.{numbered}
 use Rattle.complex.specs.declared.Complex.{Complex}
 use Rattle.expression.specs.declared.refusal.Operation.{Operation}
 use Rattle.expression.specs.declared.refusal.Refusal.{Refusal}
 use Rattle.expression.specs.Trees.{Tree}
-use Rattle.store.specs.Storing.{State, Answer, gives, refused, andThen}
+use Rattle.store.specs.Storing.{State, Answer, gives, refused, andThen, noting}
 use Rattle.store.specs.Memory.{Memory, stateOf}
-use Rattle.store.specs.Desk.{count, callsOn, refusalOn, refusedFrom, Alike, Asks}
+use Rattle.store.specs.Desk.{count, refusalOn, refusedFrom, Alike, Asks, Notes}
 use Rattle.store.specs.Held.{Holds, Lent, treeIn, stateIn, Sound, Step, seen, Built}
 use Rattle.store.proofs.Trees.{room-each}
 
@@ -98,7 +99,15 @@ module _ (m : Memory) {desk desk′ : List ℕ} where
 
   state-on : Alike desk desk′ → stateIn (of m desk′) ≡ stateIn (of m desk)
   unfolding stateIn
-  state-on x = λ i. stateOf m (x .counted i) (x .called i)
+  state-on x = λ i. stateOf m (x .counted i) (record { calls = x .called i; marks = x .marked i })
+
+  pub state-noted : {first second : ℕ} → Notes first second desk desk′ → stateIn (of m desk′) ≡ noting (numbered first ++ numbered second) (stateIn (of m desk))
+  unfolding stateIn noting
+  state-noted x = λ i. stateOf m (x .counted i) (record { calls = x .called i; marks = x .marked i })
+
+  pub after-noting : {first second r : ℕ} {l : Lent} (next : State → Answer) → Notes first second desk desk′ → Sound (of m desk)
+      → (Sound (of m desk′) → Built (next (stateIn (of m desk′))) r (of m desk′) l) → Built (next (noting (numbered first ++ numbered second) (stateIn (of m desk)))) r (of m desk) l
+  after-noting next x h f = on-desk (x .counted) (named (ap next (state-noted x)) (f (sound-on (x .counted) (x .long) h)))
 
 -- NEED: a refusal, of which the desk has what it carries
 pub asks : {operation : Operation} {x y : Complex} {r : ℕ} (m : Memory) {desk desk′ : List ℕ} → Asks operation x y r desk desk′ → Sound (of m desk)

@@ -22,7 +22,7 @@ use Rattle.store.specs.declared.node.Fields.{Fields}
 use Rattle.store.specs.Words.{codeIn, sizeIn, depthIn, homeIn, tagOf}
 use Rattle.store.specs.Nodes.{fields, fieldsOf, expressionOf}
 use Rattle.expression.specs.Nodes.{Within, Sound}
-use Rattle.store.specs.Storing.{State, Answer, gives, among, intern, result, refused, place}
+use Rattle.store.specs.Storing.{Tally, State, Answer, gives, among, intern, result, refused, place}
 use Rattle.store.specs.Memory.{Memory, columns, room, fieldsOn, sizeOn, depthOn, fieldsAt, sizeAt, depthAt, homeOn, homeAt, headAt, classAt, keptAt, expressionAt, trees, treeAt, treeOf, linked, keptFor, stateOf}
 use Rattle.store.specs.Index.{keyOf, bucketOf, keyAt, bucketAt, headFor, latest, joined}
 use Rattle.store.specs.Held.{Right, Holds, judged}
@@ -80,7 +80,7 @@ unfolding latest
 latest-past f b n q = rw (add-one, ne-eqb (f n) b q) refl
 
 module _ {m : Memory} {n : ℕ} (h : Holds m n) (e : Expression) (s : Sound e) (w : Within n e) {node class : ℕ}
-    (q : Walked m n (fieldsOf e) (keyOf (classAt m) (fieldsOf e)) node class) (calls : ℕ) where
+    (q : Walked m n (fieldsOf e) (keyOf (classAt m) (fieldsOf e)) node class) (tally : Tally) where
   abbrev t : Tree
   t = treeOf m e
 
@@ -89,7 +89,7 @@ module _ {m : Memory} {n : ℕ} (h : Holds m n) (e : Expression) (s : Sound e) (
 
   -- ---- it stands
 
-  pub found-answer : node < n → gives (treeAt m node) (stateOf m n calls) ≡ intern t (stateOf m n calls)
+  pub found-answer : node < n → gives (treeAt m node) (stateOf m n tally) ≡ intern t (stateOf m n tally)
   unfolding intern
   found-answer l =
       let y = among-yes ts t (rw (found-place h e s w q l, length-trees m n) l) in
@@ -102,11 +102,11 @@ module _ {m : Memory} {n : ℕ} (h : Holds m n) (e : Expression) (s : Sound e) (
     -- ---- it is refused
 
     pub refused-answer : (desk : List ℕ) {v : ℕ} → v ≡ judged (ltb largest (size t)) (ltb deepest (depth t)) (ltb n (room m)) → (v ≡ 0 → ⊥)
-        → refused (refusalOn v desk) (stateOf m n calls) ≡ intern t (stateOf m n calls)
+        → refused (refusalOn v desk) (stateOf m n tally) ≡ intern t (stateOf m n tally)
     unfolding intern
     refused-answer desk {v} x y =
         rw (x, absent, length-trees m n)
-        (judged-refused _ (ltb largest (size t)) (ltb deepest (depth t)) (ltb n (room m)) desk (stateOf m n calls) λ z. y (x ∙ z))
+        (judged-refused _ (ltb largest (size t)) (ltb deepest (depth t)) (ltb n (room m)) desk (stateOf m n tally) λ z. y (x ∙ z))
 
     -- ---- it is stored
 
@@ -362,6 +362,6 @@ module _ {m : Memory} {n : ℕ} (h : Holds m n) (e : Expression) (s : Sound e) (
             go u (yes l) = kept-old u l
             go u (no x) = kept-fresh u (omega (arith, x, place-within (equal u) ts, length-trees m n)) (equal u t) refl
 
-        pub new-answer : gives (treeAt m′ n) (stateOf m′ (n + 1) calls) ≡ intern t (stateOf m n calls)
+        pub new-answer : gives (treeAt m′ n) (stateOf m′ (n + 1) tally) ≡ intern t (stateOf m n tally)
         unfolding intern
         new-answer = rw (tree-new, room-new, trees-new, kept-same, absent, le-ltb largest (size t) b, le-ltb deepest (depth t) d, length-trees m n, lt-ltb n (room m) r) refl

@@ -13,12 +13,13 @@ use Rattle.complex.proofs.Tests.{one-truth}
 use Rattle.expression.specs.Trees.{Tree, leaf, pi}
 use Rattle.expression.specs.Alike.{equal}
 use Rattle.expression.proofs.Likeness.{equal-sym, equal-trans}
+use Rattle.memory.specs.Marks.{noMarks}
 use Rattle.store.specs.Words.{withKept}
-use Rattle.store.specs.Storing.{gives, keep, recall, result, place}
+use Rattle.store.specs.Storing.{Tally, gives, keep, recall, result, place}
 use Rattle.store.specs.Memory.{Memory, columns, memory, room, classOn, keptOn, classAt, keptAt, expressionAt, trees, treeAt, linked, keptFor, stateOf}
 use Rattle.store.specs.Index.{keyAt, bucketAt, headFor, latest, keptBy}
 use Rattle.store.specs.Held.{Holds, Lent, lent, stateIn, Sound, Built, Keeps, Recalls, Compares, Begun}
-use Rattle.store.specs.Desk.{count, callsOn}
+use Rattle.store.specs.Desk.{count, callsOn, marksOn, tallyOn}
 use Rattle.store.proofs.Places.{place-hit, latest-alike}
 use Rattle.store.proofs.Trees.{length-trees, trees-at, trees-alike, tree-alike, room-each}
 use Rattle.store.proofs.Seeking.{class-inside, equal-class, class-equal, class-is-equal, class-of-tree}
@@ -38,9 +39,9 @@ compares m a b p q n h l o =
 
 -- ---- what is kept for a node's tree
 
-recall-is : {m : Memory} {n : ℕ} (h : Holds m n) (e calls : ℕ) → e < n → recall (treeAt m e) (stateOf m n calls) ≡ linked m (keptAt m (classAt m e))
+recall-is : {m : Memory} {n : ℕ} (h : Holds m n) (e : ℕ) (tally : Tally) → e < n → recall (treeAt m e) (stateOf m n tally) ≡ linked m (keptAt m (classAt m e))
 unfolding recall keptFor
-recall-is {m} {n} h e calls l =
+recall-is {m} {n} h e tally l =
     let c = h .each e l .classed in
     rw (sym c, lt-ltb (classAt m e) n (omega (arith, class-inside h e l))) refl
 
@@ -48,8 +49,8 @@ class-below : {m : Memory} {n : ℕ} (h : Holds m n) (e : ℕ) → e < n → cla
 class-below h e l = omega (arith, class-inside h e l)
 
 pub recalls : (m : Memory) (e : ℕ) {x : ℕ} → x ≡ keptAt m (classAt m e) → Recalls m e x
-recalls m e {x} p n calls h l =
-    (omega (arith, p, h .each (classAt m e) (class-below h e l) .kept), rw p (sym (recall-is h e calls l)))
+recalls m e {x} p n tally h l =
+    (omega (arith, p, h .each (classAt m e) (class-below h e l) .kept), rw p (sym (recall-is h e tally l)))
 
 -- ---- a result is kept
 
@@ -149,9 +150,9 @@ module _ (tag first second link : List ℕ) (n : ℕ) (h : Holds (columns tag fi
           (linked-alike m m′ n (keptAt m p) (λ i o. tree-same i) (h .each p l .kept))
       go (no q) = rw (trees-same, le-ltb (place (equal v) (trees m n)) n (omega (arith, q))) refl
 
-  kept-answer : (calls : ℕ) → gives (treeAt m′ r) (stateOf m′ n calls) ≡ gives (treeAt m r) (keep te (treeAt m r) (stateOf m n calls))
+  kept-answer : (tally : Tally) → gives (treeAt m′ r) (stateOf m′ n tally) ≡ gives (treeAt m r) (keep te (treeAt m r) (stateOf m n tally))
   unfolding keep
-  kept-answer calls =
+  kept-answer tally =
       let f : keptFor m′ n ≡ (λ v. cond (equal te v) (result (treeAt m r)) (keptFor m n v)) = fun-ext λ v. kept-here v (equal te v) refl in
       rw (tree-same r, room-same, trees-same, f) refl
 
@@ -163,7 +164,7 @@ keeps m e r {m′} x desk h le lr =
     let s : Sound (record { rows = keptBy m e r; desk = desk }) = record { holds = k; long = h .long } in
     rw x
     (record {
-      answer = seen-node r (record { rows = keptBy m e r; desk = desk }) (number-small h lr) ∙ kept-answer (m .tag) (m .first) (m .second) (m .link) n (h .holds) e r le lr (callsOn desk);
+      answer = seen-node r (record { rows = keptBy m e r; desk = desk }) (number-small h lr) ∙ kept-answer (m .tag) (m .first) (m .second) (m .link) n (h .holds) e r le lr (tallyOn desk);
       inside = λ _. lr;
       step = record { sound = s; grew = omega arith; stays = λ i o. tree-same (m .tag) (m .first) (m .second) (m .link) n (h .holds) e r le lr i };
     })
@@ -180,5 +181,5 @@ holds-none m = record {
 }
 
 pub starts : {desk desk′ : List ℕ} → desk′ ≡ replicate 272 0 → (store : List (List ℕ)) → Begun (lent store desk) (lent store desk′)
-unfolding stateIn trees keptFor count callsOn place
+unfolding stateIn trees keptFor count callsOn marksOn place noMarks
 starts y store = rw y (record { sound = record { holds = holds-none (memory store); long = refl }; begins = refl })

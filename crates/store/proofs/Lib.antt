@@ -9,6 +9,7 @@ mod Packing
 pub mod Seeking
 mod Links
 pub mod Rows
+pub mod Noting
 pub mod Building
 pub mod Asking
 mod Growing

@@ -22,7 +22,7 @@ use Rattle.expression.proofs.OneNode.{ByTree, one-node}
 use Rattle.store.specs.Nodes.{fieldsOf}
 use Rattle.store.specs.Storing.{State, state, Answer, gives, refused, andThen, among, intern, place}
 use Rattle.store.specs.Memory.{Memory, memory, column, classAt, trees, treeAt, treeOf, linked}
-use Rattle.store.specs.Desk.{count, callsOn, needOn, refusalOn, refusedFrom, Asks}
+use Rattle.store.specs.Desk.{count, callsOn, marksOn, needOn, refusalOn, refusedFrom, Asks, Notes}
 use Rattle.store.specs.Index.{keyOf}
 use Rattle.store.specs.Held.{Holds, Lent, stateIn, Sound, Built, Builds, Adds, Keeps, Recalls, Compares, Begun}
 use Rattle.store.specs.Walk.{Walked}
@@ -94,7 +94,7 @@ complete-if false x y p q = q
 
 pub complete-stored : (t : Tree) (σ : State) → Complete (intern t σ)
 unfolding intern
-complete-stored t (state room stored kept calls) =
+complete-stored t (state room stored kept tally) =
     complete-if (among stored t) _ _ tt
     (complete-if (ltb largest (size t)) _ _ (λ e. (let z : _≡_ {A = ℕ} 0 1 = cc in omega arith))
     (complete-if (ltb deepest (depth t)) _ _ (λ e. (let z : _≡_ {A = ℕ} 0 1 = cc in omega arith))
@@ -122,8 +122,8 @@ module _ {m : Memory} {n : ℕ} (h : Holds m n) where
 
   pub one-recalled : (e r r′ : ℕ) → e < n → Recalls m e r → Recalls m e r′ → r ≡ r′
   one-recalled e r r′ l p q =
-      let a = p n 0 h l in
-      let b = q n 0 h l in
+      let a = p n (record { calls = 0; marks = [] }) h l in
+      let b = q n (record { calls = 0; marks = [] }) h l in
       one-link r r′ (a .0) (b .0) (a .1 ∙ sym (b .1))
 
   pub one-compared : (a b : ℕ) {r r′ : Bool} → a < n → b < n → Compares m a b r → Compares m a b r′ → r ≡ r′
@@ -145,9 +145,15 @@ module _ {m : Memory} {n : ℕ} (h : Holds m n) where
 
 pub one-asked : {operation : Operation} {x y : Complex} {r r′ : ℕ} {desk desk₁ desk₂ : List ℕ} → length desk ≡ deskWords
     → Asks operation x y r desk desk₁ → Asks operation x y r′ desk desk₂
-    → (r ≡ r′) × (needOn desk₁ ≡ needOn desk₂) × (count desk₁ ≡ count desk₂) × (callsOn desk₁ ≡ callsOn desk₂)
+    → (r ≡ r′) × (needOn desk₁ ≡ needOn desk₂) × (count desk₁ ≡ count desk₂) × (callsOn desk₁ ≡ callsOn desk₂) × (marksOn desk₁ ≡ marksOn desk₂)
 one-asked l p q =
-    (p .answer ∙ sym (q .answer), p .need l ∙ sym (q .need l), p .alike .counted ∙ sym (q .alike .counted), p .alike .called ∙ sym (q .alike .called))
+    (p .answer ∙ sym (q .answer), p .need l ∙ sym (q .need l), p .alike .counted ∙ sym (q .alike .counted), p .alike .called ∙ sym (q .alike .called), p .alike .marked ∙ sym (q .alike .marked))
+
+-- ---- `note`: what is read of the desk besides what a refusal carries
+
+pub one-noted : {first second : ℕ} {desk desk₁ desk₂ : List ℕ} → Notes first second desk desk₁ → Notes first second desk desk₂
+    → (count desk₁ ≡ count desk₂) × (callsOn desk₁ ≡ callsOn desk₂) × (marksOn desk₁ ≡ marksOn desk₂)
+one-noted p q = (p .counted ∙ sym (q .counted), p .called ∙ sym (q .called), p .marked ∙ sym (q .marked))
 
 -- ---- the rows: `put_row`, `put_link` and `enter` say what the four lists are, and four words a row are no more than these
 

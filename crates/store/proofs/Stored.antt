@@ -119,7 +119,7 @@ state-in (gives t σ) = σ
 state-in (refused why σ) = σ
 
 stored-in : State → List Tree
-stored-in (state room stored kept calls) = stored
+stored-in (state room stored kept tally) = stored
 
 why-in : Answer → Refusal
 why-in (gives t σ) = Refusal.Incomplete

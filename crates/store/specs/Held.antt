@@ -12,10 +12,10 @@ use Rattle.expression.specs.Limits.{Limited}
 use Rattle.expression.specs.declared.node.Expression.{Expression}
 use Rattle.store.specs.Nodes.{fieldsOf}
 use Rattle.expression.specs.Nodes.{Within}
-use Rattle.store.specs.Storing.{State, Answer, gives, refused, intern, keep, recall, fresh, place}
+use Rattle.store.specs.Storing.{Tally, State, Answer, gives, refused, intern, keep, recall, fresh, place}
 use Rattle.store.specs.Memory.{Memory, memory, room, fieldsAt, sizeAt, depthAt, homeAt, classAt, keptAt, nextAt, expressionAt, trees, treeAt, treeOf, linked, stateOf}
 use Rattle.store.specs.Index.{bucketAt, headFor, latest}
-use Rattle.store.specs.Desk.{count, callsOn, refusalOn, refusedFrom}
+use Rattle.store.specs.Desk.{count, tallyOn, refusalOn, refusedFrom}
 
 -- what is right of node k, one of n
 pub record Right (m : Memory) (n k : ℕ) : Type 0 where
@@ -48,7 +48,7 @@ abbrev pub treeIn : Lent → ℕ → Tree
 treeIn l k = treeAt (l .rows) k
 
 unfoldable pub stateIn : Lent → State
-stateIn l = stateOf (l .rows) (count (l .desk)) (callsOn (l .desk))
+stateIn l = stateOf (l .rows) (count (l .desk)) (tallyOn (l .desk))
 
 -- what is lent holds a store
 pub record Sound (l : Lent) : Type 0 where
@@ -92,13 +92,13 @@ Keeps m m′ e r =
 
 -- r is 0 or the number, plus one, of the node that is kept for the tree of e
 abbrev pub Recalls : (m : Memory) (e r : ℕ) → Type 0
-Recalls m e r = (n calls : ℕ) → Holds m n → e < n → (r ≤ n) × (linked m r ≡ recall (treeAt m e) (stateOf m n calls))
+Recalls m e r = (n : ℕ) (tally : Tally) → Holds m n → e < n → (r ≤ n) × (linked m r ≡ recall (treeAt m e) (stateOf m n tally))
 
 -- r says whether the trees of a and b are equal
 abbrev pub Compares : (m : Memory) (a b : ℕ) (r : Bool) → Type 0
 Compares m a b r = (n : ℕ) → Holds m n → a < n → b < n → r ≡ equal (treeAt m a) (treeAt m b)
 
--- there is a store with no node and nothing kept, with as much room, and no call was made
+-- there is a store with no node, nothing kept and nothing marked, with as much room, and no call was made
 pub record Begun (l l′ : Lent) : Type 0 where
   pub sound : Sound l′
   pub begins : stateIn l′ ≡ fresh (room (l .rows)) 0

@@ -11,7 +11,7 @@ use Rattle.store.specs.declared.node.Fields.{Fields}
 use Rattle.store.specs.Words.{codeIn, sizeIn, depthIn, homeIn, headIn, classIn, keptIn, nextIn}
 use Rattle.store.specs.Nodes.{fields, expressionOf}
 use Rattle.expression.specs.Nodes.{grown}
-use Rattle.store.specs.Storing.{Kept, nothing, result, State, state, place}
+use Rattle.store.specs.Storing.{Kept, nothing, result, Tally, State, state, place}
 
 -- the nodes, a list for each of the four words of a row
 pub record Memory : Type 0 where
@@ -117,5 +117,5 @@ module _ (m : Memory) where
   unfoldable pub keptFor : ℕ → Tree → Kept
   keptFor n t = cond (ltb (place (equal t) (trees n)) n) (linked (keptAt (place (equal t) (trees n)))) nothing
 
-  abbrev pub stateOf : (n calls : ℕ) → State
-  stateOf n calls = state room (trees n) (keptFor n) calls
+  abbrev pub stateOf : (n : ℕ) → Tally → State
+  stateOf n tally = state room (trees n) (keptFor n) tally

@@ -2,13 +2,15 @@
 // plain integer: the number of a node, or REFUSED and the number of a refusal, of which the desk has what it carries.
 ghost use mathlib.Core.Path.{_≡_};
 ghost use Prim.Native.Nat.{_-_};
-ghost use Rattle.store.specs.Desk.{count, callsOn, withCount, withCalls, refusedFrom, needOn, refusalOn, Asks};
+ghost use Rattle.store.specs.Desk.{count, callsOn, withCount, withCalls, withMark, refusedFrom, needOn, refusalOn, Asks, Notes};
 use complex::Complex;
 use complex::bits::from_bits;
 use complex::bits::to_bits;
 use expression::refusal::Operation;
 use expression::refusal::Refusal;
 use memory::layout::DESK_WORDS;
+use memory::layout::MARKS_FROM;
+use memory::put;
 
 // No node has this number.
 pub const REFUSED: usize = 65536;
@@ -37,6 +39,28 @@ pub fn set_calls(desk: &mut [u64; DESK_WORDS], calls: u64)
     ensures { λ _. ⌜ now (desk .exit) ≡ withCalls (now (desk .entry)) calls ⌝ }
 {
     desk[1] = calls;
+}
+
+// The marks of up to two t rows become 1. A row is given by its number plus one; 0 says none, and past the last there is none.
+pub fn note(desk: &mut [u64; DESK_WORDS], first: usize, second: usize)
+    ensures { λ _. ⌜ Notes first second (now (desk .entry)) (now (desk .exit)) ⌝ }
+{
+    mark_row(desk, first);
+    mark_row(desk, second);
+}
+
+fn mark_row(desk: &mut [u64; DESK_WORDS], row: usize)
+    ensures { λ _. ⌜ now (desk .exit) ≡ withMark (now (desk .entry)) row ⌝ }
+{
+    if row == 0 {
+        return;
+    }
+    let word = if row < DESK_WORDS {
+        MARKS_FROM + (row - 1)
+    } else {
+        DESK_WORDS
+    };
+    put(desk, word, 1);
 }
 
 // NEED, with the operation and the operands on the desk.

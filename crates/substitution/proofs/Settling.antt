@@ -36,7 +36,7 @@ is-either t false x y p q = q
 
 interned : (t : Tree) (s : State) → Is t (intern t s)
 unfolding intern Is
-interned t (state room stored kept calls) =
+interned t (state room stored kept tally) =
     is-either t (among stored t) _ _ refl
     (is-either t (ltb largest (size t)) _ _ tt
     (is-either t (ltb deepest (depth t)) _ _ tt

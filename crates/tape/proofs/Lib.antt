@@ -6,5 +6,9 @@ pub mod Depth
 pub mod Prefixes
 pub mod Emitting
 pub mod Stacks
+pub mod Marking
 pub mod Standing
+pub mod SameRows
+pub mod Asking
+pub mod Unused
 pub mod OneAnswer

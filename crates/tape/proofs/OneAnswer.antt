@@ -12,17 +12,17 @@ use Rattle.sheet.specs.Table.{rowsOf, Held}
 use Rattle.evaluation.specs.declared.Evaluation.{Evaluation}
 use Rattle.tape.specs.declared.Picked.{Picked}
 use Rattle.tape.specs.Tapes.{picked, Own}
-use Rattle.tape.specs.Playing.{played}
-use Rattle.tape.specs.Run.{Compiles}
+use Rattle.tape.specs.Run.{Compiles, Plays}
 
 -- answer and output bytes
 pub one-compiled : {m : Memory} {root nodes : ℕ} {r r′ : Written} (out : List ℕ) {out₁ out₂ : List ℕ} → Holds m nodes → root < nodes
     → Compiles m root nodes r out out₁ → Compiles m root nodes r′ out out₂ → _≡_ {A = Written × List ℕ} (r, out₁) (r′, out₂)
 one-compiled out h l p q = p h l ∙ sym (q h l)
 
-pub one-played : (tape : List ℕ) {table : List ℕ} {rows : Counts} {r r′ : Evaluation} → Held table rows
-    → (Held table rows → r ≡ played (rowsOf table rows) tape) → (Held table rows → r′ ≡ played (rowsOf table rows) tape) → r ≡ r′
-one-played tape t p q = p t ∙ sym (q t)
+pub one-played : (tape : List ℕ) {table : List ℕ} {rows : Counts} {r r′ : Evaluation} {marks marks₁ marks₂ : List ℕ} → Held table rows
+    → (Held table rows → Plays (rowsOf table rows) tape r marks marks₁) → (Held table rows → Plays (rowsOf table rows) tape r′ marks marks₂)
+    → _≡_ {A = Evaluation × List ℕ} (r, marks₁) (r′, marks₂)
+one-played tape t p q = λ i. ((p t .value ∙ sym (q t .value)) i, (p t .marked ∙ sym (q t .marked)) i)
 
 pub one-which : (a b : List ℕ) {r r′ : Picked} → r ≡ picked a b → r′ ≡ picked a b → r ≡ r′
 one-which a b p q = p ∙ sym q

@@ -183,7 +183,7 @@ module _ {bs : List ℕ} {i depth : ℕ} (h : Left bs i depth) (l : i < count bs
 
   module _ (rows : Rows) (xs : List Complex) (r : Same rows bs i xs depth) (y : Complex) {value : Evaluation} (q : suc (depth - k) < 64 → y ≡ getD xs (suc (depth - k)) filler)
       (v : value ≡ valueOf rows s (getD xs (depth - k) filler) y) where
-    reads : value ≡ valueOf rows s (getD xs (depth - takes s) filler) (getD xs (suc (depth - takes s)) filler)
+    pub reads : value ≡ valueOf rows s (getD xs (depth - takes s) filler) (getD xs (suc (depth - takes s)) filler)
     reads =
         let a : getD xs (depth - k) filler ≡ getD xs (depth - takes s) filler = ap (λ j. getD xs (depth - j) filler) w in
         let b : suc (depth - takes s) < 64 → y ≡ getD xs (suc (depth - takes s)) filler = subst (λ j. suc (depth - j) < 64 → y ≡ getD xs (suc (depth - j)) filler) w q in

@@ -20,7 +20,10 @@ use Rattle.tape.specs.declared.Checked.{Checked}
 use Rattle.tape.specs.Tapes.{tape, count, stepsIn, takes, check}
 use Rattle.tape.specs.Playing.{stands, andThen, step, run}
 use Rattle.tape.specs.Run.{filler, stackOf, valueOf}
+use Rattle.memory.specs.Marks.{noted}
+use Rattle.tape.specs.Using.{usedInRun}
 use Rattle.tape.proofs.Checking.{all-left}
+use Rattle.tape.proofs.Marking.{Marking}
 use Rattle.tape.proofs.Prefixes.{AtMost, run-append, tape-prefix}
 use Rattle.tape.proofs.Stacks.{stack-length, Left, leftSteps, Same, left-begins, next-left, player-leaves}
 
@@ -74,14 +77,22 @@ module _ {bs : List ℕ} {i depth : ℕ} (h : Left bs i depth) (l : i < count bs
 
 -- ---- the loop
 
-pub record Going (table : List ℕ) (rows : Counts) (bs : List ℕ) (i : ℕ) (xs : List Complex) (depth : ℕ) : Type 0 where
+pub record Going (table : List ℕ) (rows : Counts) (bs : List ℕ) (i : ℕ) (xs : List Complex) (depth : ℕ) (marks₀ marks : List ℕ) : Type 0 where
   pub left : Left bs i depth
   pub long : length xs ≡ 64
   pub stood : Held table rows → Stood (rowsOf table rows) bs i xs depth
+  pub marking : Held table rows → Marking (rowsOf table rows) bs i xs depth marks₀ marks
 
-pub played-begins : (table : List ℕ) (rows : Counts) (bs : List ℕ) {xs : List Complex} → check bs ≡ Checked.Sound → length xs ≡ 64 → Going table rows bs 0 xs 0
-played-begins table rows bs {xs} e l = record { left = left-begins bs e; long = l; stood = λ h. stood-begins (rowsOf table rows) bs xs }
+pub played-begins : (table : List ℕ) (rows : Counts) (bs marks : List ℕ) {xs : List Complex} → check bs ≡ Checked.Sound → length xs ≡ 64 → Going table rows bs 0 xs 0 marks marks
+unfolding stackOf
+played-begins table rows bs marks {xs} e l = record {
+  left = left-begins bs e;
+  long = l;
+  stood = λ h. stood-begins (rowsOf table rows) bs xs;
+  marking = λ h. record { comes = ap (λ fs. noted (usedInRun (rowsOf table rows) (map stepOf fs) []) marks) (all-left (count bs) bs) };
+}
 
-pub player-goes : {table : List ℕ} {rows : Counts} {bs : List ℕ} {i j depth depth′ : ℕ} {xs : List Complex} (slot : ℕ) (z : Complex) → Going table rows bs i xs depth → Left bs j depth′
-    → (Held table rows → Stood (rowsOf table rows) bs j (set xs slot z) depth′) → Going table rows bs j (set xs slot z) depth′
-player-goes {xs = xs} slot z g l s = record { left = l; long = length-set xs slot z ∙ g .long; stood = s }
+pub player-goes : {table : List ℕ} {rows : Counts} {bs : List ℕ} {i j depth depth′ : ℕ} {xs : List Complex} {marks₀ marks marks′ : List ℕ} (slot : ℕ) (z : Complex) → Going table rows bs i xs depth marks₀ marks → Left bs j depth′
+    → (Held table rows → Stood (rowsOf table rows) bs j (set xs slot z) depth′) → (Held table rows → Marking (rowsOf table rows) bs j (set xs slot z) depth′ marks₀ marks′)
+    → Going table rows bs j (set xs slot z) depth′ marks₀ marks′
+player-goes {xs = xs} slot z g l s m = record { left = l; long = length-set xs slot z ∙ g .long; stood = s; marking = m }

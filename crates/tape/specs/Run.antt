@@ -13,14 +13,20 @@ use Rattle.store.specs.Memory.{Memory, treeAt}
 use Rattle.store.specs.Held.{Holds}
 use Rattle.text.specs.Put.{Put}
 use Rattle.writing.specs.declared.Written.{Written}
+use Rattle.memory.specs.Marks.{noted}
+use Rattle.sheet.specs.declared.Found.{Found}
 use Rattle.sheet.specs.Rows.{Rows, Lookup, found, missing}
+use Rattle.sheet.specs.Table.{seenFound}
 use Rattle.evaluation.specs.declared.Evaluation.{Evaluation}
 use Rattle.evaluation.specs.Evaluating.{calculateFunction, calculateInfix, calculatePrefix, leafValue}
+use Rattle.evaluation.specs.Using.{usedByFunction, usedByInfix}
 use Rattle.steps.specs.declared.Step.{Step}
 use Rattle.steps.specs.declared.Fields.{Fields}
 use Rattle.steps.specs.Steps.{encoded, stepOf}
 use Rattle.tape.specs.declared.Checked.{Checked}
 use Rattle.tape.specs.Tapes.{tape, compiled, after, allowed}
+use Rattle.tape.specs.Playing.{played}
+use Rattle.tape.specs.Using.{usedPlaying}
 
 -- ---- compiling
 
@@ -96,3 +102,23 @@ asks (Step.Infix InfixOperator.Minus) = false
 asks (Step.Infix InfixOperator.Star) = false
 asks (Step.Infix InfixOperator.Slash) = false
 asks (Step.Infix InfixOperator.Caret) = true
+
+-- the rows that a step uses at these values
+unfoldable pub usedAt : Rows → Step → (x y : Complex) → List ℕ
+usedAt rows (Step.Number z) x y = []
+usedAt rows Step.Pi x y = []
+usedAt rows (Step.Variable v) x y = []
+usedAt rows (Step.Memory region index) x y = []
+usedAt rows (Step.Function f) x y = usedByFunction rows f x
+usedAt rows (Step.Prefix o) x y = []
+usedAt rows (Step.Infix o) x y = usedByInfix rows o x y
+
+-- a step's value, as far as there is one, and its rows marked
+pub record Values (rows : Rows) (s : Step) (x y : Complex) (r : Found) (marks marks′ : List ℕ) : Type 0 where
+  pub value : seenFound r ≡ seenValue (valueOf rows s x y)
+  pub marked : marks′ ≡ noted (usedAt rows s x y) marks
+
+-- what a tape plays, and the rows that it uses marked
+pub record Plays (rows : Rows) (tape : List ℕ) (r : Evaluation) (marks marks′ : List ℕ) : Type 0 where
+  pub value : r ≡ played rows tape
+  pub marked : marks′ ≡ noted (usedPlaying rows tape) marks

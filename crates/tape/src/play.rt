@@ -1,4 +1,5 @@
-// Playing a sound tape: a stack of 64 complex numbers, and a step after another up to the first lack.
+// Playing a sound tape: a stack of 64 complex numbers, and a step after another up to the first lack. The rows of the sheet that were used are
+// marked.
 ghost use mathlib.Core.Path.{_≡_};
 ghost use mathlib.Core.Bool.{true, false};
 ghost use Prim.Native.Nat.{suc, _<_};
@@ -9,8 +10,8 @@ ghost use Rattle.evaluation.specs.declared.Evaluation.{Evaluation as Answer};
 ghost use Rattle.steps.specs.Steps.{stepOf};
 ghost use Rattle.tape.specs.declared.Checked.{Checked};
 ghost use Rattle.tape.specs.Tapes.{check};
-ghost use Rattle.tape.specs.Playing.{played};
-ghost use Rattle.tape.specs.Run.{valueOf, seenValue, asks};
+ghost use Rattle.evaluation.specs.Run.{Answers};
+ghost use Rattle.tape.specs.Run.{valueOf, usedAt, seenValue, asks, Values, Plays};
 use super::taken;
 use complex::Complex;
 use complex::add;
@@ -20,13 +21,16 @@ use complex::constants::zero;
 use complex::div;
 use complex::mul;
 use complex::sub;
+use evaluation::Asked;
 use evaluation::Evaluation;
 use evaluation::calculate::calculate_function;
 use evaluation::calculate::calculate_infix;
 use evaluation::calculate::calculate_prefix;
+use evaluation::note;
 use expression::ExpressionFunction;
 use expression::InfixOperator;
 use expression::PrefixOperator;
+use memory::layout::MARKS;
 use sheet::Counts;
 use sheet::Found;
 use sheet::cell;
@@ -77,9 +81,9 @@ fn is_asked(f: Fields) -> bool
 }
 
 // What the sheet answers for a function of x, or for x ^ y.
-fn asked(table: &[u64], counts: Counts, f: Fields, x: Complex, y: Complex) -> Evaluation
+fn asked(table: &[u64], counts: Counts, f: Fields, x: Complex, y: Complex) -> Asked
     requires { ⌜ 4 < f .opcode ⌝ }
-    ensures { λ r. ⌜ (Held (now (table .entry)) counts → asks (stepOf f) ≡ true → r ≡ valueOf (rowsOf (now (table .entry)) counts) (stepOf f) x y) ⌝ }
+    ensures { λ r. ⌜ (Held (now (table .entry)) counts → asks (stepOf f) ≡ true → Answers (valueOf (rowsOf (now (table .entry)) counts) (stepOf f) x y) (usedAt (rowsOf (now (table .entry)) counts) (stepOf f) x y) r) ⌝ }
 {
     let opcode = f.opcode;
     let code = f.sub as u64;
@@ -113,17 +117,26 @@ fn arithmetic(f: Fields, x: Complex, y: Complex) -> Complex
 }
 
 // What a step puts on the stack, in place of the values x and, above it, y, as far as it takes them. An answer with more
-// cases would go through memory at every step.
-fn value_of(table: &[u64], counts: Counts, f: Fields, x: Complex, y: Complex) -> Found
+// cases would go through memory at every step. The rows are marked when they are found, also where one is lacking.
+fn value_of(
+    table: &[u64],
+    counts: Counts,
+    f: Fields,
+    x: Complex,
+    y: Complex,
+    marks: &mut [u8; MARKS],
+) -> Found
     requires { ⌜ 0 < f .opcode ⌝ }
-    ensures { λ r. ⌜ (Held (now (table .entry)) counts → seenFound r ≡ seenValue (valueOf (rowsOf (now (table .entry)) counts) (stepOf f) x y)) ⌝ }
+    ensures { λ r. ⌜ (Held (now (table .entry)) counts → Values (rowsOf (now (table .entry)) counts) (stepOf f) x y r (now (marks .entry)) (now (marks .exit))) ⌝ }
 {
     let opcode = f.opcode;
     if opcode < 5 {
         return leaf(table, counts, f);
     }
     if is_asked(f) {
-        let value = asked(table, counts, f, x, y);
+        let asked = asked(table, counts, f, x, y);
+        note(marks, asked.used);
+        let value = asked.value;
         let Evaluation::Value(z) = value else {
             return Found::Nothing;
         };
@@ -141,7 +154,8 @@ fn lack(table: &[u64], counts: Counts, f: Fields, x: Complex, y: Complex) -> Eva
     if opcode < 5 {
         return Evaluation::Incomplete;
     }
-    asked(table, counts, f, x, y)
+    let asked = asked(table, counts, f, x, y);
+    asked.value
 }
 
 // The slot above one of the 64; the last one has none and stands for itself.
@@ -152,11 +166,11 @@ fn above(slot: usize) -> usize
     if slot < 63 { slot + 1 } else { slot }
 }
 
-// Plays a sound tape under the rows of a sheet. The player stays where it is: passed by value to a function for each
-// step, its thousand bytes would be copied each time.
-pub fn play(tape: &[u8], table: &[u64], counts: Counts) -> Evaluation
+// Plays a sound tape under the rows of a sheet, and marks those that were used. The player stays where it is: passed by value to a
+// function for each step, its thousand bytes would be copied each time.
+pub fn play(tape: &[u8], table: &[u64], counts: Counts, marks: &mut [u8; MARKS]) -> Evaluation
     requires { ⌜ check (now tape) ≡ Checked.Sound ⌝ }
-    ensures { λ r. ⌜ (Held (now (table .entry)) counts → r ≡ played (rowsOf (now (table .entry)) counts) (now (tape .entry))) ⌝ }
+    ensures { λ r. ⌜ (Held (now (table .entry)) counts → Plays (rowsOf (now (table .entry)) counts) (now (tape .entry)) r (now (marks .entry)) (now (marks .exit))) ⌝ }
 {
     let count = tape.len() / 24;
     let mut player = Player {
@@ -170,7 +184,7 @@ pub fn play(tape: &[u8], table: &[u64], counts: Counts) -> Evaluation
         let next = above(slot);
         let x = player.stack[slot];
         let y = player.stack[next];
-        let found = value_of(table, counts, f, x, y);
+        let found = value_of(table, counts, f, x, y, marks);
         let Found::Value(z) = found else {
             return lack(table, counts, f, x, y);
         };

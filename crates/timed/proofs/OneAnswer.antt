@@ -41,10 +41,10 @@ one-beside one p q = one (p .answer) (q .answer) (p .allowed) (q .allowed)
 -- ---- answers with the desk as it is then: `timed_add`, `timed_read_listing`
 
 trees-in : State → List Tree
-trees-in (state room stored kept calls) = stored
+trees-in (state room stored kept tally) = stored
 
 calls-in : State → ℕ
-calls-in (state room stored kept calls) = calls
+calls-in (state room stored kept tally) = tally .calls
 
 one-count : (l l′ : Lent) → stateIn l ≡ stateIn l′ → count (l .desk) ≡ count (l′ .desk)
 unfolding trees-in stateIn

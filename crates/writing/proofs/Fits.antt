@@ -17,7 +17,7 @@ use Rattle.expression.specs.Limits.{Limited, Proper}
 use Rattle.expression.proofs.Likeness.{identical-sym, identical-trans}
 use Rattle.expression.specs.declared.node.Expression.{Expression}
 use Rattle.expression.specs.Nodes.{grown, Within}
-use Rattle.store.specs.Storing.{state, fresh, among, place, nothing}
+use Rattle.store.specs.Storing.{fresh, among, place}
 use Rattle.store.specs.Memory.{Memory, room, expressionAt, trees, treeAt, treeOf}
 use Rattle.store.specs.Held.{Holds}
 use Rattle.store.proofs.Places.{place-within, place-hit, place-first, among-no, among-yes}
@@ -27,7 +27,7 @@ use Rattle.writing.specs.Order.{once, finished, order, textOf}
 use Rattle.writing.specs.Ordering.{AllIn, Laid, empty, more}
 use Rattle.writing.proofs.Orders.{true-not-false, finished-laid}
 use Rattle.writing.proofs.Visiting.{pigeon}
-use Rattle.writing.proofs.ReadBack.{reads-back}
+use Rattle.writing.proofs.ReadBack.{storeOf, reads-back}
 
 -- ---- all below a stored tree is stored
 
@@ -135,6 +135,6 @@ module _ {m : Memory} {n root : ℕ} (h : Holds m n) (inside : root < n) where
 
   -- what was written from a store, of any node, reads back into rows with as much room
   pub written-reads-back : length (order (treeAt m root)) ≤ 1024 → (substituting : Bool) (room′ : ℕ) → room m ≤ room′
-      → listing substituting (textOf (treeAt m root)) (fresh room′ 0) ≡ accepted (treeAt m root) [] (state room′ (order (treeAt m root)) (λ u. nothing) 0)
+      → listing substituting (textOf (treeAt m root)) (fresh room′ 0) ≡ accepted (treeAt m root) [] (storeOf room′ (order (treeAt m root)))
   written-reads-back few substituting room′ as-much =
       reads-back (treeAt m root) (proper h root) (limited h root inside) substituting room′ few (omega (arith, order-room, h .fits, as-much))

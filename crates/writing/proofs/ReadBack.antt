@@ -22,6 +22,7 @@ use Rattle.expression.specs.Alike.{identical}
 use Rattle.expression.specs.Limits.{Limited, Proper, largest, deepest}
 use Rattle.expression.proofs.Numbering.{infix-back, prefix-back, function-back}
 use Rattle.expression.proofs.Likeness.{identical-same}
+use Rattle.memory.specs.Marks.{noMarks}
 use Rattle.store.specs.Storing as Storing
 use Rattle.store.specs.Storing.{State, state, fresh, among, place, intern, nothing}
 use Rattle.store.proofs.Places.{place-within, place-hit, place-old, among-no}
@@ -156,8 +157,8 @@ module _ (done later : List Tree) (propers : Propers done) where
 -- ---- a line
 
 -- the store after some lines of a written listing has just these trees
-abbrev storeOf : (room : ℕ) → List Tree → State
-storeOf room ts = state room ts (λ t. nothing) 0
+abbrev pub storeOf : (room : ℕ) → List Tree → State
+storeOf room ts = state room ts (λ t. nothing) (record { calls = 0; marks = noMarks })
 
 abbrev knownOf : (room : ℕ) → List Tree → Known
 knownOf room ts = known ts [] (storeOf room ts)
@@ -246,7 +247,7 @@ rooted-last (u ∷ ts) t σ = rw (last-is t u ts)
 -- "A listing written out reads back to the same expression, given as much work memory": where the written listing has at most 1024 lines, and there is
 -- room for its trees, reading it is accepted; the root is the tree, and the store holds its subtrees in the written order.
 pub reads-back : (t : Tree) → Proper t → Limited t → (substituting : Bool) (room : ℕ) → length (order t) ≤ 1024 → length (order t) ≤ room
-    → listing substituting (textOf t) (fresh room 0) ≡ accepted t [] (state room (order t) (λ u. nothing) 0)
+    → listing substituting (textOf t) (fresh room 0) ≡ accepted t [] (storeOf room (order t))
 unfolding listing whole
 reads-back t p l substituting room few r =
     let f = laid-follow (finished-laid t [] empty p l .0) in

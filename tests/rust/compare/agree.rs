@@ -8,6 +8,7 @@ mod forest;
 mod model;
 mod question;
 mod random;
+mod rows;
 mod rust;
 mod store;
 mod tape;
@@ -88,7 +89,7 @@ impl Tally {
 
     fn tree(&mut self, what: &'static str, nodes: &[Node]) {
         *self.trees.entry(what).or_default() += 1;
-        let case = Case { nodes: nodes.to_vec(), swaps: vec![], variables: vec![], cells: vec![] };
+        let case = Case::of(nodes);
         let rust = Rust::new(&case);
         for limit in 0..=LIMITS {
             self.run(nodes, &rust, limit);

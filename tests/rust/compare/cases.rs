@@ -37,6 +37,11 @@ pub struct Case {
 }
 
 impl Case {
+    // Lines alone.
+    pub fn of(nodes: &[Node]) -> Self {
+        Self { nodes: nodes.to_vec(), swaps: vec![], variables: vec![], cells: vec![] }
+    }
+
     fn children(&self, line: usize) -> Vec<usize> {
         match self.nodes[line] {
             Node::Function(_, c) | Node::Prefix(_, c) => vec![c],

@@ -1,10 +1,11 @@
 // One case after another: drawn, asked of the port, compared with the Rust, and counted.
 use crate::cases;
-use crate::drawing::{ROWS, out_length, question, rearranged, rows_before, rows_text};
+use crate::drawing::{ROWS, among_others, out_length, question, rearranged, rows_before, rows_text};
 use crate::model::{Hits, add_hits, all_hit, print_hits};
 use crate::port;
-use crate::question::{Answer, Kind, NEED, Question};
+use crate::question::{Answer, Kind, Question};
 use crate::random::Random;
+use crate::rows::Rows;
 use crate::rust::{Evaluated, Rust, reads_back, written};
 use crate::texts::row;
 use oracle::trace::Asked;
@@ -23,6 +24,8 @@ pub struct Tally {
     notes: BTreeMap<&'static str, u64>,
     compared: u64,
     zeros: u64,
+    marked: u64,   // rows that had to be marked
+    unmarked: u64, // and those that had not, beside them
     differ: u64,
     hits: Hits, // of the simplifier's arms
 }
@@ -70,7 +73,16 @@ impl Tally {
             }
         }
         self.compare_played(q, &got);
+        self.count_marks(q, &got);
         got.bytes
+    }
+
+    fn count_marks(&mut self, q: &Question, got: &Answer) {
+        let marked = got.marks.len();
+        if marked > 0 {
+            self.marked += marked as u64;
+            self.unmarked += (Rows::read(&q.sheet).count - marked) as u64;
+        }
     }
 
     fn evaluate(&mut self, random: &mut Random) {
@@ -94,17 +106,16 @@ impl Tally {
         let corner = evaluated.asked.iter().any(|a| a.is_corner());
         let mut rows = if corner { vec![] } else { rows_before(random, &evaluated.asked) };
         let mut text = rows_text(random, &rows, &asked);
-        let mut have: HashSet<Asked> = rows.iter().copied().collect();
         loop {
-            q.sheet = format!("{bound}{text}");
-            let expected = evaluated.answer(&have);
+            q.sheet = format!("{bound}{}", among_others(random, &rows, &text, &evaluated.asked));
+            let there = Rows::read(&q.sheet);
+            let expected = evaluated.answer(&there);
             self.compare(q, &expected);
-            if expected.number != NEED {
-                self.again(random, q, bound, &rows, &asked, &expected);
+            let Some(next) = evaluated.lacking(&there) else {
                 self.compare_interned(q, evaluated, &expected);
+                self.again(random, q, bound, &rows, evaluated);
                 return self.outcome(&expected, rows.len());
-            }
-            let next = *evaluated.asked.iter().find(|a| !have.contains(a)).expect("what is lacking");
+            };
             self.note(NEEDS[next.operation as usize - 1]);
             if next.is_corner() {
                 return "not compared: corner".into();
@@ -114,29 +125,21 @@ impl Tally {
             }
             text += &row(next, next.value());
             rows.push(next);
-            have.insert(next);
         }
     }
 
-    fn again(
-        &mut self,
-        random: &mut Random,
-        q: &mut Question,
-        bound: &str,
-        rows: &[Asked],
-        asked: &HashSet<Asked>,
-        expected: &Answer,
-    ) {
+    fn again(&mut self, random: &mut Random, q: &mut Question, bound: &str, rows: &[Asked], evaluated: &Evaluated) {
         if !rows.is_empty() && random.once_in(3) {
-            q.sheet = format!("{bound}{}", rearranged(random, rows, asked));
-            self.compare(q, expected);
+            let asked = evaluated.asked.iter().copied().collect();
+            q.sheet = format!("{bound}{}", rearranged(random, rows, &asked));
+            self.compare(q, &evaluated.answer(&Rows::read(&q.sheet)));
             self.note("sheet: rows in another order, or twice");
         }
     }
 
     // Whether the Rust makes equal nodes one must not show but in the sign of a zero.
     fn compare_interned(&mut self, q: &Question, evaluated: &Evaluated, expected: &Answer) {
-        let interned = evaluated.interned_answer();
+        let interned = Answer { marks: expected.marks.clone(), ..evaluated.interned_answer() };
         if interned == *expected {
             return;
         }
@@ -231,6 +234,7 @@ impl Tally {
         let cases: u64 = self.cases.values().sum();
         let corner: u64 = self.cases.iter().filter(|((_, o), _)| o.starts_with("not")).map(|(_, n)| n).sum();
         println!("{:>10}  calls compared, {} of them with a zero of the other sign", self.compared, self.zeros);
+        println!("{:>10}  rows marked, beside {} that were not", self.marked, self.unmarked);
         println!("{cases:>10}  cases, {} compared to the end, {corner} not", cases - corner);
         println!("{:>10}  differ", self.differ);
     }

@@ -100,6 +100,22 @@ pub fn rows_text(random: &mut Random, rows: &[Asked], asked: &HashSet<Asked>) ->
     rows.iter().map(|r| text(r, random)).collect()
 }
 
+// The same rows, whose text this is, and at times others before, between and after them, as long as a sheet has room: some that
+// nothing asks for, and some that match one above them and do not count.
+pub fn among_others(random: &mut Random, rows: &[Asked], text: &str, asked: &[Asked]) -> String {
+    let mut all: Vec<(Asked, String)> = rows.iter().copied().zip(text.split_inclusive('\n').map(String::from)).collect();
+    let others = random.pick(&[0, 0, 1, 3, 8]);
+    for _ in 0..others.min(ROWS - rows.len()) {
+        let before = random.below(all.len() + 1);
+        let other = if before > 0 && random.once_in(2) { Some(all[before - 1].0) } else { stray(random, asked) };
+        if let Some(other) = other {
+            let at = random.from(before, all.len());
+            all.insert(at, (other, row(other, random.complex(Numbers::Plane))));
+        }
+    }
+    all.into_iter().map(|(_, line)| line).collect()
+}
+
 // The same rows in another order, or with others after them that match and do not count.
 pub fn rearranged(random: &mut Random, rows: &[Asked], asked: &HashSet<Asked>) -> String {
     let mut rows = rows.to_vec();

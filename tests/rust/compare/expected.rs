@@ -1,11 +1,14 @@
-// What simplifying a case has to answer, by the model: its result or its refusal.
+// What simplifying a case has to answer, by the model: its result or its refusal, and the rows that are marked.
+use crate::cases::Case;
 use crate::model::{Model, Stop};
 use crate::question::{Answer, OUT_ROOM, Question};
+use crate::rows::Rows;
+use crate::rust::Rust;
 use crate::store::{LINES, LONG_LIST, Store};
 use crate::texts::listing;
+use crate::verdict::corner;
 use oracle::nodes::Node;
 use oracle::trace::Asked;
-use std::collections::HashSet;
 
 pub struct Expected<'a> {
     pub model: Model<'a>,
@@ -30,7 +33,7 @@ pub fn expected<'a>(
     limit: u64,
     capacity: usize,
     out: usize,
-    rows: Option<&'a HashSet<Asked>>,
+    rows: Option<&'a Rows>,
 ) -> Expected<'a> {
     let mut model = Model::new(Store::new(capacity), rows);
     let answer = match model.run(nodes, limit) {
@@ -38,9 +41,19 @@ pub fn expected<'a>(
         Err(Stop::Refused(number)) => Answer::refusal(number),
         Err(Stop::Need(asked)) => Answer::need(asked),
     };
+    let answer = answer.marked(model.used.clone());
     Expected { model, answer }
 }
 
-pub fn expected_of<'a>(q: &Question, nodes: &[Node], rows: Option<&'a HashSet<Asked>>) -> Expected<'a> {
+pub fn expected_of<'a>(q: &Question, nodes: &[Node], rows: Option<&'a Rows>) -> Expected<'a> {
     expected(nodes, q.limit(), q.capacity(), q.out, rows)
+}
+
+// What the Rust asks for, in its order, where the model has all rows and comes to a result; in a corner, and where it does not, what
+// the model asks for.
+pub fn asked_by_the_rust(full: &Expected, nodes: &[Node], limit: u64) -> Vec<Asked> {
+    if full.answer.number != 0 || corner(&full.model).is_some() {
+        return full.model.asks.list.clone();
+    }
+    Rust::new(&Case::of(nodes)).simplified(limit).1.asks.list
 }

@@ -12,6 +12,7 @@ mod model;
 mod port;
 mod question;
 mod random;
+mod rows;
 mod rust;
 mod store;
 mod tape;

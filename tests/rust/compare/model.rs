@@ -1,13 +1,14 @@
 // Simplifying as the rules say it, as plainly as can be, over the plain store: the result, the number of calls, which
-// function values are asked for, what is refused, and how often each arm was taken.
+// function values are asked for and which rows are used, what is refused, and how often each arm was taken.
 use crate::arithmetic::{function_value, infix_value, negated, real};
+use crate::rows::Rows;
 use crate::store::{Store, children};
 use crate::zero::{is_one, is_zero};
 use num_complex::Complex64;
 use oracle::expression::{ExpressionFunction, InfixOperator, PrefixOperator};
 use oracle::nodes::Node;
 use oracle::trace::{Asked, Asks, Operation};
-use std::collections::{BTreeMap, HashMap, HashSet};
+use std::collections::{BTreeMap, BTreeSet, HashMap};
 use std::f64::consts::PI;
 
 // Why simplifying ends without a result.
@@ -58,8 +59,9 @@ pub fn print_hits(hits: &Hits) {
 
 pub struct Model<'a> {
     pub store: Store,
-    rows: Option<&'a HashSet<Asked>>, // those that a sheet has, or all
-    kept: HashMap<usize, usize>,      // by class
+    rows: Option<&'a Rows>,      // those that a sheet has, or all
+    pub used: BTreeSet<usize>,   // of a sheet's
+    kept: HashMap<usize, usize>, // by class
     pub calls: u64,
     pub asks: Asks,
     pub hits: Hits,
@@ -69,9 +71,9 @@ pub struct Model<'a> {
 use InfixOperator::{Caret, Minus, Plus, Slash, Star};
 
 impl<'a> Model<'a> {
-    pub fn new(store: Store, rows: Option<&'a HashSet<Asked>>) -> Self {
-        let (kept, hits, asks) = (HashMap::new(), Hits::new(), Asks::default());
-        Self { store, rows, kept, calls: 0, asks, hits, at_the_border: false }
+    pub fn new(store: Store, rows: Option<&'a Rows>) -> Self {
+        let (used, kept, hits, asks) = (BTreeSet::new(), HashMap::new(), Hits::new(), Asks::default());
+        Self { store, rows, used, kept, calls: 0, asks, hits, at_the_border: false }
     }
 
     // Reads a listing and simplifies its last line.
@@ -138,7 +140,10 @@ impl<'a> Model<'a> {
     fn ask(&mut self, operation: Operation, x: Complex64, y: Complex64) -> Result<Complex64, Stop> {
         let asked = Asked::new(operation, x, y);
         self.asks.note(asked);
-        if self.rows.is_none_or(|rows| rows.contains(&asked)) { Ok(asked.value()) } else { Err(Stop::Need(asked)) }
+        let Some(rows) = self.rows else { return Ok(asked.value()) };
+        let (number, value) = rows.find(asked).ok_or(Stop::Need(asked))?;
+        self.used.insert(number);
+        Ok(value)
     }
 
     // Simplifying.

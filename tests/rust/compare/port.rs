@@ -1,5 +1,6 @@
 // The proved port, called as C calls it. Around each lent slice stand words that have to stay as they are.
 use crate::question::{Answer, Kind, NEED, Question};
+use std::collections::BTreeSet;
 
 pub mod tape;
 
@@ -23,6 +24,15 @@ unsafe extern "C" {
         store: *mut [u64; 4], rows: usize, desk: *mut u64, table: *mut u64,
         out: *mut u8, out_length: usize, answer: *mut u64,
     ) -> u64;
+    fn findavoreb_evaluate_marked(
+        listing: *const u8, listing_length: usize, sheet: *const u8, sheet_length: usize,
+        store: *mut [u64; 4], rows: usize, desk: *mut u64, table: *mut u64, answer: *mut u64, marks: *mut u8,
+    ) -> u64;
+    fn findavoreb_simplify_marked(
+        listing: *const u8, listing_length: usize, sheet: *const u8, sheet_length: usize, limit: u64,
+        store: *mut [u64; 4], rows: usize, desk: *mut u64, table: *mut u64,
+        out: *mut u8, out_length: usize, answer: *mut u64, marks: *mut u8,
+    ) -> u64;
     fn findavoreb_compile(
         listing: *const u8, listing_length: usize,
         store: *mut [u64; 4], rows: usize, desk: *mut u64, table: *mut u64,
@@ -33,6 +43,7 @@ unsafe extern "C" {
 const DESK: usize = 272;
 const TABLE: usize = 4608;
 const ANSWER: usize = 6;
+const MARKS: usize = 256;
 const EDGE: usize = 4; // words, or bytes, before and after a slice
 const BLANK: u8 = 0xA5;
 
@@ -82,6 +93,28 @@ impl Paper {
     }
 }
 
+// Marks, which are always written whole.
+struct Marks(Paper);
+
+impl Marks {
+    fn new() -> Self {
+        Self(Paper::new(MARKS))
+    }
+
+    fn lent(&mut self) -> *mut u8 {
+        self.0.lent().as_mut_ptr()
+    }
+
+    // The rows that are marked.
+    fn rows(&self) -> Result<BTreeSet<usize>, &'static str> {
+        let marks = self.0.written(MARKS).ok_or("bytes beside the marks were changed")?;
+        if marks.iter().any(|mark| *mark > 1) {
+            return Err("a mark is neither 0 nor 1");
+        }
+        Ok((0..MARKS).filter(|row| marks[*row] == 1).collect())
+    }
+}
+
 // The work memory. The rows stand one after another, four words each.
 struct Work {
     store: Words,
@@ -96,27 +129,33 @@ impl Work {
     }
 }
 
-// Rust's empty slices have no address of their own; all the same it is not null.
+// Rust's empty slices have no address of their own; all the same it is not null. With marks where some are lent.
 #[rustfmt::skip]
-fn call(q: &Question, work: &mut Work, paper: &mut Paper, answer: &mut Words) -> u64 {
+fn call(q: &Question, work: &mut Work, paper: &mut Paper, answer: &mut Words, marks: Option<&mut Marks>) -> u64 {
     let (text, length) = (q.listing.as_ptr(), q.listing.len());
     let (store, rows) = (work.store.lent().as_mut_ptr().cast(), q.rows);
     let (desk, table) = (work.desk.lent().as_mut_ptr(), work.table.lent().as_mut_ptr());
     let (sheet, sheet_length) = (q.sheet.as_ptr(), q.sheet.len());
     let (out, out_length, answer) = (paper.lent().as_mut_ptr(), q.out, answer.lent().as_mut_ptr());
     unsafe {
-        match q.kind {
-            Kind::Evaluate => {
+        match (q.kind, marks) {
+            (Kind::Evaluate, None) => {
                 findavoreb_evaluate(text, length, sheet, sheet_length, store, rows, desk, table, answer)
             }
-            Kind::Substitute => {
-                findavoreb_substitute(text, length, store, rows, desk, table, out, out_length, answer)
-            }
-            Kind::Simplify(limit) => findavoreb_simplify(
+            (Kind::Evaluate, Some(marks)) => findavoreb_evaluate_marked(
+                text, length, sheet, sheet_length, store, rows, desk, table, answer, marks.lent(),
+            ),
+            (Kind::Simplify(limit), None) => findavoreb_simplify(
                 text, length, sheet, sheet_length, limit, store, rows, desk, table, out, out_length, answer,
             ),
-            Kind::ToReal => findavoreb_to_real(text, length, store, rows, desk, table, answer),
-            Kind::Compile => {
+            (Kind::Simplify(limit), Some(marks)) => findavoreb_simplify_marked(
+                text, length, sheet, sheet_length, limit, store, rows, desk, table, out, out_length, answer, marks.lent(),
+            ),
+            (Kind::Substitute, _) => {
+                findavoreb_substitute(text, length, store, rows, desk, table, out, out_length, answer)
+            }
+            (Kind::ToReal, _) => findavoreb_to_real(text, length, store, rows, desk, table, answer),
+            (Kind::Compile, _) => {
                 findavoreb_compile(text, length, store, rows, desk, table, out, out_length, answer)
             }
         }
@@ -136,14 +175,26 @@ fn answered(number: u64, answer: &mut Words) -> Result<Answer, &'static str> {
     if number != 0 && number != NEED && words != [0; 4] {
         return Err("words of the answer that are not used are not zero");
     }
-    Ok(Answer { number, place, words, bytes: vec![] })
+    Ok(Answer { number, place, words, ..Answer::default() })
 }
 
-// The answer, or what was wrong about the memory after the call.
+// The answer, or what was wrong about the memory after the call. What can be asked with marks is asked with them too.
 pub fn ask(q: &Question) -> Result<Answer, &'static str> {
+    let got = ask_once(q, None)?;
+    if !q.marks() {
+        return Ok(got);
+    }
+    let mut marks = Marks::new();
+    if ask_once(q, Some(&mut marks))? != got {
+        return Err("with marks the answer or the output is another one");
+    }
+    Ok(Answer { marks: marks.rows()?, ..got })
+}
+
+fn ask_once(q: &Question, marks: Option<&mut Marks>) -> Result<Answer, &'static str> {
     let (mut work, mut answer) = (Work::new(q.rows, q.junk), Words::new(ANSWER, !q.junk));
     let mut paper = Paper::new(if q.writes() { q.out } else { 0 });
-    let number = call(q, &mut work, &mut paper, &mut answer);
+    let number = call(q, &mut work, &mut paper, &mut answer, marks);
     if !work.store.is_zero() {
         return Err("the rows are not zero");
     }

@@ -1,6 +1,7 @@
 // What is asked of the port and what it answers, in the form that both sides of the comparison use.
 use crate::store::MOST;
 use oracle::trace::Asked;
+use std::collections::BTreeSet;
 
 #[derive(Clone, Copy, Debug, PartialEq, Eq)]
 pub enum Kind {
@@ -33,19 +34,24 @@ impl Question {
         matches!(self.kind, Kind::Substitute | Kind::Simplify(_) | Kind::Compile)
     }
 
+    pub fn marks(&self) -> bool {
+        matches!(self.kind, Kind::Evaluate | Kind::Simplify(_))
+    }
+
     pub fn capacity(&self) -> usize {
         self.rows.min(MOST)
     }
 }
 
 // A refusal's number or 0; the operation that NEED names, the line, or a tape's step, and after a check the number of its
-// steps; a value's bits, NEED's operands, or the number of simplify calls; the bytes.
+// steps; a value's bits, NEED's operands, or the number of simplify calls; the bytes; the t rows that are marked.
 #[derive(Clone, Debug, Default, PartialEq, Eq)]
 pub struct Answer {
     pub number: u64,
     pub place: u64,
     pub words: [u64; 4],
     pub bytes: Vec<u8>,
+    pub marks: BTreeSet<usize>,
 }
 
 pub const BAD_LIST: u64 = 1;
@@ -69,7 +75,12 @@ impl Answer {
     }
 
     pub fn need(asked: Asked) -> Self {
-        Self { number: NEED, place: asked.operation as u64, words: asked.operands, bytes: vec![] }
+        Self { number: NEED, place: asked.operation as u64, words: asked.operands, ..Self::default() }
+    }
+
+    // The same with marks, where it is one that has any: a success, NEED or INCOMPLETE.
+    pub fn marked(self, marks: BTreeSet<usize>) -> Self {
+        if [0, NEED, INCOMPLETE].contains(&self.number) { Self { marks, ..self } } else { self }
     }
 
     // The same answer with zeros of either sign as one, where it is a value.

@@ -2,6 +2,7 @@
 // adds, by the rules.
 use crate::cases::Case;
 use crate::question::{Answer, INCOMPLETE, Kind, NOT_A_NUMBER, NOT_REAL, OUT_ROOM, Question};
+use crate::rows::Rows;
 use crate::store::{MOST, Store};
 use crate::texts::{identical, in_order, listing, read_back};
 use internment::ArcIntern;
@@ -10,7 +11,7 @@ use oracle::expression::{EvaluationError, Expression, simplified};
 use oracle::nodes::{interned_trees, region_name, trees, variable_name};
 use oracle::trace::{Asked, Trace, bits};
 use oracle::watch::Watched;
-use std::collections::{HashMap, HashSet};
+use std::collections::HashMap;
 
 const LIMIT: u64 = 10; // in by_hand.rs as it is
 
@@ -127,12 +128,15 @@ impl<'a> Rust<'a> {
 }
 
 impl Evaluated {
-    // The answer where the sheet has rows for these: the first application without one is asked for.
-    pub fn answer(&self, rows: &HashSet<Asked>) -> Answer {
-        match self.asked.iter().find(|asked| !rows.contains(asked)) {
-            Some(asked) => Answer::need(*asked),
-            None => answer_of(&self.value),
-        }
+    // The first application for which the sheet has no row.
+    pub fn lacking(&self, rows: &Rows) -> Option<Asked> {
+        self.asked.iter().copied().find(|asked| !rows.has(*asked))
+    }
+
+    // The answer where the sheet has these rows: what is lacking is asked for. Marked are the rows for the applications before that.
+    pub fn answer(&self, rows: &Rows) -> Answer {
+        let answer = self.lacking(rows).map_or_else(|| answer_of(&self.value), Answer::need);
+        answer.marked(rows.found(&self.asked))
     }
 
     // What the Rust answers where equal nodes are made one.

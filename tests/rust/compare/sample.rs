@@ -1,5 +1,6 @@
 // Stores some hundreds of cases of every outcome with the Rust's answers, in the form that the program call_cases
-// reads, or says whether a file has them. The port is not asked. tests/rust/run builds it.
+// reads, and in a second file such as use rows, with the marks of these; or says whether the files have them. The port is
+// not asked. tests/rust/run builds it.
 #![allow(dead_code)] // what only the comparison uses
 mod arithmetic;
 mod cases;
@@ -8,6 +9,7 @@ mod expected;
 mod model;
 mod question;
 mod random;
+mod rows;
 mod rust;
 mod store;
 mod tape;
@@ -16,12 +18,13 @@ mod verdict;
 mod zero;
 
 use cases::{Case, arms};
-use drawing::{out_length, question, rearranged, rows_before, rows_text, simplify_question};
-use expected::{expected, expected_of};
+use drawing::{ROWS, among_others, out_length, question, rearranged, rows_before, rows_text, simplify_question};
+use expected::{Expected, asked_by_the_rust, expected, expected_of};
 use model::{Arm, Hits, Model, add_hits, print_hits};
 use oracle::trace::Asked;
 use question::{Answer, BAD_LIMIT, Kind, Question};
 use random::Random;
+use rows::Rows;
 use rust::{Rust, written};
 use std::collections::{BTreeMap, HashSet};
 use std::{env, fs, process::ExitCode};
@@ -68,6 +71,20 @@ const SIMPLIFY_WANTED: [(&str, usize); 9] = [
     ("simplify 13", 17),
 ];
 
+const MARKS_SEED: u64 = 800;
+const MARKS_LONGEST: usize = 2400; // bytes of the texts
+
+// The same of those that use rows, up to a lack or a refusal. By 2, 6 and 7 few are refused after that, and tests/c has these.
+const MARKS_WANTED: [(&str, usize); 7] = [
+    ("evaluate 0", 50),
+    ("evaluate 9", 40),
+    ("evaluate 10", 25),
+    ("simplify 0", 60),
+    ("simplify 8", 20),
+    ("simplify 9", 40),
+    ("simplify 13", 15),
+];
+
 fn letter(kind: Kind) -> char {
     match kind {
         Kind::Evaluate => 'e',
@@ -92,6 +109,16 @@ fn stored(q: &Question, expected: &Answer) -> Vec<u8> {
     bytes
 }
 
+// The same with the letter of the call with marks, and then these: a line of a bit for each row, from the first on.
+fn stored_with_marks(q: &Question, expected: &Answer) -> Vec<u8> {
+    let mut bytes = stored(q, expected);
+    bytes[0] = bytes[0].to_ascii_uppercase();
+    let digit = |k: usize| (0..4).fold(0, |digit, i| 2 * digit + u8::from(expected.marks.contains(&(4 * k + i))));
+    bytes.extend((0..ROWS / 4).flat_map(|k| format!("{:x}", digit(k)).into_bytes()));
+    bytes.push(b'\n');
+    bytes
+}
+
 fn evaluate(random: &mut Random) -> Option<(Question, Answer)> {
     let case = cases::to_evaluate(random);
     let rust = Rust::new(&case);
@@ -103,21 +130,31 @@ fn evaluate(random: &mut Random) -> Option<(Question, Answer)> {
     if evaluated.asked.len() > 120 || evaluated.asked.iter().any(|a| a.is_corner()) {
         return None;
     }
-    let (rows, have) = some_rows(random, &evaluated.asked);
-    q.sheet += &rows;
-    Some((q, evaluated.answer(&have)))
+    q.sheet += &some_rows(random, &evaluated.asked);
+    let expected = evaluated.answer(&Rows::read(&q.sheet));
+    Some((q, expected))
 }
 
 // All rows that are asked for, or some.
-fn some_rows(random: &mut Random, rows: &[Asked]) -> (String, HashSet<Asked>) {
+fn some_rows(random: &mut Random, rows: &[Asked]) -> String {
     let asked: HashSet<Asked> = rows.iter().copied().collect();
     if random.once_in(3) {
         let rows = rows_before(random, rows);
-        return (rows_text(random, &rows, &asked), rows.into_iter().collect());
+        return rows_text(random, &rows, &asked);
     }
     let again = random.once_in(4);
-    let text = if again { rearranged(random, rows, &asked) } else { rows_text(random, rows, &asked) };
-    (text, asked)
+    if again { rearranged(random, rows, &asked) } else { rows_text(random, rows, &asked) }
+}
+
+// The same for marks: in any order, among others.
+fn mixed_rows(random: &mut Random, asked: &[Asked]) -> String {
+    let mut rows = asked.to_vec();
+    random.shuffle(&mut rows);
+    if random.once_in(2) {
+        rows.truncate(random.from(1, rows.len().max(1)));
+    }
+    let text = rows_text(random, &rows, &asked.iter().copied().collect());
+    among_others(random, &rows, &text, asked)
 }
 
 fn substitute(random: &mut Random) -> Option<(Question, Answer)> {
@@ -150,13 +187,13 @@ fn simplify(random: &mut Random) -> Option<(Question, Answer, Hits)> {
     let mut q = simplify_question(random, &case.nodes, limit, full.model.store.len(), MOST);
     let exact = full.answer.bytes.len();
     q.out = if exact > 0 && random.once_in(4) { out_length(random, exact) } else { exact + random.below(100) };
-    let (rows, have) = some_rows(random, &full.model.asks.list);
-    q.sheet += &rows;
+    q.sheet += &some_rows(random, &full.model.asks.list);
     if random.once_in(40) {
         q.kind = Kind::Simplify(random.pick(&[11, 12, 1 << 32, u64::MAX]));
         return Some((q, Answer::at(BAD_LIMIT, 0), Hits::new()));
     }
-    let expected = expected_of(&q, &case.nodes, Some(&have));
+    let rows = Rows::read(&q.sheet);
+    let expected = expected_of(&q, &case.nodes, Some(&rows));
     let is_late = expected.model.calls > 0; // not while the listing is read
     if [BIG, DEEP].contains(&expected.answer.number) && !is_late {
         return None;
@@ -173,6 +210,38 @@ fn is_the_rusts(model: &Model, answer: &Answer, case: &Case, limit: u64) -> bool
         Verdict::SameIfApart | Verdict::OtherZero | Verdict::NotCompared(_) => false,
         Verdict::Differs(why) => panic!("another result in the Rust: {why}"),
     }
+}
+
+// A case for evaluating that uses rows.
+fn evaluate_with_marks(random: &mut Random) -> Option<(Question, Answer)> {
+    let case = cases::to_evaluate(random);
+    let rust = Rust::new(&case);
+    let mut q = question(random, Kind::Evaluate, &case, &rust, MOST);
+    rust.refused(&q).ok()?;
+    let evaluated = rust.evaluate();
+    if evaluated.asked.len() > 120 || evaluated.asked.iter().any(|a| a.is_corner()) {
+        return None;
+    }
+    q.sheet += &mixed_rows(random, &evaluated.asked);
+    let expected = evaluated.answer(&Rows::read(&q.sheet));
+    (!expected.marks.is_empty()).then_some((q, expected))
+}
+
+// The same for simplifying. The rows that the model uses have to be those for what the Rust asks.
+fn simplify_with_marks(random: &mut Random) -> Option<(Question, Answer)> {
+    let case = if random.once_in(20) { arms::to_refuse(random) } else { arms::to_simplify(random) };
+    let limit = if random.once_in(2) { 10 } else { random.below(10) as u64 };
+    let full = expected(&case.nodes, limit, MOST, usize::MAX, None);
+    let asks = asked_by_the_rust(&full, &case.nodes, limit);
+    let mut q = simplify_question(random, &case.nodes, limit, full.model.store.len(), MOST);
+    let exact = full.answer.bytes.len();
+    q.out = if exact > 0 && random.once_in(4) { out_length(random, exact) } else { exact + random.below(100) };
+    q.sheet += &mixed_rows(random, &asks);
+    let rows = Rows::read(&q.sheet);
+    let Expected { model, answer } = expected_of(&q, &case.nodes, Some(&rows));
+    assert_eq!(answer.marks, answer.clone().marked(rows.found(&asks)).marks, "other rows than the Rust asks for");
+    let is_compared = answer.number != 0 || is_the_rusts(&model, &answer, &case, limit);
+    (is_compared && !model.used.is_empty()).then_some((q, answer))
 }
 
 fn length(q: &Question, expected: &Answer) -> usize {
@@ -275,34 +344,53 @@ impl Sample {
         sample.of_simplifying();
         sample
     }
-}
 
-fn store(path: &str) -> ExitCode {
-    let sample = Sample::new();
-    print_hits(&sample.hits);
-    for (outcome, n) in &sample.counts {
-        println!("{n:>12}  {outcome}");
+    fn of_marks() -> Self {
+        let (mut sample, mut random) = (Self::default(), Random::new(MARKS_SEED));
+        let mut wanted: BTreeMap<&str, usize> = MARKS_WANTED.into_iter().collect();
+        while wanted.values().any(|n| *n > 0) {
+            let drawn =
+                if random.once_in(2) { evaluate_with_marks(&mut random) } else { simplify_with_marks(&mut random) };
+            let Some((q, expected)) = drawn.filter(|(q, expected)| length(q, expected) <= MARKS_LONGEST) else { continue };
+            let what = if q.kind == Kind::Evaluate { "evaluate" } else { "simplify" };
+            let name = format!("{what} {}", expected.number);
+            let Some(left) = wanted.get_mut(name.as_str()).filter(|n| **n > 0) else { continue };
+            *left -= 1;
+            *sample.counts.entry(format!("{name}, rows used")).or_default() += 1;
+            sample.file.extend(stored_with_marks(&q, &expected));
+        }
+        sample
     }
-    fs::write(path, &sample.file).expect("a file to write");
-    println!("{:>12}  cases in {} bytes", sample.counts.values().sum::<usize>(), sample.file.len());
-    ExitCode::SUCCESS
-}
 
-fn is_stored(path: &str) -> ExitCode {
-    if fs::read(path).is_ok_and(|file| file == Sample::new().file) {
-        println!("the stored sample is what the Rust gives");
-        ExitCode::SUCCESS
-    } else {
-        println!("the stored sample is NOT what the Rust gives");
-        ExitCode::FAILURE
+    fn store(&self, path: &str) {
+        for (outcome, n) in &self.counts {
+            println!("{n:>12}  {outcome}");
+        }
+        fs::write(path, &self.file).expect("a file to write");
+        println!("{:>12}  cases in {} bytes", self.counts.values().sum::<usize>(), self.file.len());
+    }
+
+    fn is_stored(&self, path: &str) -> bool {
+        let is_stored = fs::read(path).is_ok_and(|file| file == self.file);
+        println!("{path} is {}what the Rust gives", if is_stored { "" } else { "NOT " });
+        is_stored
     }
 }
 
 fn main() -> ExitCode {
     let words: Vec<String> = env::args().skip(1).collect();
     match words.iter().map(String::as_str).collect::<Vec<_>>()[..] {
-        ["--store", path] => store(path),
-        ["--check", path] => is_stored(path),
-        _ => panic!("--store FILE or --check FILE"),
+        ["--store", path, marks] => {
+            let sample = Sample::new();
+            print_hits(&sample.hits);
+            sample.store(path);
+            Sample::of_marks().store(marks);
+            ExitCode::SUCCESS
+        }
+        ["--check", path, marks] => {
+            let are_stored = [Sample::new().is_stored(path), Sample::of_marks().is_stored(marks)];
+            if are_stored == [true; 2] { ExitCode::SUCCESS } else { ExitCode::FAILURE }
+        }
+        _ => panic!("--store FILE MARKS or --check FILE MARKS"),
     }
 }

@@ -1,15 +1,16 @@
 // The tape as the rules say it, as plainly as can be: the bytes of a tree, whether bytes are sound, what playing them
-// answers, and which of two tapes is picked.
+// answers and which rows it uses, and which of two tapes is picked.
 use crate::arithmetic::{function_value, infix_value, negated, real};
 use crate::cases::{FUNCTIONS, INFIXES, PREFIXES};
 use crate::question::{Answer, BAD_TAPE, INCOMPLETE};
+use crate::rows::Rows;
 use crate::store::children;
-use crate::texts::{double, field, operation_of, place};
+use crate::texts::{double, field, place};
 use num_complex::Complex64;
 use oracle::expression::PrefixOperator;
 use oracle::nodes::Node;
 use oracle::trace::{Asked, Operation, bits};
-use std::collections::HashMap;
+use std::collections::{BTreeSet, HashMap};
 use std::f64::consts::PI;
 
 pub const STEP: usize = 24; // bytes
@@ -134,58 +135,74 @@ pub fn check_answer(tape: &[u8]) -> Answer {
 pub struct Sheet {
     variables: HashMap<u16, Complex64>,
     cells: HashMap<(u16, u32), f64>,
-    rows: HashMap<Asked, Complex64>, // the first that match
+    rows: Rows,
 }
 
 impl Sheet {
     pub fn read(text: &str) -> Self {
-        let mut sheet = Self::default();
-        let number = |re, im| Complex64::new(double(re), double(im));
+        let mut sheet = Self { rows: Rows::read(text), ..Self::default() };
         for line in text.lines() {
             match line.split('\t').collect::<Vec<_>>()[..] {
-                ["v", v, re, im] => drop(sheet.variables.insert(field(v), number(re, im))),
+                ["v", v, re, im] => drop(sheet.variables.insert(field(v), Complex64::new(double(re), double(im)))),
                 ["m", r, i, x] => drop(sheet.cells.insert((field(r), field(i)), double(x))),
-                ["t", name, a, b, c, d, re, im] => {
-                    let asked = Asked::new(operation_of(name), number(a, b), number(c, d));
-                    sheet.rows.entry(asked).or_insert(number(re, im));
-                }
+                ["t", ..] => {}
                 _ => panic!("a line of a sheet: {line}"),
             }
         }
         sheet
     }
 
-    fn ask(&self, operation: Operation, x: Complex64, y: Complex64) -> Result<Complex64, Answer> {
+    fn player(&self) -> Player<'_> {
+        Player { sheet: self, stack: vec![], used: BTreeSet::new() }
+    }
+}
+
+// What stands on the stack, and which rows were used.
+struct Player<'a> {
+    sheet: &'a Sheet,
+    stack: Vec<Complex64>,
+    used: BTreeSet<usize>,
+}
+
+impl Player<'_> {
+    fn ask(&mut self, operation: Operation, x: Complex64, y: Complex64) -> Result<Complex64, Answer> {
         let asked = Asked::new(operation, x, y);
-        self.rows.get(&asked).copied().ok_or_else(|| Answer::need(asked))
+        let (number, value) = self.sheet.rows.find(asked).ok_or_else(|| Answer::need(asked))?;
+        self.used.insert(number);
+        Ok(value)
+    }
+
+    fn pop(&mut self) -> Complex64 {
+        self.stack.pop().expect("a sound tape")
     }
 
     // What a step puts on the stack.
-    fn value(&self, node: Node, stack: &mut Vec<Complex64>) -> Result<Complex64, Answer> {
+    fn value(&mut self, node: Node) -> Result<Complex64, Answer> {
         let incomplete = || Answer::refusal(INCOMPLETE);
-        let mut pop = || stack.pop().expect("a sound tape");
         match node {
             Node::Number(z) => Ok(z),
             Node::Pi => Ok(real(PI)),
-            Node::Variable(v) => self.variables.get(&v).copied().ok_or_else(incomplete),
-            Node::Cell(r, i) => self.cells.get(&(r, i)).copied().map(real).ok_or_else(incomplete),
-            Node::Function(f, _) => function_value(f, pop(), |o, x, y| self.ask(o, x, y)),
-            Node::Prefix(PrefixOperator::Plus, _) => Ok(pop()),
-            Node::Prefix(PrefixOperator::Minus, _) => Ok(negated(pop())),
+            Node::Variable(v) => self.sheet.variables.get(&v).copied().ok_or_else(incomplete),
+            Node::Cell(r, i) => self.sheet.cells.get(&(r, i)).copied().map(real).ok_or_else(incomplete),
+            Node::Function(f, _) => {
+                let x = self.pop();
+                function_value(f, x, |o, x, y| self.ask(o, x, y))
+            }
+            Node::Prefix(PrefixOperator::Plus, _) => Ok(self.pop()),
+            Node::Prefix(PrefixOperator::Minus, _) => Ok(negated(self.pop())),
             Node::Infix(o, ..) => {
-                let (right, left) = (pop(), pop());
+                let (right, left) = (self.pop(), self.pop());
                 infix_value(left, o, right, |o, x, y| self.ask(o, x, y))
             }
         }
     }
 
-    fn play(&self, tape: &[u8]) -> Result<Complex64, Answer> {
-        let mut stack = Vec::new();
+    fn play(&mut self, tape: &[u8]) -> Result<Complex64, Answer> {
         for node in tape.chunks(STEP).map(|step| node_of(step).expect("a sound tape")) {
-            let value = self.value(node, &mut stack)?;
-            stack.push(value);
+            let value = self.value(node)?;
+            self.stack.push(value);
         }
-        Ok(stack[0])
+        Ok(self.pop())
     }
 }
 
@@ -194,10 +211,12 @@ pub fn play_answer(tape: &[u8], sheet: &Sheet) -> Answer {
     if check.number != 0 {
         return check;
     }
-    match sheet.play(tape) {
+    let mut player = sheet.player();
+    let answer = match player.play(tape) {
         Ok(z) => Answer { words: [bits(z.re), bits(z.im), 0, 0], ..Answer::default() },
         Err(lack) => lack,
-    }
+    };
+    answer.marked(player.used)
 }
 
 // ---- picking

@@ -14,7 +14,7 @@ pub enum Verdict {
 }
 
 // Which corner keeps a run from being compared.
-fn corner(model: &Model) -> Option<&'static str> {
+pub fn corner(model: &Model) -> Option<&'static str> {
     if model.asks.list.iter().any(|a| a.is_corner()) {
         return Some("corner 1 or 3");
     }

@@ -1,5 +1,4 @@
--- `evaluate` meets its contract. Assumes nothing.
-use Rattle.calls.proofs.Framing.{ends, zeroed-alike}
+-- `evaluate` meets its contract: the marks are left out. Assumes nothing.
 use borrow.Author.Needs.{needs}
 use Rattle.calls.proofs.evaluate.Statement.{statement}
 use Rattle.calls.proofs.evaluate.Tie as tie
@@ -9,6 +8,5 @@ evaluate-spec =
     tie.close
     (tie.spec
     (λ c κs. search needs)
-    (λ c κs. search needs)
     (λ c. search needs)
-    (λ c. ends _ _ (c .before .before .before .before .before .before .evaluate-texts .ensures) (c .before .clear-work .ensures) (zeroed-alike _ _ (c .before .before .before .before .before .before .evaluate-texts .kept .1 .1 .0) (c .before .before .before .before .before .before .evaluate-texts .kept .1 .1 .1 .1 .0))))
+    (λ c. let p = c .before .evaluate-marked .ensures in λ i. (p i .0 .0, p i .1)))

@@ -17,7 +17,7 @@ evaluate-texts-spec =
     (λ c. search needs)
     (λ c. search needs)
     (λ c. search needs)
-    (λ c. let j = job-holds (c .before .before .before .before .before .before .before .before .before .before .before .before .before .read-job .ensures) (c .before .before .before .before .before .before .before .before .job .given .1) in evaluates (c .before .before .before .before .before .before .before .before .before .before .before .before .before .before .before .before .before .before .before .before .args .store .now) (c .before .before .before .before .before .before .before .before .before .before .before .before .before .read-job .ensures) (c .before .before .before .before .before .before .before .before .job .given .1) (c .before .before .evaluate .ensures _ (ordered (j .1 .holds)) (j .0) (rw (c .before .before .before .before .before .standing .ensures) (j .0)) (j .2)) (c .answer-of .ensures))
+    (λ c. let j = job-holds (c .before .before .before .before .before .before .before .before .before .before .before .before .before .before .read-job .ensures) (c .before .before .before .before .before .before .before .before .before .job .given .1) in evaluates (c .before .before .before .before .before .before .before .before .before .before .before .before .before .before .before .before .before .before .before .before .before .args .store .now) (c .before .before .before .before .before .before .before .before .before .before .before .before .before .before .read-job .ensures) (c .before .before .before .before .before .before .before .before .before .job .given .1) (c .before .before .evaluate .ensures _ (ordered (j .1 .holds)) (j .0) (rw (c .before .before .before .before .before .before .standing .ensures) (j .0)) (j .2)) (c .answer-of .ensures))
     (λ c. search needs)
     (λ c. search needs)
     (λ c. evaluates-refused (c .before .before .before .before .before .before .before .before .before .before .before .before .before .args .store .now) (c .before .before .before .before .before .before .read-job .ensures) (c .before .job2 .given .1)))

@@ -12,4 +12,4 @@ simplify-spec =
     (λ c κs. search needs)
     (λ c. search needs)
     (λ c. search needs)
-    (λ c. ends _ _ (c .before .before .before .before .before .before .before .before .simplify-texts .ensures) (c .before .clear-work .ensures) (zeroed-alike _ _ (c .before .before .before .before .before .before .before .before .simplify-texts .kept .1 .1 .1 .0) (c .before .before .before .before .before .before .before .before .simplify-texts .kept .1 .1 .1 .1 .1 .0))))
+    (λ c. ends _ _ (c .before .before .before .before .before .before .before .before .simplify-texts .ensures .answer) (c .before .clear-work .ensures) (zeroed-alike _ _ (c .before .before .before .before .before .before .before .before .simplify-texts .kept .1 .1 .1 .0) (c .before .before .before .before .before .before .before .before .simplify-texts .kept .1 .1 .1 .1 .1 .0))))

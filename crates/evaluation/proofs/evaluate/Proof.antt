@@ -17,4 +17,4 @@ evaluate-spec =
     (λ c. omega (arith, c .before .if2 .left))
     (λ c κs. search needs)
     (λ c. search needs)
-    (λ c. λ n o l b h. let s = c .before .before .before .before .settle .ensures n o l b h in let k = s .lack (c .before .before .if2 .left) in settled-lack _ s l (c .before .before .if2 .left) (c .value-of .ensures n (s .settling .ordered) (k .inside) (k .ready) h)))
+    (λ c. λ n o l b h. let s = c .before .before .before .before .settle .ensures n o l b h in let k = s .lack (c .before .before .if2 .left) in settled-lack _ s l (c .before .before .if2 .left) (c .value-of .ensures n (s .settling .ordered) (k .inside) (k .ready) h .0)))

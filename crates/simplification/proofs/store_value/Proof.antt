@@ -1,9 +1,9 @@
--- `store_value` meets its contract. Assumes nothing.
+-- `store_value` meets its contract: what is built after the rows were noted. Assumes nothing.
 use mathlib.Core.Path.{refl}
 use native.Mathlib.Omega.{arith}
 use Rattle.expression.specs.Nodes.{grown}
 use Rattle.store.specs.Desk.{refusalOn}
-use Rattle.store.proofs.Building.{refuses, asks}
+use Rattle.store.proofs.Building.{refuses, asks, after-noting}
 use Rattle.simplification.specs.Simplifying.{foldedTo}
 use borrow.Author.Needs.{needs}
 use Rattle.simplification.proofs.store_value.Statement.{statement}
@@ -14,6 +14,7 @@ unfolding foldedTo grown refusalOn
 store-value-spec =
     tie.close
     (tie.spec
+    (λ c κs. search needs)
     (λ c. search needs)
     (λ c κs. search needs)
     (λ c. search needs)
@@ -21,6 +22,6 @@ store-value-spec =
     (λ c. search needs)
     (λ c κs. search needs)
     (λ c. search needs)
-    (λ c. rw (c .before .before .before .before .before .value .given .1) λ h x. c .before .add .ensures h tt)
-    (λ c. rw (c .enum-told .given .1) λ h x. refuses h (omega arith) refl)
-    (λ c. rw (c .before .before .before .value2 .given .1) λ h x. asks _ (c .ask .ensures) h))
+    (λ c h x. after-noting _ (foldedTo (c .before .before .before .before .before .before .before .before .before .before .args .asked .value)) (c .before .before .before .before .before .before .before .note .ensures) h λ g. rw (c .before .before .before .before .before .value .given .1) (c .before .add .ensures g tt))
+    (λ c h x. after-noting _ (foldedTo (c .before .before .before .before .before .args .asked .value)) (c .before .before .note .ensures) h λ g. rw (c .enum-told .given .1) (refuses g (omega arith) refl))
+    (λ c h x. after-noting _ (foldedTo (c .before .before .before .before .before .before .before .before .args .asked .value)) (c .before .before .before .before .before .note .ensures) h λ g. rw (c .before .before .before .value2 .given .1) (asks _ (c .ask .ensures) g)))

@@ -2,6 +2,7 @@
 // zero and one tests; lines that are shared, equal, or equal but for the sign of a zero.
 use super::{Case, DEEPEST, FUNCTIONS, INFIXES, Maker, PREFIXES};
 use crate::random::{Numbers, Random};
+use crate::store::{LINES, with_children};
 use num_complex::Complex64;
 use oracle::expression::{InfixOperator, PrefixOperator};
 use oracle::nodes::Node;
@@ -302,6 +303,23 @@ pub fn to_refuse(random: &mut Random) -> Case {
         _ => maker.deep(),
     }
     Case { nodes: maker.nodes, swaps: vec![], variables: vec![], cells: vec![] }
+}
+
+// The same with powers of variables in place of some variables, but for the first line; the exponents are functions of numbers, so that
+// rows are used before it is refused.
+pub fn with_functions(random: &mut Random, case: &Case) -> Case {
+    let (mut nodes, mut at) = (vec![], vec![]);
+    for (line, node) in case.nodes.iter().enumerate() {
+        nodes.push(with_children(*node, |c| at[c]));
+        let (base, has_room) = (nodes.len() - 1, nodes.len() + 3 + case.nodes.len() - line <= LINES);
+        if matches!(node, Node::Variable(_)) && line > 0 && has_room && random.once_in(2) {
+            nodes.push(Node::Number(random.complex(Numbers::Plane)));
+            nodes.push(Node::Function(random.pick(&FUNCTIONS), base + 1));
+            nodes.push(Node::Infix(InfixOperator::Caret, base, base + 2));
+        }
+        at.push(nodes.len() - 1);
+    }
+    Case::of(&nodes)
 }
 
 // A case for simplifying, of a size of at most 500.

@@ -1,12 +1,14 @@
-// Simplifying: small trees taken systematically and random ones, the port beside the rules' model and the Rust.
+// Simplifying: small trees taken systematically and random ones, the port beside the rules' model and the Rust. The rows that
+// have to be marked are those that the model finds, and those that are found for what the Rust asks, in its order.
 use super::Tally;
 use crate::cases::{Case, arms};
-use crate::drawing::{ROWS, out_length, rearranged, rows_before, rows_text, simplify_question};
-use crate::expected::{expected, expected_of};
+use crate::drawing::{ROWS, among_others, out_length, rearranged, rows_before, rows_text, simplify_question};
+use crate::expected::{asked_by_the_rust, expected, expected_of};
 use crate::forest;
 use crate::model::Model;
 use crate::question::{Answer, BAD_LIMIT, BAD_LIST, BAD_SHEET, Kind, NEED, Question};
 use crate::random::Random;
+use crate::rows::Rows;
 use crate::rust::Rust;
 use crate::store::{BIG, DEEP, LINES, LONG_LIST, MOST, Store};
 use crate::texts::row;
@@ -27,7 +29,7 @@ impl Tally {
         let mut q = simplify_question(random, nodes, limit, full.model.store.len(), usize::MAX);
         let exact = full.answer.bytes.len();
         q.out = if exact > 0 && random.once_in(4) { out_length(random, exact) } else { exact + random.below(100) };
-        let outcome = self.simplify_rounds(random, &mut q, nodes, &full.model.asks.list);
+        let outcome = self.simplify_rounds(random, &mut q, nodes, &asked_by_the_rust(&full, nodes, limit));
         self.count(WHAT, &outcome);
         if random.once_in(50) {
             self.spoiled(random, q, nodes);
@@ -40,19 +42,21 @@ impl Tally {
         let bound = std::mem::take(&mut q.sheet);
         let mut text = rows_text(random, &rows, &asked);
         loop {
-            q.sheet = format!("{bound}{text}");
-            let have: HashSet<Asked> = rows.iter().copied().collect();
-            let expected = expected_of(q, nodes, Some(&have));
+            q.sheet = format!("{bound}{}", among_others(random, &rows, &text, asks));
+            let there = Rows::read(&q.sheet);
+            let expected = expected_of(q, nodes, Some(&there));
             let bytes = self.compare(q, &expected.answer);
+            self.compare_marks(q, &expected.answer, &there, asks);
             if [BIG, DEEP].contains(&expected.answer.number) || expected.answer.number == NEED && random.once_in(8) {
-                self.with_less_memory(q, nodes, &expected.model, &have);
+                self.with_less_memory(q, nodes, &expected.model, &there);
             }
             if expected.answer.number != NEED {
+                let outcome = self.simplified(q, nodes, &expected.model, &expected.answer, &bytes);
                 if !rows.is_empty() && random.once_in(3) {
                     q.sheet = format!("{bound}{}", rearranged(random, &rows, &asked));
-                    self.compare(q, &expected.answer);
+                    self.compare(q, &expected_of(q, nodes, Some(&Rows::read(&q.sheet))).answer);
                 }
-                return self.simplified(q, nodes, &expected.model, &expected.answer, &bytes);
+                return outcome;
             }
             let next = *expected.model.asks.list.last().expect("what is lacking");
             self.note(super::NEEDS[next.operation as usize - 1]);
@@ -64,12 +68,19 @@ impl Tally {
         }
     }
 
+    // The rows that the model finds are those for what the Rust asks.
+    fn compare_marks(&mut self, q: &Question, expected: &Answer, rows: &Rows, asks: &[Asked]) {
+        if expected.marks != expected.clone().marked(rows.found(asks)).marks {
+            self.differs(q, &format!("the Rust asks for {asks:x?}\nand the model finds {:?}", expected.marks));
+        }
+    }
+
     // What was refused otherwise than by 8 is refused by 8 where one of the last nodes before had no room: so the order shows
     // in which nodes are stored.
-    fn with_less_memory(&mut self, q: &Question, nodes: &[Node], model: &Model, have: &HashSet<Asked>) {
+    fn with_less_memory(&mut self, q: &Question, nodes: &[Node], model: &Model, rows: &Rows) {
         for less in 1..=LESS.min(model.store.len()) {
             let short = Question { rows: model.store.len() - less, ..q.clone() };
-            self.compare(&short, &expected_of(&short, nodes, Some(have)).answer);
+            self.compare(&short, &expected_of(&short, nodes, Some(rows)).answer);
         }
     }
 
@@ -77,11 +88,14 @@ impl Tally {
     fn simplified(&mut self, q: &Question, nodes: &[Node], model: &Model, answer: &Answer, bytes: &[u8]) -> String {
         self.add_hits(&model.hits);
         if answer.number != 0 {
-            let when = if model.calls == 0 { " while reading" } else { "" };
+            let when = match (model.calls, model.used.is_empty()) {
+                (0, _) => " while reading",
+                (_, true) => "",
+                _ => " after rows were used",
+            };
             return format!("refused {}{when}", answer.number);
         }
-        let case = Case { nodes: nodes.to_vec(), swaps: vec![], variables: vec![], cells: vec![] };
-        match verdict(model, bytes, &Rust::new(&case), q.limit()) {
+        match verdict(model, bytes, &Rust::new(&Case::of(nodes)), q.limit()) {
             Verdict::Same => "written".into(),
             Verdict::SameIfApart => "written, a zero of the other sign if the Rust makes equal nodes one".into(),
             Verdict::OtherZero => "written, a zero of the other sign in the Rust".into(),
@@ -132,13 +146,18 @@ impl Tally {
         let (mut tally, mut random) = (Self::default(), Random::new(seed));
         tally.systematic(&mut random);
         for _ in 0..count {
-            let case = if random.once_in(20) { arms::to_refuse(&mut random) } else { arms::to_simplify(&mut random) };
+            let case = if random.once_in(20) { to_refuse(&mut random) } else { arms::to_simplify(&mut random) };
             case.features().into_iter().for_each(|f| tally.note(f));
             let limit = if random.once_in(2) { MOST_LIMIT } else { random.below(MOST_LIMIT as usize) as u64 };
             tally.simplify_to(&mut random, &case.nodes, limit);
         }
         tally
     }
+}
+
+fn to_refuse(random: &mut Random) -> Case {
+    let case = arms::to_refuse(random);
+    if random.once_in(2) { arms::with_functions(random, &case) } else { case }
 }
 
 // The line that was put behind a listing's last one.

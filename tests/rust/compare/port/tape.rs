@@ -1,11 +1,15 @@
 // The functions of the port that take tapes, called as C calls them. A tape stands at any address.
-use super::{ANSWER, TABLE, Words, answered};
+use super::{ANSWER, Marks, TABLE, Words, answered};
 use crate::question::Answer;
 
 #[rustfmt::skip]
 unsafe extern "C" {
     fn findavoreb_play(
         tape: *const u8, tape_length: usize, sheet: *const u8, sheet_length: usize, table: *mut u64, answer: *mut u64,
+    ) -> u64;
+    fn findavoreb_play_marked(
+        tape: *const u8, tape_length: usize, sheet: *const u8, sheet_length: usize, table: *mut u64, answer: *mut u64,
+        marks: *mut u8,
     ) -> u64;
     fn findavoreb_check(tape: *const u8, tape_length: usize, answer: *mut u64) -> u64;
     fn findavoreb_pick(
@@ -21,12 +25,25 @@ fn moved(tape: &[u8], junk: u64) -> (Vec<u8>, usize) {
     (vec![0xFF; before].into_iter().chain(tape.iter().copied()).collect(), before)
 }
 
+// Without marks and with them.
 pub fn play(tape: &[u8], sheet: &str, junk: u64) -> Result<Answer, &'static str> {
+    let (got, mut marks) = (play_once(tape, sheet, junk, None)?, Marks::new());
+    if play_once(tape, sheet, junk, Some(&mut marks))? != got {
+        return Err("with marks the answer is another one");
+    }
+    Ok(Answer { marks: marks.rows()?, ..got })
+}
+
+fn play_once(tape: &[u8], sheet: &str, junk: u64, marks: Option<&mut Marks>) -> Result<Answer, &'static str> {
     let (mut table, mut answer) = (Words::new(TABLE, junk), Words::new(ANSWER, !junk));
     let (tape, from) = moved(tape, junk);
-    let (tape, words) = (&tape[from..], answer.lent().as_mut_ptr());
+    let (tape, words, lent) = (&tape[from..], answer.lent().as_mut_ptr(), table.lent().as_mut_ptr());
+    let (at, length, rows, rows_length) = (tape.as_ptr(), tape.len(), sheet.as_ptr(), sheet.len());
     let number = unsafe {
-        findavoreb_play(tape.as_ptr(), tape.len(), sheet.as_ptr(), sheet.len(), table.lent().as_mut_ptr(), words)
+        match marks {
+            None => findavoreb_play(at, length, rows, rows_length, lent, words),
+            Some(marks) => findavoreb_play_marked(at, length, rows, rows_length, lent, words, marks.lent()),
+        }
     };
     if !table.is_zero() {
         return Err("the table is not zero");

@@ -1,5 +1,4 @@
--- `play` meets its contract. Assumes nothing.
-use Rattle.calls.proofs.Taping.{plays-ends}
+-- `play` meets its contract: the marks are left out. Assumes nothing.
 use borrow.Author.Needs.{needs}
 use Rattle.calls.proofs.tapes.play.Statement.{statement}
 use Rattle.calls.proofs.tapes.play.Tie as tie
@@ -9,5 +8,4 @@ play-spec =
     tie.close
     (tie.spec
     (λ c κs. search needs)
-    (λ c κs. search needs)
-    (λ c. plays-ends (c .before .before .play-texts .ensures) (c .zero .ensures) (c .before .before .play-texts .kept .1 .1 .0)))
+    (λ c. let p = c .play-marked .ensures in λ i. (p i .0 .0, p i .1)))

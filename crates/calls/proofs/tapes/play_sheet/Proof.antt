@@ -9,8 +9,8 @@ play-sheet-spec =
     tie.close
     (tie.spec
     (λ c. search needs)
-    (λ c κs. c .before .before .before .before .before .pre)
+    (λ c κs. c .before .before .before .before .before .before .pre)
     (λ c κs. search needs)
     (λ c. search needs)
-    (λ c. plays-read _ _ (c .before .before .before .found .given .1) (c .before .play .ensures) (c .answer-of .ensures))
+    (λ c. plays-read _ _ (c .before .before .before .before .found .given .1) (c .before .play .ensures) (c .answer-of .ensures))
     (λ c. plays-refused _ _ (c .before .found2 .given .1)))

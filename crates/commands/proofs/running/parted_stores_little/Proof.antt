@@ -1,7 +1,8 @@
 -- `parted_stores_little` meets its contract. Assumes nothing.
 use mathlib.Core.Path.{sym, subst}
 use Rattle.commands.specs.Needing.{PartedAlike}
-use Rattle.commands.proofs.Rooms.{never, evaluate-little, play-little}
+use Rattle.commands.proofs.Choosing.{never}
+use Rattle.commands.proofs.Rooms.{evaluate-little, play-little}
 use borrow.Author.Needs.{needs}
 use Rattle.commands.proofs.running.parted_stores_little.Statement.{statement}
 use Rattle.commands.proofs.running.parted_stores_little.Tie as tie
@@ -14,7 +15,7 @@ parted-stores-little-spec =
     (λ c. search needs)
     (λ c. search needs)
     (λ c. search needs)
-    (λ c. λ e. subst PartedAlike (sym (c .enum-told .given .1)) evaluate-little)
+    (λ c. λ e. subst PartedAlike (sym (c .enum-told .given .1)) (evaluate-little _))
     (λ c. λ e. never e)
     (λ c. λ e. never e)
-    (λ c. λ e. subst PartedAlike (sym (c .enum-told4 .given .1)) play-little))
+    (λ c. λ e. subst PartedAlike (sym (c .enum-told4 .given .1)) (play-little _)))

@@ -13,4 +13,4 @@ run-in-1024-spec =
     (λ c. search needs)
     (λ c κs. search needs)
     (λ c. search needs)
-    (λ c. in-so-many 1024 (c .before .before .before .before .before .before .before .before .before .before .before .args .command) (c .before .before .before .before .before .before .before .before .before .before .before .args .input .now) (c .before .before .before .before .before .before .before .before .before .before .before .args .out .now) (c .before .before .before .before .before .before .before .before .rows-for-a-listing .result) (omega arith) (c .before .before .before .before .before .before .before .before .rows-for-a-listing .ensures) (c .before .before .before .run-lent .ensures)))
+    (λ c. in-so-many 1024 (c .before .before .before .before .before .before .before .before .before .before .before .before .args .command) (c .before .before .before .before .before .before .before .before .before .before .before .before .args .input .now) (c .before .before .before .before .before .before .before .before .before .before .before .before .args .out .now) (c .before .before .before .before .before .before .before .before .before .rows-for-a-listing .result) (omega arith) (c .before .before .before .before .before .before .before .before .before .rows-for-a-listing .ensures) (c .before .before .before .run-lent .ensures)))

@@ -13,4 +13,4 @@ run-in-4096-spec =
     (λ c. search needs)
     (λ c κs. search needs)
     (λ c. search needs)
-    (λ c. in-so-many 4096 (c .before .before .before .before .before .before .before .before .before .before .before .args .command) (c .before .before .before .before .before .before .before .before .before .before .before .args .input .now) (c .before .before .before .before .before .before .before .before .before .before .before .args .out .now) (c .before .before .before .before .before .before .before .before .rows-of-the-store .result) (omega arith) (c .before .before .before .before .before .before .before .before .rows-of-the-store .ensures) (c .before .before .before .run-lent .ensures)))
+    (λ c. in-so-many 4096 (c .before .before .before .before .before .before .before .before .before .before .before .before .args .command) (c .before .before .before .before .before .before .before .before .before .before .before .before .args .input .now) (c .before .before .before .before .before .before .before .before .before .before .before .before .args .out .now) (c .before .before .before .before .before .before .before .before .before .rows-of-the-store .result) (omega arith) (c .before .before .before .before .before .before .before .before .before .rows-of-the-store .ensures) (c .before .before .before .run-lent .ensures)))

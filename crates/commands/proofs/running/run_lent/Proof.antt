@@ -1,18 +1,15 @@
 -- `run_lent` meets its contract. Assumes nothing.
 use Rattle.commands.specs.declared.words.Command.{Command}
-use Rattle.commands.specs.Results.{resultIn}
-use Rattle.commands.proofs.Resulting.{command-is, of-parts}
+use Rattle.commands.proofs.Resulting.{command-is, of-whole, of-parts}
 use borrow.Author.Needs.{needs}
 use Rattle.commands.proofs.running.run_lent.Statement.{statement}
 use Rattle.commands.proofs.running.run_lent.Tie as tie
 
 returns : tie.Need-returns
-unfolding resultIn
-returns c = command-is _ (c .before .before .before .before .before .before .before .before .before .before .before .before .before .args .input .now) (c .before .before .before .before .before .before .before .before .before .before .before .before .before .args .out .now) (Command.Whole _) (c .before .before .before .before .before .before .before .before .before .command .given .1) (c .before .before .before .run-whole .ensures)
+returns c = command-is _ (c .before .before .before .before .before .before .before .before .before .before .before .before .before .args .input .now) (c .before .before .before .before .before .before .before .before .before .before .before .before .before .args .out .now) (Command.Whole _) (c .before .before .before .before .before .before .before .before .before .command .given .1) (of-whole _ (c .before .before .before .before .before .before .before .before .before .before .before .before .before .args .input .now) (c .before .before .before .before .before .before .before .before .before .before .before .before .before .args .out .now) _ (c .before .before .before .before .before .before .before .before .before .before .before .before .before .pre .1) (c .before .before .before .run-whole .ensures))
 
 returns-2 : tie.Need-returns-2
-unfolding resultIn
-returns-2 c = command-is _ (c .before .before .before .before .before .before .before .before .before .before .before .before .before .before .before .before .before .args .input .now) (c .before .before .before .before .before .before .before .before .before .before .before .before .before .before .before .before .before .args .out .now) (Command.Parted _) (c .before .before .before .before .before .before .before .before .before .before .before .before .before .command2 .given .1) (of-parts _ (c .before .before .before .before .before .before .before .before .before .before .before .before .before .before .before .before .before .args .input .now) (c .before .before .before .before .before .before .before .before .before .before .before .before .before .before .before .before .before .args .out .now) _ (c .before .before .before .before .before .before .before .before .before .before .before .listing-length .ensures) (c .before .before .before .before .before .before .before .before .before .sheet-of .ensures .bytes) (c .before .before .before .run-parted .ensures))
+returns-2 c = command-is _ (c .before .before .before .before .before .before .before .before .before .before .before .before .before .before .before .before .before .before .args .input .now) (c .before .before .before .before .before .before .before .before .before .before .before .before .before .before .before .before .before .before .args .out .now) (Command.Parted _) (c .before .before .before .before .before .before .before .before .before .before .before .before .before .before .command2 .given .1) (of-parts _ (c .before .before .before .before .before .before .before .before .before .before .before .before .before .before .before .before .before .before .args .input .now) (c .before .before .before .before .before .before .before .before .before .before .before .before .before .before .before .before .before .before .args .out .now) _ (c .before .before .before .before .before .before .before .before .before .before .before .before .listing-length .ensures) (c .before .before .before .before .before .before .before .before .before .before .sheet-of .ensures .bytes) (c .before .before .before .run-parted .ensures))
 
 pub run-lent-spec : {M : Type 1} → statement M
 run-lent-spec =

@@ -1,7 +1,8 @@
 -- `whole_stores_little` meets its contract. Assumes nothing.
 use mathlib.Core.Path.{sym, subst}
 use Rattle.commands.specs.Needing.{WholeAlike}
-use Rattle.commands.proofs.Rooms.{never, real-little, compile-little, show-little, check-little}
+use Rattle.commands.proofs.Choosing.{never}
+use Rattle.commands.proofs.Rooms.{real-little, compile-little, show-little, check-little}
 use borrow.Author.Needs.{needs}
 use Rattle.commands.proofs.running.whole_stores_little.Statement.{statement}
 use Rattle.commands.proofs.running.whole_stores_little.Tie as tie

@@ -15,5 +15,5 @@ play-tape-spec =
     (λ c. search needs)
     (λ c κs. search needs)
     (λ c. search needs)
-    (λ c. value-comes _ (c .before .before .before .before .before .before .before .before .before .before .before .before .before .args .text .now) (c .before .before .before .before .before .before .before .before .before .before .before .before .before .args .values .now) _ (ap (λ x. x .0) (c .before .before .before .before .before .before .before .play .ensures)) (c .before .before .before .before .before .answer .given .1) (c .before .before .write-value .ensures))
-    (λ c. lack-comes _ (c .before .before .before .before .before .before .before .before .before .before .before .args .text .now) (c .before .before .before .before .before .before .before .before .before .before .before .args .values .now) _ (ap (λ x. x .0) (c .before .before .before .before .before .play .ensures)) _ refl (c .before .before .before .answer2 .given .1) (c .lack-on-tape .ensures)))
+    (λ c. record { comes = value-comes _ (c .before .before .before .before .before .before .before .before .before .before .before .before .before .before .args .text .now) (c .before .before .before .before .before .before .before .before .before .before .before .before .before .before .args .values .now) _ (ap (λ x. x .0 .0) (c .before .before .before .before .before .before .before .play-marked .ensures)) (c .before .before .before .before .before .answer .given .1) (c .before .before .write-value .ensures); marked = ap (λ x. x .0 .1) (c .before .before .before .before .before .before .before .play-marked .ensures) })
+    (λ c. record { comes = lack-comes _ (c .before .before .before .before .before .before .before .before .before .before .before .before .args .text .now) (c .before .before .before .before .before .before .before .before .before .before .before .before .args .values .now) _ (ap (λ x. x .0 .0) (c .before .before .before .before .before .play-marked .ensures)) _ refl (c .before .before .before .answer2 .given .1) (c .lack-on-tape .ensures); marked = ap (λ x. x .0 .1) (c .before .before .before .before .before .play-marked .ensures) }))

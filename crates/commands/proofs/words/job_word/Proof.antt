@@ -1,5 +1,7 @@
 -- `job_word` meets its contract. Assumes nothing.
 use mathlib.Core.Path.{_∙_}
+use Rattle.commands.specs.declared.words.Parted.{Parted}
+use Rattle.commands.proofs.Requests.{takes-marks}
 use Rattle.commands.proofs.Choosing.{chosen, passed}
 use Rattle.commands.specs.Words.{jobWord}
 use borrow.Author.Needs.{needs}
@@ -8,7 +10,7 @@ use Rattle.commands.proofs.words.job_word.Tie as tie
 
 returns : tie.Need-returns
 unfolding jobWord
-returns c = chosen (c .before .word-at .ensures) (c .if1 .taken) _ _
+returns c = takes-marks (c .before .before .before .before .before .args .words .now) 9 Parted.Evaluate (c .marks-at .result) (c .marks-at .ensures) ∙ chosen (c .before .before .word-at .ensures) (c .before .if1 .taken) _ _
 
 returns-2 : tie.Need-returns-2
 unfolding jobWord
@@ -35,6 +37,7 @@ job-word-spec =
     tie.close
     (tie.spec
     (λ c. search needs)
+    (λ c κs. search needs)
     (λ c κs. search needs)
     returns
     (λ c. search needs)

@@ -1,5 +1,7 @@
 -- `tape_word` meets its contract. Assumes nothing.
-use mathlib.Core.Path.{refl}
+use mathlib.Core.Path.{refl, _∙_}
+use Rattle.commands.specs.declared.words.Parted.{Parted}
+use Rattle.commands.proofs.Requests.{takes-marks}
 use Rattle.commands.proofs.Choosing.{chosen, passed}
 use Rattle.commands.specs.Words.{tapeWord}
 use borrow.Author.Needs.{needs}
@@ -12,7 +14,7 @@ returns c = chosen (c .before .word-at .ensures) (c .if1 .taken) _ _
 
 returns-2 : tie.Need-returns-2
 unfolding tapeWord
-returns-2 c = passed (c .before .before .before .before .word-at .ensures) (c .before .before .before .if1 .left) _ _ (chosen (c .before .word-at2 .ensures) (c .if2 .taken) _ _)
+returns-2 c = passed (c .before .before .before .before .before .word-at .ensures) (c .before .before .before .before .if1 .left) _ _ (takes-marks (c .before .before .before .before .before .before .before .before .args .words .now) 5 Parted.Play (c .marks-at .result) (c .marks-at .ensures) ∙ chosen (c .before .before .word-at2 .ensures) (c .before .if2 .taken) _ _)
 
 returns-3 : tie.Need-returns-3
 unfolding tapeWord
@@ -34,6 +36,7 @@ tape-word-spec =
     (λ c κs. search needs)
     returns
     (λ c. search needs)
+    (λ c κs. search needs)
     (λ c κs. search needs)
     returns-2
     (λ c. search needs)

@@ -1,7 +1,7 @@
--- `finish_asked` meets its contract: the value of the node, or its lack. Assumes nothing.
-use borrow.Author.Needs.{needs}
+-- `finish_asked` meets its contract: the rows are marked, and then the value stands in the node's place, if there is one. Assumes nothing.
 use mathlib.Core.Path.{sym, _∙_}
-use Rattle.evaluation.proofs.Settled.{finished, not-finished}
+use borrow.Author.Needs.{needs}
+use Rattle.evaluation.proofs.Settled.{ended, not-ended, marked-finished}
 use Rattle.evaluation.proofs.settling.finish_asked.Statement.{statement}
 use Rattle.evaluation.proofs.settling.finish_asked.Tie as tie
 
@@ -10,9 +10,10 @@ finish-asked-spec =
     tie.close
     (tie.spec
     (λ c κs. search needs)
-    (λ c. search needs)
-    (λ c. search needs)
-    (λ c. λ n o l v h. not-finished _ o l v (c .before .value-of .ensures n o l v h) (c .match .keys2))
     (λ c κs. search needs)
     (λ c. search needs)
-    (λ c. λ n o l v h. finished _ o l (sym (c .before .before .before .before .value .given .1) ∙ c .before .before .before .before .before .before .value-of .ensures n o l v h) (c .before .put-number .ensures .0) (c .before .put-number .ensures .1)))
+    (λ c. search needs)
+    (λ c. λ n o l v h. let a = c .before .before .before .value-of .ensures n o l v h in marked-finished _ o l (c .before .note .ensures) (a .1) λ q. not-ended _ o l v (a .0) (c .match .keys2))
+    (λ c κs. search needs)
+    (λ c. search needs)
+    (λ c. λ n o l v h. let a = c .before .before .before .before .before .before .before .before .value-of .ensures n o l v h in marked-finished _ o l (c .before .before .before .before .before .before .note .ensures) (a .1) λ q. ended _ o l (sym (c .before .before .before .before .value .given .1) ∙ a .0) q (c .before .put-number .ensures .0) (c .before .put-number .ensures .1)))

@@ -1,13 +1,13 @@
 -- `asked` meets its contract: a function, or ^. Assumes nothing.
 use mathlib.Core.Path.{refl}
-use Rattle.tape.specs.Run.{valueOf}
+use Rattle.tape.specs.Run.{valueOf, usedAt}
 use Rattle.tape.proofs.Ways.{as-function, as-operator, not-prefix}
 use borrow.Author.Needs.{needs}
 use Rattle.tape.proofs.play.asked.Statement.{statement}
 use Rattle.tape.proofs.play.asked.Tie as tie
 
 pub asked-spec : {M : Type 1} → statement M
-unfolding valueOf
+unfolding valueOf usedAt
 asked-spec =
     tie.close
     (tie.spec

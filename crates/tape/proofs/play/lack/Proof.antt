@@ -11,4 +11,4 @@ lack-spec =
     (tie.spec
     (λ c. λ h m. leaf-missing (c .before .before .args .f) _ _ _ m (c .before .before .pre) (c .if1 .taken))
     (λ c κs. search needs)
-    (λ c. λ h m. c .asked .ensures h (operation-missing (c .before .before .before .args .f) _ _ _ m (omega (arith, c .before .if1 .left)))))
+    (λ c. λ h m. c .asked .ensures h (operation-missing (c .before .before .before .args .f) _ _ _ m (omega (arith, c .before .if1 .left))) .0))

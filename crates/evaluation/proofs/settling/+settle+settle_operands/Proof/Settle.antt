@@ -26,13 +26,13 @@ returns-2 : (t : ℕ) → lts.Need-returns-2 (claims t) (settle-at t) settle.Pos
 returns-2 t c = λ n o l b h. is-settled _ o l (c .before .is-number .ensures) (c .if2 .taken)
 
 settle-operands-requires : (t : ℕ) → lts.Need-settle-operands-requires (claims t) (settle-at t) settle.Post
-settle-operands-requires t c κs = (omega (arith, c .before .before .before .before .if1 .left), tt)
+settle-operands-requires t c κs = (omega (arith, c .before .before .before .before .before .if1 .left), tt)
 
 same-length-2 : (t : ℕ) → lts.Need-same-length-2 (claims t) (settle-at t) settle.Post
 same-length-2 t c = search needs
 
 returns-3 : (t : ℕ) → lts.Need-returns-3 (claims t) (settle-at t) settle.Post
-returns-3 t c = λ n o l b h. lack-settled _ (c .before .before .settle-operands .ensures n o l h) (c .if3 .taken)
+returns-3 t c = λ n o l b h. lack-settled _ l (c .before .before .settle-operands .ensures n o l h) (c .if3 .taken)
 
 finish-requires : (t : ℕ) → lts.Need-finish-requires (claims t) (settle-at t) settle.Post
 finish-requires t c κs = search needs
@@ -41,16 +41,16 @@ same-length-3 : (t : ℕ) → lts.Need-same-length-3 (claims t) (settle-at t) se
 same-length-3 t c = search needs
 
 returns-4 : (t : ℕ) → lts.Need-returns-4 (claims t) (settle-at t) settle.Post
-returns-4 t c = λ n o l b h. let s = c .before .before .before .before .before .before .settle-operands .ensures n o l h in value-settled _ s (c .before .before .finish .ensures n (s .settling .ordered) l (s .done (c .before .before .before .before .if3 .left)) h) (c .if4 .taken)
+returns-4 t c = λ n o l b h. let s = c .before .before .before .before .before .before .before .settle-operands .ensures n o l h in value-settled _ l s (c .before .before .finish .ensures n (s .settling .ordered) l (s .done (c .before .before .before .before .before .if3 .left)) h) (c .if4 .taken)
 
 add-result : (t : ℕ) → lts.Need-add-result (claims t) (settle-at t) settle.Post
-add-result t c = omega (arith, c .before .before .before .before .before .before .before .before .before .before .before .if1 .left, c .before .before .before .before .before .before .before .before .before .before .before .before .before .fits .below .fits)
+add-result t c = omega (arith, c .before .before .before .before .before .before .before .before .before .before .before .before .before .if1 .left, c .before .before .before .before .before .before .before .before .before .before .before .before .before .before .before .fits .below .fits)
 
 same-length-4 : (t : ℕ) → lts.Need-same-length-4 (claims t) (settle-at t) settle.Post
 same-length-4 t c = search needs
 
 returns-5 : (t : ℕ) → lts.Need-returns-5 (claims t) (settle-at t) settle.Post
-returns-5 t c = λ n o l b h. let s = c .before .before .before .before .before .before .settle-operands .ensures n o l h in last-lacks _ s (c .before .before .finish .ensures n (s .settling .ordered) l (s .done (c .before .before .before .before .if3 .left)) h) (c .if4 .left)
+returns-5 t c = λ n o l b h. let s = c .before .before .before .before .before .before .before .settle-operands .ensures n o l h in last-lacks _ l s (c .before .before .finish .ensures n (s .settling .ordered) l (s .done (c .before .before .before .before .before .if3 .left)) h) (c .if4 .left)
 
 pub part : {M : Type 1} (t : ℕ) → lts.Closed (claims t) (settle-at t) settle.Post M
 part t =

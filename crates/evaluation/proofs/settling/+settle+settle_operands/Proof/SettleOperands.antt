@@ -36,7 +36,7 @@ same-length : (t : ℕ) → lts.Need-same-length (claims t) (settle-operands-at 
 same-length t c = search needs
 
 returns : (t : ℕ) → lts.Need-returns (claims t) (settle-operands-at t) settle-operands.Post
-returns t c = λ n o l h. let w = within-two _ _ _ _ (sym (c .before .before .before .before .before .before .before .operands-at .ensures) ∙ c .before .before .before .before .before .operands2 .given .1) (o .within _ l) in left-operand _ o l (c .before .before .before .before .before .before .before .operands-at .ensures) (c .before .before .settle2 .ensures n o (omega (arith, w .0, l)) (w .0) h) (omega (arith, w .0, l)) (c .before .before .before .before .before .operands2 .given .1) (c .if1 .taken)
+returns t c = λ n o l h. let w = within-two _ _ _ _ (sym (c .before .before .before .before .before .before .before .before .operands-at .ensures) ∙ c .before .before .before .before .before .before .operands2 .given .1) (o .within _ l) in left-operand _ o l (c .before .before .before .before .before .before .before .before .operands-at .ensures) (c .before .before .settle2 .ensures n o (omega (arith, w .0, l)) (w .0) h) (omega (arith, w .0, l)) (c .before .before .before .before .before .before .operands2 .given .1) (c .if1 .taken)
 
 settle-requires-3 : (t : ℕ) → lts.Need-settle-requires-3 (claims t) (settle-operands-at t) settle-operands.Post
 settle-requires-3 t c κs = (omega arith, tt)
@@ -51,13 +51,13 @@ same-length-3 : (t : ℕ) → lts.Need-same-length-3 (claims t) (settle-operands
 same-length-3 t c = search needs
 
 returns-3 : (t : ℕ) → lts.Need-returns-3 (claims t) (settle-operands-at t) settle-operands.Post
-returns-3 t c = λ n o l h. let w = within-one _ _ _ (sym (c .before .before .before .before .before .before .operands-at .ensures) ∙ c .before .before .before .before .operands .given .1) (o .within _ l) in one-operand _ o l (c .before .before .before .before .before .before .operands-at .ensures) (c .before .settle .ensures n o (omega (arith, w, l)) w h) (omega (arith, w, l)) (c .before .before .before .before .operands .given .1)
+returns-3 t c = λ n o l h. let w = within-one _ _ _ (sym (c .before .before .before .before .before .before .before .operands-at .ensures) ∙ c .before .before .before .before .before .operands .given .1) (o .within _ l) in one-operand _ o l (c .before .before .before .before .before .before .before .operands-at .ensures) (c .before .settle .ensures n o (omega (arith, w, l)) w h) (omega (arith, w, l)) (c .before .before .before .before .before .operands .given .1)
 
 same-length-4 : (t : ℕ) → lts.Need-same-length-4 (claims t) (settle-operands-at t) settle-operands.Post
 same-length-4 t c = search needs
 
 returns-4 : (t : ℕ) → lts.Need-returns-4 (claims t) (settle-operands-at t) settle-operands.Post
-returns-4 t c = λ n o l h. let w = within-two _ _ _ _ (sym (c .before .before .before .before .before .before .before .before .before .before .operands-at .ensures) ∙ c .before .before .before .before .before .before .before .before .operands2 .given .1) (o .within _ l) in let s = c .before .before .before .before .before .settle2 .ensures n o (omega (arith, w .0, l)) (w .0) h in both-operands _ o l (c .before .before .before .before .before .before .before .before .before .before .operands-at .ensures) s (omega (arith, w .0, l)) (c .before .before .before .before .before .before .before .before .operands2 .given .1) (c .before .before .before .if1 .left) (omega (arith, w .1, l)) (c .before .settle3 .ensures n (s .settling .ordered) (omega (arith, w .1, l)) (w .1) h)
+returns-4 t c = λ n o l h. let w = within-two _ _ _ _ (sym (c .before .before .before .before .before .before .before .before .before .before .before .before .operands-at .ensures) ∙ c .before .before .before .before .before .before .before .before .before .before .operands2 .given .1) (o .within _ l) in let s = c .before .before .before .before .before .before .settle2 .ensures n o (omega (arith, w .0, l)) (w .0) h in both-operands _ o l (c .before .before .before .before .before .before .before .before .before .before .before .before .operands-at .ensures) s (omega (arith, w .0, l)) (c .before .before .before .before .before .before .before .before .before .before .operands2 .given .1) (c .before .before .before .before .if1 .left) (omega (arith, w .1, l)) (c .before .settle3 .ensures n (s .settling .ordered) (omega (arith, w .1, l)) (w .1) h)
 
 pub part : {M : Type 1} (t : ℕ) → lts.Closed (claims t) (settle-operands-at t) settle-operands.Post M
 part t =

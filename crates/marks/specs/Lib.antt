@@ -1,0 +1,2 @@
+-- The definitions that the contracts of `marks` cite. To believe: Marking.
+pub mod Marking
