@@ -16,7 +16,7 @@ enum { STACK = 1 << 16, TEXT = 1 << 17, RANDOM_JOBS = 4000 };
 static uint8_t stack[STACK] __attribute__((aligned(64)));
 static uint64_t store[FINDAVOREB_MOST_ROWS][4], desk[FINDAVOREB_DESK_WORDS], table[FINDAVOREB_TABLE_WORDS];
 static uint64_t answer[FINDAVOREB_ANSWER_WORDS], picked[FINDAVOREB_PICKED_WORDS];
-static uint8_t out[FINDAVOREB_OUT_BYTES], marks[FINDAVOREB_MARKS_BYTES];
+static uint8_t out[FINDAVOREB_ORIGINS_OUT_BYTES], marks[FINDAVOREB_MARKS_BYTES];
 
 /* ---- a job and its texts */
 
@@ -41,6 +41,8 @@ static void play(void) { HERE; findavoreb_play(tape, tape_length, SHEET, table, 
 static void evaluate_marked(void) { HERE; findavoreb_evaluate_marked(LISTING, SHEET, WORK, answer, marks); }
 static void simplify_marked(void) { HERE; findavoreb_simplify_marked(LISTING, SHEET, 10, WORK, out, sizeof out, answer, marks); }
 static void play_marked(void) { HERE; findavoreb_play_marked(tape, tape_length, SHEET, table, answer, marks); }
+static void substitute_origins(void) { HERE; findavoreb_substitute_origins(WITH_SWAPS, WORK, out, sizeof out, answer); }
+static void simplify_origins(void) { HERE; findavoreb_simplify_origins(LISTING, SHEET, 10, WORK, out, sizeof out, answer, marks); }
 static void check(void) { HERE; findavoreb_check(tape, tape_length, answer); }
 static void pick(void) { HERE; findavoreb_pick(tape, tape_length, tape, tape_length, picked); }
 static void version(void) { HERE; findavoreb_version(); }
@@ -64,6 +66,7 @@ static struct function {
     {"simplify", simplify, 0, 0, ""}, {"compile", compile, 0, 0, ""},       {"play", play, 0, 0, ""},
     {"check", check, 0, 0, ""},       {"pick", pick, 0, 0, ""},             {"version", version, 0, 0, ""},
     {"evaluate_marked", evaluate_marked, 0, 0, ""}, {"simplify_marked", simplify_marked, 0, 0, ""}, {"play_marked", play_marked, 0, 0, ""},
+    {"substitute_origins", substitute_origins, 0, 0, ""}, {"simplify_origins", simplify_origins, 0, 0, ""},
 }, tests[] = {{"is_zero", is_zero, 0, 0, ""}, {"is_one", is_one, 0, 0, ""}};
 
 enum { FUNCTIONS = sizeof functions / sizeof functions[0], TESTS = sizeof tests / sizeof tests[0] };
@@ -295,7 +298,7 @@ static void numbers(unsigned jobs)
 static void print(const struct function *f, size_t count)
 {
     for (const struct function *end = f + count; f < end; f++)
-        printf("%-16s%8zu  answer %2llu  %s\n", f->name, f->most, (unsigned long long)f->number, f->job);
+        printf("%-20s%8zu  answer %2llu  %s\n", f->name, f->most, (unsigned long long)f->number, f->job);
 }
 
 int main(int count, char **words)

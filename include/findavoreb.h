@@ -31,9 +31,10 @@
  *                 by bench/stack, the most over its jobs, and not proved (bench/results/stack.md). What memset takes is not in it, nor
  *                 what binding it takes at its first call in a dynamically linked program, about 3,000 bytes.
  *
- *                   evaluate        15,600    substitute      14,472    simplify        8,888    compile     8,408
+ *                   evaluate        15,600    substitute      14,648    simplify        8,904    compile     8,408
  *                   play             2,552    to_real            520    pick              144    check         128    version 8
- *                   evaluate_marked 15,352    simplify_marked  8,912    play_marked     2,304
+ *                   evaluate_marked 15,352    simplify_marked  8,928    play_marked     2,304
+ *                   substitute_origins 14,648    simplify_origins 8,928
  *
  * What holds at every return, also after a refusal: each word of the store's rows, as many as are lent, of the desk and of the table is
  * 0. After a refusal, out is as it was; after a success its first bytes are the result, and the rest is as it was. marks, where it is lent,
@@ -46,7 +47,8 @@
  *   table    36,864                                                    the same, and play
  *   answer       48                                                    all but pick and version; pick 16
  *   out      36,864 for a listing, 12,288 for a tape, or less          substitute, simplify; compile
- *   marks       256                                                    evaluate_marked, simplify_marked, play_marked
+ *            43,008 for a listing with origins, or less                substitute_origins, simplify_origins
+ *   marks       256                                                    evaluate_marked, simplify_marked, simplify_origins, play_marked
  *
  *   in all   170,160 with 4096 rows and 71,856 with 1024, and out; 36,912 for play; with marks 256 more
  *
@@ -84,10 +86,11 @@ extern "C" {
  * In 1 the store was four slices of words, tag, first, second and link, each with a length of its own; in 2 it is rows, with a desk beside
  * them. So each of the five functions with a store has three parameters (the rows, their number, the desk) in place of eight (a pointer and a
  * length for each of the four slices). The table has 4608 words in place of 8192. All else is as it was: the other parameters and functions, the answers, what is written
- * to out. 2.1 added the three functions with marks. */
+ * to out. 2.1 added the three functions with marks. 2.2 added the two functions with origins; and a listing whose node lines have origins,
+ * which was FINDAVOREB_BAD_LIST before, is accepted by every function that reads one. */
 #define FINDAVOREB_INTERFACE 2
-#define FINDAVOREB_VERSION "2.1.0"
-#define FINDAVOREB_VERSION_NUMBER 20100
+#define FINDAVOREB_VERSION "2.2.0"
+#define FINDAVOREB_VERSION_NUMBER 20200
 
 /* The version of the archive that was linked, as a number: FINDAVOREB_VERSION_NUMBER, unless this header is that of another version. */
 uint64_t findavoreb_version(void);
@@ -130,7 +133,7 @@ enum findavoreb_operation {
 
 /* Sizes. The store has a row of four words for each node: it holds as many nodes as rows, and no more than 4096. The desk, the table, the
  * answer, the marks and what is picked have exactly the size that is given here. No written listing is longer than 1024 lines of 36 bytes,
- * no tape longer than 512 steps of 24 bytes. */
+ * with origins of 42 bytes; no tape is longer than 512 steps of 24 bytes. */
 enum {
     FINDAVOREB_MOST_ROWS = 4096,
     FINDAVOREB_DESK_WORDS = 272,
@@ -138,6 +141,7 @@ enum {
     FINDAVOREB_ANSWER_WORDS = 6,
     FINDAVOREB_MARKS_BYTES = 256,
     FINDAVOREB_OUT_BYTES = 36864,
+    FINDAVOREB_ORIGINS_OUT_BYTES = 43008,
     FINDAVOREB_TAPE_BYTES = 12288,
     FINDAVOREB_PICKED_WORDS = 2
 };
@@ -298,6 +302,40 @@ uint64_t findavoreb_play_marked(
     const uint8_t *tape, size_t tape_length,
     const uint8_t *sheet, size_t sheet_length,
     uint64_t *table,   /* FINDAVOREB_TABLE_WORDS words */
+    uint64_t *answer,  /* FINDAVOREB_ANSWER_WORDS words */
+    uint8_t *marks);   /* FINDAVOREB_MARKS_BYTES bytes */
+
+/* Where each node came from. The two functions below are substitute and simplify_marked, with the parameters of these. What they write is
+ * the listing that these write, with one field more at the end of each line, before its line feed: a tab and
+ *
+ *   @n        n is the first node line of the listing, counted from 0, that gave this node: the same expression, bit for bit. However
+ *             often the node comes up again, and whatever it was put in for, this stays its origin
+ *   @-        no line gave it: substituting or simplifying made it
+ *
+ * Without these fields the bytes are those that substitute and simplify_marked write, and so are the answer's words but for answer[1], the
+ * number of bytes, which counts the fields. FINDAVOREB_LONG_LIST comes where it comes from these. FINDAVOREB_OUT_ROOM speaks of the longer
+ * bytes; FINDAVOREB_ORIGINS_OUT_BYTES are always enough.
+ *
+ * A listing that is read may have such a field at the end of any of its node lines, in every function of this header. The field is looked
+ * at, so that a malformed one is FINDAVOREB_BAD_LIST, and then ignored: what is written has the lines of the listing that was read, and not
+ * those that its fields name. */
+uint64_t findavoreb_substitute_origins(
+    const uint8_t *listing, size_t listing_length,
+    uint64_t (*store)[4], size_t rows,
+    uint64_t *desk,    /* FINDAVOREB_DESK_WORDS words */
+    uint64_t *table,   /* FINDAVOREB_TABLE_WORDS words */
+    uint8_t *out, size_t out_length,
+    uint64_t *answer); /* FINDAVOREB_ANSWER_WORDS words */
+
+/* The marks are those of findavoreb_simplify_marked, and all 0 after FINDAVOREB_OUT_ROOM, which speaks of the longer bytes. */
+uint64_t findavoreb_simplify_origins(
+    const uint8_t *listing, size_t listing_length,
+    const uint8_t *sheet, size_t sheet_length,
+    uint64_t limit,
+    uint64_t (*store)[4], size_t rows,
+    uint64_t *desk,    /* FINDAVOREB_DESK_WORDS words */
+    uint64_t *table,   /* FINDAVOREB_TABLE_WORDS words */
+    uint8_t *out, size_t out_length,
     uint64_t *answer,  /* FINDAVOREB_ANSWER_WORDS words */
     uint8_t *marks);   /* FINDAVOREB_MARKS_BYTES bytes */
 

@@ -8,9 +8,11 @@ Both also play, by the model, the evaluations in the lists `rust` and `rust_mark
 Rust's, whether the marks are, and how many tapes the program has to play. One of these lists that is not there is left out.
 
 A list of cases is a file of data: `sound` and `damaged` tapes, `picks` between two of them, `listings` to compile, `plays` of a tape with
-a sheet, `marks`, the calls with marks, of which mark_cases.py says more, and `examples`, the jobs under examples/, of which example_cases.py
-does. A case is a line and then its texts and tapes. The line is a letter, a 1 and eleven fields of 16 hex digits, each after a tab:
-    k       check a tape; p pick one of two tapes; c compile a listing; y play a tape with a sheet; x an example; E and Y of mark_cases.py
+a sheet, `marks`, the calls with marks, of which mark_cases.py says more, `origins`, the calls with origins and listings that have them, of which
+origin_cases.py does, and `examples`, the jobs under examples/, of which example_cases.py does. A case is a line and then its texts and tapes.
+The line is a letter, a 1 and eleven fields of 16 hex digits, each after a tab:
+    k       check a tape; p pick one of two tapes; c compile a listing; y play a tape with a sheet; x an example; E and Y of mark_cases.py;
+            S and O of origin_cases.py
     1       the word that rows, desk and table are filled with before
     2       how many rows are lent
     3       eight digits each for the lengths of the first and the second text or tape
@@ -27,6 +29,7 @@ import sys
 
 from example_cases import example_cases
 from mark_cases import MARKS, MarkCases, evaluated, marks_line
+from origin_cases import OriginCases
 from stored import CRATES, hold_program, pass_over
 from tape_model import (
     FUNCTION, FUNCTIONS, INFIX, MEMORY, NUMBER, OPERATORS, PI, PREFIX, SIGNS, STACK, STEP, STEPS, VARIABLE, Need, bad_step, compiled,
@@ -643,11 +646,12 @@ def main():
             unused_fields, unused_bytes, codes, nans, cuts, lengths, heights, pops, counts, several, all_steps, all_numbers, picks,
             small_listings, other_listings, long_listings, refused_listings, arithmetic, functions, lacks, refused_plays, any_plays):
         cases(c)
-    marks = MarkCases()
-    c.lists['marks'], c.lists['examples'] = marks.cases, example_cases()
+    marks, origins = MarkCases(), OriginCases()
+    c.lists['marks'], c.lists['origins'], c.lists['examples'] = marks.cases, origins.cases, example_cases()
+    tapes = {'marks': marks.tapes, 'origins': origins.tapes}
     rust = [name for name in ('rust', 'rust_marks') if os.path.exists(stored_list(name))]
     said = ''.join(rust_said(name) for name in rust)
-    said += ''.join(said_of(name, cases, marks.tapes if name == 'marks' else None) for name, cases in c.lists.items())
+    said += ''.join(said_of(name, cases, tapes.get(name)) for name, cases in c.lists.items())
     lists = {name: b''.join(cases) for name, cases in c.lists.items()}
     hold_program('call_cases', lists, [*rust, *lists], said.encode())
     print(said, end='')

@@ -1,12 +1,14 @@
 """python3 tests/rack_compare.py COUNT SEED [PROGRAM]: compares the tool rack with tests/rack_model.py by running.
 
-It makes COUNT random cases from SEED: a command's words and a job. A job is whole, or whole and then damaged in one or two places (a byte changed,
-added or dropped, a carriage return, a hex digit in lower case, a line dropped, doubled or moved, a field dropped or replaced, a tab doubled, the
-last line feed cut), or its sheet lacks rows. Cases that chance meets seldom, and odd fields in each place of a line, are always there besides.
+It makes COUNT random cases from SEED: a command's words and a job, whose node lines have origins at times. A job is whole, or whole and then damaged
+in one or two places (a byte changed, added or dropped, a carriage return, a hex digit in lower case, a line dropped, doubled or moved, a field
+dropped or replaced, a tab doubled, an origin added or replaced by what is none, the last line feed cut), or its sheet lacks rows. Cases that chance
+meets seldom, and odd fields in each place of a line, are always there besides.
 It runs the program on each and compares what is printed on standard output and said on standard error with the model, byte for byte. Where the
 model leaves the answer to the simplifier, it compares `played` with `simplify` followed by `evaluate`, both run by the program, and looks whether
 what `simplify` prints is a listing as it is written, and what it says a count of calls that the rules allow. The t rows that it says it used, and
-prints after the word `marks`, have to be those that it asks for one by one where the sheet has none, each the first that matches.
+prints after the word `marks`, have to be those that it asks for one by one where the sheet has none, each the first that matches. With the word
+`origins` it has to print the listing that it prints without, with the origin of each line as the model finds it in the job, and to say the same.
 
 PROGRAM is target/bin/rack if none is named, which ./run makes. It is started as ./run starts it, so rt has to be on the path. Each case that
 differs is printed. The last line counts; the exit status is 0 if nothing differs."""
@@ -69,6 +71,13 @@ def listing(pick):
         for i in range(pick.choice([1, 1, 2, 3, 4, 6, 9, 14, 30])):
             lines.append(node(pick, i))
     return ''.join(line + '\n' for line in lines).encode()
+
+
+def traced(pick, text):
+    """A listing with origins on some of its lines; most of them are not those of its nodes."""
+    share = pick.choice([0.2, 0.7, 1])
+    lines = [line + (b'\t' + pick.choice(ORIGINS) if pick.random() < share else b'') for line in text.split(b'\n')[:-1]]
+    return b''.join(line + b'\n' for line in lines)
 
 
 def many(pick):
@@ -184,6 +193,7 @@ def job(pick, command):
         text = tape(pick) if pick.random() < 0.8 else odd_tape(pick)
     else:
         text = listing(pick)
+        text = traced(pick, text) if pick.random() < 0.3 else text
     if command == 'substitute':
         return swaps(pick, text)
     if command not in model.SHEETED:
@@ -290,11 +300,23 @@ DIGITS = [
     b'a00000000000000g', b'0', b'']
 
 
+ORIGINS = [b'@-', b'@0', b'@1', b'@2', b'@9', b'@10', b'@100', b'@999', b'@1023']
+NO_ORIGINS = [
+    b'', b'@', b'@00', b'@01', b'@-1', b'@--', b'-', b'@1024', b'@10230', b'@18446744073709551616', b'@+1', b'@ 1', b'@1 ', b'@x', b'@1a',
+    b'@@1', b'@\r', b'@\0', b'@1\t@1', b'@-\t', b'\t@1', b'\r@1', b'7\t@1']
+
+
+def origin_added(pick, parts):
+    """An origin, or what is none, as one field more: most often the last."""
+    at = len(parts) if pick.random() < 0.8 else pick.randrange(len(parts) + 1)
+    return parts[:at] + [pick.choice(ORIGINS if pick.random() < 0.4 else NO_ORIGINS)] + parts[at:]
+
+
 def field_replaced(pick, parts):
     """Another field in the place of one: most often one that looks like it."""
     at = pick.randrange(len(parts))
-    like = NUMBERS if parts[at].isdigit() and len(parts[at]) < 16 else DIGITS if len(parts[at]) == 16 else NAMES
-    other = pick.choice(like if pick.random() < 0.8 else NUMBERS + NAMES + DIGITS)
+    like = NO_ORIGINS if parts[at].startswith(b'@') else NUMBERS if parts[at].isdigit() and len(parts[at]) < 16 else DIGITS if len(parts[at]) == 16 else NAMES
+    other = pick.choice(like if pick.random() < 0.8 else NUMBERS + NAMES + DIGITS + ORIGINS)
     return parts[:at] + [other] + parts[at + 1:]
 
 
@@ -302,13 +324,13 @@ def line_replaced(pick, text):
     lines = text.split(b'\n')
     lines[pick.randrange(len(lines))] = pick.choice([
         b'', b'\r', b'\t', b' ', b's\t0\t0', b's\t0', b's', b'v', b'm\t0', b'p', b'p\t', b'u\t-\t0', b't', b't\tsin', b't\tpow\t',
-        b'v\t5\t' + b'0' * 16])
+        b'v\t5\t' + b'0' * 16, b'@0', b'p\t@3', b'p@3', b's\t0\t0\t@3', b'v\t5\t@'])
     return b'\n'.join(lines)
 
 
 DAMAGES = [
     changed, changed, added, dropped, returned, lowered, line_dropped, line_doubled, lines_moved, feed_cut, with_line(field_dropped),
-    with_line(tab_doubled), with_line(field_replaced), with_line(field_replaced), line_replaced]
+    with_line(tab_doubled), with_line(field_replaced), with_line(field_replaced), with_line(origin_added), line_replaced]
 
 
 def damaged(pick, text):
@@ -323,12 +345,12 @@ READERS = [command.encode() for command in sorted(model.COMMANDS)]
 OTHERS = [b'help', b'--help', b'--version']
 UNKNOWN = [
     b'', b'evaluated', b'Evaluate', b'-h', b'version', b'--Version', b'evaluat', b'\xff\xfe', b'a b', b'\xc3\xa9', b'run', b'5', b'helper']
-FILES = [b'job', b'./marks', b'./5', b'05', b'4294967296', b'a b', b'\xff', b'-1', b'help']
+FILES = [b'job', b'./marks', b'./origins', b'./5', b'05', b'4294967296', b'a b', b'\xff', b'-1', b'help']
 
 
 def words_alone(pick):
     """No words, words of no command, too many words, and the commands that read nothing."""
-    more = [pick.choice([b'x', b'y', b'', b'help', b'\xff', b'5', b'marks']) for _ in range(4)]
+    more = [pick.choice([b'x', b'y', b'', b'help', b'\xff', b'5', b'marks', b'origins']) for _ in range(4)]
     shape = pick.randrange(20)
     if shape == 0:
         return []
@@ -338,9 +360,10 @@ def words_alone(pick):
         return [pick.choice(OTHERS)] + more[:pick.choice([0, 0, 1, 2, 4])]
     command = pick.choice(READERS + [b'simplify'] * 4)
     if command != b'simplify':
-        return [command] + more[:pick.choice([3, 3, 4] if more[0] == b'marks' else [2, 3, 4])]
+        return [command] + more[:pick.choice([3, 3, 4] if more[0] in (b'marks', b'origins') else [2, 3, 4])]
     first = pick.choice([[b'05'], [b'4294967296'], [b'x'], [b'-1'], [b'1.0'], [b''], [b'5', b'5'], [b'11', b'x'], [b'4294967295', b'x'],
-                         [b'marks', b'x'], [b'5', b'marks', b'x'], [b'marks', b'5'], [b'x', b'marks']])
+                         [b'marks', b'x'], [b'5', b'marks', b'x'], [b'marks', b'5'], [b'x', b'marks'], [b'origins', b'x'], [b'origins', b'5'],
+                         [b'origins', b'marks'], [b'x', b'origins'], [b'marks', b'origins', b'x'], [b'5', b'marks', b'origins', b'x']])
     return [command] + first + more[:pick.choice([1, 2])]
 
 
@@ -348,8 +371,8 @@ def case(pick):
     """The words, the input, and the file that has it, None where it is standard input."""
     if pick.random() < 0.06:
         return words_alone(pick), b'p\n', None
-    command = pick.choice(['evaluate'] * 6 + ['play'] * 4 + ['compile'] * 2 + ['substitute'] * 3 + ['real'] * 2 + ['check'] * 2 + ['show'] * 2
-                          + ['simplify'] * 2 + ['played'] * 2)
+    command = pick.choice(['evaluate'] * 6 + ['play'] * 4 + ['compile'] * 2 + ['substitute'] * 4 + ['real'] * 2 + ['check'] * 2 + ['show'] * 2
+                          + ['simplify'] * 3 + ['played'] * 2)
     text = damaged(pick, job(pick, command))
     if command == 'real' and pick.random() < 0.5:
         text = damaged(pick, leaf(pick).encode() + b'\n')
@@ -360,10 +383,19 @@ def case(pick):
         words.append(b'%d' % pick.choice([0, 1, 2, 5, 9, 10, 11, 4294967295]))
     if command in model.MARKING and pick.random() < 0.4:
         words.append(b'marks')
+    if command in model.TRACING and pick.random() < 0.5:
+        words.append(b'origins')
     if pick.random() < 0.1:
-        file = pick.choice(FILES + [b'marks'] * (words[-1] == b'marks'))
+        file = pick.choice(FILES + names_of_words(command, words))
         words.append(file)
     return words, text, file
+
+
+def names_of_words(command, words):
+    """The words marks and origins where they are names of files: once they stand, or on a command that does not take them."""
+    is_file = {b'marks': command not in model.MARKING or words[-1] in (b'marks', b'origins'),
+               b'origins': command not in model.TRACING or words[-1] == b'origins'}
+    return [word for word in is_file if is_file[word]]
 
 
 def fixed():
@@ -385,16 +417,30 @@ def fixed():
         yield [b'play'], pi + lines(pi + plus, 255) + b'x\n' * more, None
         yield [b'show'], lines(pi, 512 + more), None
         yield [b'evaluate'], (b'v\t5\n' * (model.MOST_BYTES // 4 + 1))[:model.MOST_BYTES + more], None
+        yield [b'substitute'], lines(b'p\t@%d\n', 1024) + b'p\t@1024\n' * more, None
+        yield [b'substitute'], lines(b'p\t@-\n', 1023) + b'p\t@1024\n' * more, None
     for count in (170, 171, 204, 205, 206, 256):
         listed = wide(pick, count)
-        yield [b'substitute'], ('\n'.join(listed) + '\ns\t1\t%d\n' % (len(listed) - 1)).encode(), None
+        for words in ([b'substitute'], [b'substitute', b'origins']):
+            yield words, ('\n'.join(listed) + '\ns\t1\t%d\n' % (len(listed) - 1)).encode(), None
+    for words in ([b'substitute', b'origins'], [b'simplify', b'0', b'origins'], [b'simplify', b'0', b'marks', b'origins']):
+        yield words, longest(), None
+
+
+def longest():
+    """A listing of 1024 lines, of which all are reached and half are numbers, whose lines are the longest."""
+    leaves = ['n\t%016X\t%016X\t@1023' % (int(ONE, 16) + i, i) for i in range(512)]
+    sums = ['b\t+\t%d\t%d' % (2 * i, 2 * i + 1) for i in range(511)]
+    return '\n'.join(leaves + sums + ['u\t-\t1022']).encode() + b'\n'
 
 
 def odd_lines():
-    """Each odd field in each place of a line, with a line feed at its end, without, and after a carriage return."""
+    """Each odd field in each place of a line, and in the place of its origin, with a line feed at its end, without, and after a carriage return."""
     zero = ZERO.encode()
     nodes = [(NUMBERS, [b'v\t%s', b'm\t%s\t0', b'm\t0\t%s', b'u\t-\t%s', b'b\t+\t%s\t0', b'b\t+\t0\t%s', b's\t%s\t0', b's\t0\t%s']),
-             (NAMES, [b'%s', b'f\t%s\t0', b'u\t%s\t0', b'b\t%s\t0\t0']), (DIGITS, [b'n\t%s\t' + zero, b'n\t' + zero + b'\t%s'])]
+             (NAMES, [b'%s', b'f\t%s\t0', b'u\t%s\t0', b'b\t%s\t0\t0']), (DIGITS, [b'n\t%s\t' + zero, b'n\t' + zero + b'\t%s']),
+             (NO_ORIGINS + ORIGINS[:2], [b'n\t' + zero + b'\t' + zero + b'\t%s', b'p\t%s', b'v\t7\t%s', b'm\t7\t7\t%s', b'f\tsin\t0\t%s',
+                                         b'u\t-\t1\t%s', b'b\t+\t0\t0\t%s', b's\t0\t0\t%s', b'%s'])]
     rows = [(NUMBERS, [b'v\t%s\t' + zero + b'\t' + zero, b'm\t%s\t0\t' + zero, b'm\t0\t%s\t' + zero]),
             (NAMES, [b't\t%s' + (b'\t' + zero) * 6]),
             (DIGITS, [b't\t' + name + (b'\t' + zero) * k + b'\t%s' + (b'\t' + zero) * (5 - k) for name in (b'sin', b'pow') for k in range(6)])]
@@ -450,12 +496,16 @@ class Comparison:
     def is_simplified(self, words, text, found):
         """Whether this is what simplifying a job may print and say, with the rows that it has to use."""
         limit, rest = model.limit_and_rest('simplify', words[1:])
+        is_asked, rest = model.word_and_rest(b'marks', model.MARKING, 'simplify', rest)
+        is_traced, rest = model.word_and_rest(b'origins', model.TRACING, 'simplify', rest)
         printed, used = self.one_by_one([b'simplify', b'%d' % limit], text)
         rows = model.Answer(b'')
         rows.used = [] if printed.startswith(b'refused\t') else sorted(used)
-        marks, line = rows.marked(rest[:1] == [b'marks']).args
-        said = found[1][:len(found[1]) - len(line)]
-        return found == (printed + marks, said + line) and is_simplified(printed, said)
+        marks, line = rows.marked(is_asked).args
+        listed = model.traced(printed, model.parted(text)[0]) if is_traced and is_listing(printed) else printed
+        tail = line + model.standing(listed)
+        said = found[1][:len(found[1]) - len(tail)]
+        return found == (listed + marks, said + tail) and is_simplified(printed, said)
 
     def one_by_one(self, words, text):
         """What is printed at last where the sheet gets its t rows one by one, as they are asked for, and the numbers of these rows."""
@@ -472,7 +522,7 @@ class Comparison:
 
     def compare(self, words, text, file):
         wanted, found = self.wanted(words, text), self.run(words, text, file)
-        self.cases[words[0].decode() if words and words[0] in READERS else 'of words'] += 1
+        self.cases[kind_of(words)] += 1
         if found == wanted if wanted is not None else self.is_simplified(words, text, found):
             return
         self.differ += 1
@@ -480,6 +530,22 @@ class Comparison:
 
 
 ROWS = re.compile(b'rows used:(?: [0-9]+)+\n\\Z')
+
+
+def kind_of(words):
+    """What a case is counted as."""
+    if not words or words[0] not in READERS:
+        return 'of words'
+    command = words[0].decode()
+    return command + ' with origins' * (command in model.TRACING and b'origins' in words[1:])
+
+
+def is_listing(printed):
+    """Whether this is a listing as it is written, without origins."""
+    try:
+        return texts.written(texts.read_listing(printed, False, model.STORE)[0], 1 << 20) == printed
+    except texts.Refused:
+        return False
 
 
 def is_asked_for(line, printed):
@@ -493,12 +559,8 @@ def is_simplified(printed, said):
     if printed.startswith(b'need\t') or re.fullmatch(b'refused\t[2678]\t0\n', printed):
         return said.count(b'\n') == 1
     calls = re.fullmatch(b'The expression was simplified in ([0-9]+) (calls?)\\.\n', said)
-    try:
-        root, _, _ = texts.read_listing(printed, False, model.STORE)
-    except texts.Refused:
-        return False
     is_allowed = calls and 1 <= int(calls.group(1)) <= MOST_CALLS and (calls.group(1) == b'1') == (calls.group(2) == b'call')
-    return bool(is_allowed) and texts.written(root, 1 << 20) == printed
+    return bool(is_allowed) and is_listing(printed)
 
 
 def main(count, seed, program):

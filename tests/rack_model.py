@@ -1,9 +1,11 @@
 """A second reading of the rules and of docs/FORMATS.md for the tool rack: what it prints on standard output and says on standard error. It has the
-commands evaluate, real, substitute, compile, play, check, show, help and --version, the marks of the t rows that were used, and the words that
-are no command; of simplify and played it has the refusals that come before anything is simplified. Texts and tapes are read by texts_model.py and tape_model.py.
+commands evaluate, real, substitute, compile, play, check, show, help and --version, the marks of the t rows that were used, the origins of a
+result's lines, and the words that are no command; of simplify and played it has the refusals that come before anything is simplified. Texts and
+tapes are read by texts_model.py and tape_model.py.
 
-The wording of the sentences is that of crates/sentences/specs/Sentences.antt, written down here a second time; the help and what is said of
-words are taken from crates/commands/specs/Help.antt. tests/rack_compare.py compares the program with this model by running."""
+The wording of the sentences is that of crates/sentences/specs/Sentences.antt and crates/origins/specs/Standing.antt, written down here a second
+time; the help and what is said of words are taken from crates/commands/specs/Help.antt. tests/rack_compare.py compares the program with this
+model by running."""
 import os
 import re
 
@@ -16,6 +18,7 @@ MOST_BYTES, STORE = 262144, 4096
 TAPED = {'play', 'check', 'show'}
 SHEETED = {'evaluate', 'play', 'simplify', 'played'}
 MARKING = {'evaluate', 'play', 'simplify'}
+TRACING = {'simplify', 'substitute'}
 
 
 # ---- three places where the pages left room. The model's first reading was another each time; these are the program's answers, which
@@ -95,7 +98,7 @@ def sentence(number, place, fault):
 
 # ---- which fault a line has: that of the first field that does not read
 
-HEX_FIELD, ZERO_FIELD = 'hex', 'zeros'
+HEX_FIELD, ZERO_FIELD, ORIGIN_FIELD = 'hex', 'zeros', 'origin'
 FIELDS = {
     b'n': [HEX_FIELD] * 2, b'p': [], b'v': [1 << 16], b'm': [1 << 16, 1 << 32],
     b'f': [[b'sin', b'cos', b'exp', b'sqrt', b'cis'], CHILDREN], b'u': [[b'+', b'-'], CHILDREN],
@@ -129,12 +132,28 @@ def hex_end(line, at, digits=b'0123456789ABCDEF'):
     return end, end == at + 16
 
 
+def origin_end(line, at):
+    """An origin that is not whole is judged by its first byte."""
+    if line.startswith(b'@-', at):
+        return at + 2, True
+    end, is_whole = whole_end(texts.NODE_LINES, line, at + 1)
+    return (end, True) if line[at:at + 1] == b'@' and is_whole else (at, False)
+
+
 def field_end(kind, line, at):
+    if kind == ORIGIN_FIELD:
+        return origin_end(line, at)
     if kind == HEX_FIELD:
         return hex_end(line, at)
     if kind == ZERO_FIELD:
         return hex_end(line, at, b'0')
     return names_end(kind, line, at) if isinstance(kind, list) else whole_end(kind, line, at)
+
+
+def node_fields(line):
+    """The fields that are due on a line of a listing. On a node line in which an @ stands an origin is due at the end."""
+    due = FIELDS.get(line[:1])
+    return due + [ORIGIN_FIELD] if due is not None and line[:1] != b's' and b'@' in line else due
 
 
 def row_fields(line):
@@ -182,7 +201,7 @@ def listing_fault(text, place, has_sheet):
     line, is_ended = lines[place]
     if not line and not has_sheet:
         return 'sheet'
-    return fault_of(line, is_ended, FIELDS.get(line[:1]))
+    return fault_of(line, is_ended, node_fields(line))
 
 
 def sheet_fault(text, place):
@@ -205,6 +224,15 @@ class Answer(Exception):
         printed = fields('marks', *numbers) if is_asked else b''
         said = ' '.join(['rows used:', *numbers]).encode() + b'\n' if numbers else b''
         return Answer(self.printed + printed, self.said + said)
+
+
+ORIGIN = re.compile(b'\t@([0-9]+)$')
+
+
+def standing(listing):
+    """What is said of a listing with origins: a line for each that has one."""
+    found = [(ORIGIN.search(line), i) for i, line in enumerate(listing.splitlines())]
+    return b''.join(b'line %s of the job stands at line %d of the result\n' % (origin.group(1), i) for origin, i in found if origin)
 
 
 def refused(number, place, said):
@@ -238,13 +266,18 @@ def parted(text):
     return (text, b'') if at < 0 else (text[:at + 1], text[at + 2:])
 
 
-def listing_of(text, command):
+def nodes_of(text, command):
+    """The trees of the node lines, and what the s lines put in."""
     try:
-        root, _, swaps = texts.read_listing(text, command == 'substitute', STORE)
+        nodes, _, swaps = texts.read_lines(text, command == 'substitute', STORE)
     except Refused as why:
         fault = listing_fault(text, why.place, command in SHEETED) if why.number == 1 else None
         raise refused(why.number, why.place, sentence(why.number, why.place, fault)) from None
-    return root, swaps
+    return nodes, swaps
+
+
+def root_of(text, command):
+    return nodes_of(text, command)[0][-1]
 
 
 def sheet_of(text):
@@ -305,13 +338,13 @@ def value(re, im):
 
 def evaluate(text):
     listing, sheet = parted(text)
-    root, _ = listing_of(listing, 'evaluate')
+    root = root_of(listing, 'evaluate')
     rows = sheet_of(sheet)
     return using(rows, lambda: value(*value_of(root, rows, {})))
 
 
 def real(text):
-    root, _ = listing_of(text, 'real')
+    root = root_of(text, 'real')
     kind, *words = root.words
     if kind == 'p':
         return Answer(fields('real', *doubles(tapes.PI_BITS)))
@@ -334,12 +367,19 @@ def replaced(tree, swaps, known):
     return known[tree.digest]
 
 
-def substitute(text):
-    root, swaps = listing_of(text, 'substitute')
+def substitute(text, is_traced=False):
+    nodes, swaps = nodes_of(text, 'substitute')
     try:
-        return Answer(texts.written(replaced(root, swaps, {}), 1 << 20))
+        printed = texts.written(replaced(nodes[-1], swaps, {}), 1 << 20, texts.first_lines(nodes) if is_traced else None)
     except Refused as why:
         return refused(why.number, why.place, sentence(why.number, why.place, None))
+    return Answer(printed, standing(printed))
+
+
+def traced(result, text):
+    """The listing that simplifying a job's listing gave, with origins."""
+    origins = texts.first_lines(texts.read_lines(text, False, STORE)[0])
+    return texts.written(texts.read_listing(result, False, STORE)[0], 1 << 20, origins)
 
 
 def step_line(step):
@@ -348,7 +388,7 @@ def step_line(step):
 
 
 def compile_(text):
-    root, _ = listing_of(text, 'compile')
+    root = root_of(text, 'compile')
     if root.size > tapes.STEPS:
         return refused(14, 0, PLAIN[14])
     return Answer(b''.join(step_line(tapes.step_of(tree)) for tree in tapes.visits(root)))
@@ -415,7 +455,7 @@ def show(text):
 def texts_alone(text):
     """Of what is simplified: the refusals of its texts. None where it has none."""
     listing, sheet = parted(text)
-    listing_of(listing, 'simplify')
+    root_of(listing, 'simplify')
     sheet_of(sheet)
 
 
@@ -436,14 +476,20 @@ def limit_and_rest(command, rest):
     return 10, rest
 
 
-def job_answer(command, limit, text):
+def word_and_rest(word, commands, command, rest):
+    """Whether this word follows on one of the commands that take it, and the words after it."""
+    is_asked = command in commands and rest[:1] == [word]
+    return is_asked, rest[is_asked:]
+
+
+def job_answer(command, limit, text, is_traced):
     """What a job comes to; None where it is for the simplifier to say."""
     if len(text) > MOST_BYTES:
         return refused(0, 0, 'The input is too long: it may have 262,144 bytes.')
     if limit > 10:
         return refused(5, 0, PLAIN[5])
     try:
-        return COMMANDS[command](text)
+        return substitute(text, is_traced) if command == 'substitute' else COMMANDS[command](text)
     except Answer as given:
         return given
 
@@ -457,12 +503,12 @@ def answer(words, text):
     if command not in COMMANDS and command not in ('help', '--help', '--version'):
         return Answer(b'', b'rack has no command ' + words[0] + b'; ./run rack help names the commands.\n')
     limit, rest = limit_and_rest(command, rest)
-    is_asked = command in MARKING and rest[:1] == [b'marks']
-    rest = rest[is_asked:]
+    is_asked, rest = word_and_rest(b'marks', MARKING, command, rest)
+    is_traced, rest = word_and_rest(b'origins', TRACING, command, rest)
     most = 1 if command in COMMANDS else len(rest) if WORDS_AFTER_HELP else 0
     if len(rest) > most:
         return Answer(b'', said['tooMany'])
     if command not in COMMANDS:
         return Answer(said['version' if command == '--version' else 'help'])
-    given = job_answer(command, limit, text)
+    given = job_answer(command, limit, text, is_traced)
     return given.marked(is_asked) if given is not None and command in MARKING else given

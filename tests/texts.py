@@ -626,10 +626,117 @@ def random_sheets(c):
             c.text('v', text[:at] + bytes([pick.choice(b'\t\n0129AFz')]) + text[at + 1:])
 
 
+# ---- origins, which are read and ignored
+
+NODE_KINDS = [fields for letter, _, fields in LINES if letter == 'p']
+ORIGINS = [b'@-'] + [b'@%d' % n for n in (0, 1, 9, 10, 99, 100, 999, 1000, 1009, 1019, 1023)]
+NO_ORIGINS = [
+    b'', b'@', b'@00', b'@01', b'@007', b'@0-', b'@-0', b'@-1', b'@--', b'-', b'1', b'@1024', b'@1030', b'@1100', b'@2000', b'@9999',
+    b'@10000', b'@10230', b'@65535', b'@+1', b'@ 1', b'@1 ', b' @1', b'@1\r', b'@\r', b'@1a', b'@A', b'@x', b'@@1', b'@1@', b'@1.0', b'@/',
+    b'@:', b'@\xb2', b'@\0', b'\0@1', b'@_', b'#1'] + [b'@%d' % n for n in ((1 << 32) + 1, (1 << 64) - 1, 1 << 64, (1 << 64) + 5, 10 ** 29)] + [
+    b'@' + b'0' * 30, b'@' + b'1' * 3000]
+
+
+def with_origin(text, origin):
+    """A line with one field more."""
+    return text[:-1] + b'\t' + origin + b'\n'
+
+
+def origins(c):
+    """Each origin on each kind of node line; equal lines with different ones; on all lines of a listing."""
+    for fields in NODE_KINDS:
+        for origin in ORIGINS:
+            c.text('p', TWO_NODES + line(*fields, origin))
+        c.text('s', line(b'v', 7, b'@5') + P + line(*fields, pick.choice(ORIGINS)) + line(b's', 7, 2))
+    for text in (line(b'v', 1, b'@0') + line(b'v', 1, b'@1') + line(b'v', 1), line(b'v', 1) + line(b'v', 1, b'@-') + line(b'u', b'-', 1, b'@0'),
+                 line(b'p', b'@1023') * 3 + P):
+        nodes = read_listing(text, False, WORK)[1]
+        for room in (nodes, nodes - 1):
+            c.listing(text, room=room)
+    for nodes in ([with_origin(x, b'@-') for x in GOOD_NODES], [with_origin(x, b'@%d' % (1023 - i)) for i, x in enumerate(GOOD_NODES)]):
+        c.text('p', b''.join(nodes))
+        c.text('s', b''.join(nodes + GOOD_SWAPS))
+    c.text('p', b''.join(line(b'n', bits(ONE + k), bits(SIGN + k), b'@1023') for k in range(NODE_LINES)))
+
+
+def no_origins(c):
+    """What is no origin, on each kind of node line; two of them; one in another place; one on an s line."""
+    for fields in NODE_KINDS:
+        for spelling in NO_ORIGINS:
+            c.text(pick.choice('pps'), TWO_NODES + line(*fields, spelling))
+        c.text('p', TWO_NODES + line(*fields, b'@0', b'@0'))
+        c.text('p', TWO_NODES + line(*fields, b'@-', b'1'))
+        c.text('p', TWO_NODES + line(*fields, b'', b'@0'))
+        for joint in (b'', b' ', b'\t\t', b'\n', b'\n\t', b'\r\t'):
+            c.text('p', TWO_NODES + b'\t'.join(fields) + joint + b'@0\n')
+        for k in range(len(fields)):
+            c.text('p', TWO_NODES + line(*fields[:k], b'@0', *fields[k:]))
+            c.text('p', TWO_NODES + line(*fields[:k], b'@0', *fields[k + 1:]))
+    for spelling in ORIGINS[:2] + NO_ORIGINS[:8]:
+        c.text('s', TWO_NODES + line(b's', 7, 1, spelling))
+        c.text('s', TWO_NODES + line(b's', 7, 1) + line(b's', 8, 0, spelling))
+    for text in (b'@0\n', b'\t@0\n', b'@-', b's\t@0\n', b'@\t0\n'):
+        for before in (b'', TWO_NODES):
+            c.text('p', before + text)
+            c.text('s', before + text)
+
+
+def origin_cuts(c):
+    """Node lines with an origin, cut at every byte of it, with a line feed there and without; a byte of it changed; other ends."""
+    for fields in NODE_KINDS:
+        for origin in (b'@1023', b'@-'):
+            whole, start = b'\t'.join([*fields, origin]), len(b'\t'.join(fields))
+            for k in range(start, len(whole) + 1):
+                c.text('p', TWO_NODES + whole[:k])
+                c.text('p', TWO_NODES + whole[:k] + b'\n')
+            k, byte = pick.randrange(start, len(whole)), bytes([pick.choice(b'\t\n\r 0123456789-@A\0\xff')])
+            c.text('p', TWO_NODES + whole[:k] + byte + whole[k + 1:] + b'\n')
+            c.text('p', TWO_NODES + whole[:k] + byte + whole[k:] + b'\n')
+            for end in (b'\r\n', b'\n\n', b'\r', b'\t\n', b' \n', b'\0\n'):
+                c.text('p', TWO_NODES + whole + end)
+
+
+def origin_counts(c):
+    """Origins, good and malformed, on the 1024th node line and on the next, which is counted before it is looked at; before and after s lines."""
+    good, bad, swap = line(b'p', b'@0'), [line(b'p', x) for x in (b'@', b'@01', b'@1024')] + [b'p\t@', b'p\t@5'], line(b's', 3, 0)
+    c.text('p', good * 1024)
+    c.text('p', good * 1025)
+    for last in bad:
+        for count in (1022, 1023, 1024):
+            c.text(pick.choice('ps'), P * count + last)
+        c.text('s', P * 1024 + swap + last)
+        c.text('s', P * 1023 + swap + last)
+    for place in (0, 500, 1023):
+        c.text('p', good * place + pick.choice(bad[:3]) + good * (1024 - place))
+    c.text('s', good + swap + good)
+    c.text('s', good + b''.join(line(b's', k, 0) for k in range(256)) + line(b's', 300, 0, b'@0'))
+    c.text('s', good + b''.join(line(b's', k, 0) for k in range(255)) + line(b's', 300, 0, b'@0'))
+    for size in (LARGEST, LARGEST + 1):
+        lines = []
+        sized(size, lines)
+        for last in (good, bad[0]):
+            c.text('p', b''.join(with_origin(x, b'@-') for x in lines) + last)
+    for count in (64, 65):
+        c.text('p', chain(count, lambda k: line(b'u', b'-', k, b'@%d' % k)))
+
+
+def random_origins(c):
+    """Listings at random with origins on some lines, whole and with a byte replaced, left out or put in."""
+    for k in range(60):
+        lines, share = random_listing(pick.choice([1, 4, 12, 30]), 0.4).splitlines(True), pick.choice([0.3, 0.8, 1])
+        text = b''.join(with_origin(x, pick.choice(ORIGINS)) if pick.random() < share else x for x in lines)
+        if k % 2 == 0:
+            c.listing(text, room=pick.choice([WORK, read_listing(text, False, WORK)[1]]))
+            continue
+        at = pick.choice([m.start() for m in re.finditer(b'@', text)] or [1]) + pick.choice([-1, 0, 0, 1, 2])
+        byte, how = bytes([pick.choice(b'\t\n0123456789-@+ a')]), pick.randrange(3)
+        c.text(pick.choice('ps'), text[:at] + (byte if how else b'') + text[at + (how != 1):])
+
+
 GROUPS = (
     smallest, cuts, bytes_changed, tabs, numbers, doubles, long_lines, names, faults, several_faults, node_counts, swap_counts, children,
     depths, sizes, together, capacities, values, orders, outputs, swaps, random_listings, damaged_listings, row_counts, row_orders,
-    operands, look_ups, random_sheets)
+    operands, look_ups, random_sheets, origins, no_origins, origin_cuts, origin_counts, random_origins)
 
 
 def made():

@@ -1,5 +1,5 @@
 """A second reading of 01 for its two texts, on trees and bytes: what a listing and a value sheet say, when they are refused, and how
-an expression is written. It knows no store and no table."""
+an expression is written, with and without origins. It knows no store and no table."""
 import hashlib
 import re
 
@@ -53,10 +53,18 @@ class Tree:
         self.depth = 1 + max([t.depth for t in children], default=0)
 
 
+ORIGIN = b'@(?:-|0|[1-9][0-9]{0,2}|10[01][0-9]|102[0-3])'
+
+
+def node_form(*fields):
+    """A node line, which may have an origin as its last field. Nothing is made of that."""
+    return re.compile(b'\t'.join(fields) + b'(?:\t' + ORIGIN + b')?')
+
+
 NODES = {
-    b'n': form(b'n', DOUBLE, DOUBLE), b'p': form(b'p'), b'v': form(b'v', WHOLE), b'm': form(b'm', WHOLE, WHOLE),
-    b'f': form(b'f', b'(sin|cos|exp|sqrt|cis)', WHOLE), b'u': form(b'u', b'([+-])', WHOLE),
-    b'b': form(b'b', b'([-+*/^])', WHOLE, WHOLE)}
+    b'n': node_form(b'n', DOUBLE, DOUBLE), b'p': node_form(b'p'), b'v': node_form(b'v', WHOLE), b'm': node_form(b'm', WHOLE, WHOLE),
+    b'f': node_form(b'f', b'(sin|cos|exp|sqrt|cis)', WHOLE), b'u': node_form(b'u', b'([+-])', WHOLE),
+    b'b': node_form(b'b', b'([-+*/^])', WHOLE, WHOLE)}
 SWAPS = {b's': form(b's', WHOLE, WHOLE)}
 
 
@@ -102,8 +110,8 @@ def swap_of(line, nodes, swaps):
     return variable, nodes[node]
 
 
-def read_listing(text, substituting, room):
-    """The root, how many different trees were stored, and the tree that is put in for each variable."""
+def read_lines(text, substituting, room):
+    """The trees of the node lines, how many different ones were stored, and the tree that is put in for each variable."""
     nodes, stored, swaps = [], set(), {}
     for i, (line, is_ended) in enumerate(lines_of(text)):
         is_swap = line[:1] == b's'
@@ -122,21 +130,37 @@ def read_listing(text, substituting, room):
             nodes.append(tree)
     if not nodes:
         raise Refused(1, 0)
-    return nodes[-1], len(stored), swaps
+    return nodes, len(stored), swaps
 
 
-def finish(tree, numbers, lines):
-    """Adds a line for each tree that the evaluation of this one is the first to finish."""
+def read_listing(text, substituting, room):
+    """The root instead of all trees."""
+    nodes, stored, swaps = read_lines(text, substituting, room)
+    return nodes[-1], stored, swaps
+
+
+def first_lines(nodes):
+    """For each tree of a listing's lines the first that gave it."""
+    lines = {}
+    for i, tree in enumerate(nodes):
+        lines.setdefault(tree.digest, i)
+    return lines
+
+
+def finish(tree, numbers, lines, origins=None):
+    """Adds a line for each tree that the evaluation of this one is the first to finish, with its origin where `origins` has those that
+    came from a line."""
     if tree.digest not in numbers:
         for child in tree.children:
-            finish(child, numbers, lines)
+            finish(child, numbers, lines, origins)
         numbers[tree.digest] = len(lines)
-        lines.append('\t'.join(tree.words + ['%d' % numbers[t.digest] for t in tree.children]) + '\n')
+        origin = [] if origins is None else ['@%s' % origins.get(tree.digest, '-')]
+        lines.append('\t'.join(tree.words + ['%d' % numbers[t.digest] for t in tree.children] + origin) + '\n')
 
 
-def written(root, room):
+def written(root, room, origins=None):
     lines = []
-    finish(root, {}, lines)
+    finish(root, {}, lines, origins)
     text = ''.join(lines).encode()
     if len(lines) > NODE_LINES:
         raise Refused(2, 0)

@@ -16,7 +16,7 @@ enum { ROWS = 1024, TEXT = 1 << 17 };
 
 static uint64_t store[FINDAVOREB_MOST_ROWS][4], desk[FINDAVOREB_DESK_WORDS], table[FINDAVOREB_TABLE_WORDS];
 static uint64_t answer[FINDAVOREB_ANSWER_WORDS], picked[FINDAVOREB_PICKED_WORDS];
-static uint8_t out[FINDAVOREB_OUT_BYTES], marks[FINDAVOREB_MARKS_BYTES];
+static uint8_t out[FINDAVOREB_ORIGINS_OUT_BYTES], marks[FINDAVOREB_MARKS_BYTES];
 
 #define ZERO "0000000000000000"
 #define BYTES(text) (const uint8_t *)(text), strlen(text)
@@ -162,6 +162,9 @@ static void no_texts(void)
     expect_unmarked("evaluate nothing", findavoreb_evaluate_marked(NO_TEXT, NO_TEXT, NO_STORE, MARKED), FINDAVOREB_BAD_LIST, 0, 0);
     expect_unmarked(
         "simplify nothing", findavoreb_simplify_marked(NO_TEXT, NO_TEXT, 10, NO_STORE, NO_OUT, MARKED), FINDAVOREB_BAD_LIST, 0, 0);
+    expect_answer("substitute nothing, with origins", findavoreb_substitute_origins(NO_TEXT, NO_STORE, NO_OUT, answer), FINDAVOREB_BAD_LIST, 0, 0);
+    expect_unmarked("simplify nothing, with origins", findavoreb_simplify_origins(NO_TEXT, NO_TEXT, 10, NO_STORE, NO_OUT, MARKED),
+                    FINDAVOREB_BAD_LIST, 0, 0);
     expect_unmarked("play nothing", findavoreb_play_marked(NO_TEXT, NO_TEXT, table, MARKED), FINDAVOREB_BAD_TAPE, 0, 0);
     expect("pick of nothing", findavoreb_pick(NO_TEXT, NO_TEXT, picked) == 0);
     expect("pick beside nothing", findavoreb_pick(PI_TAPE, 24, NO_TEXT, picked) == 1 && picked[1] == 24);
@@ -176,6 +179,8 @@ static void no_sheets(void)
     expect_answer("play without a sheet", findavoreb_play(PI_TAPE, 24, NO_TEXT, table, answer), 0, 0, PI_BITS);
     expect_unmarked("evaluate without a sheet", findavoreb_evaluate_marked(BYTES(PI), NO_TEXT, WORK, MARKED), 0, 0, PI_BITS);
     expect_unmarked("simplify without a sheet", findavoreb_simplify_marked(BYTES(VARIABLE), NO_TEXT, 10, WORK, OUT, MARKED), 0, 4, 1);
+    expect_unmarked(
+        "simplify without a sheet, with origins", findavoreb_simplify_origins(BYTES(VARIABLE), NO_TEXT, 10, WORK, OUT, MARKED), 0, 7, 1);
     expect_unmarked("play without a sheet", findavoreb_play_marked(PI_TAPE, 24, NO_TEXT, table, MARKED), 0, 0, PI_BITS);
 }
 
@@ -189,6 +194,9 @@ static void no_rows(void)
     expect_unmarked("evaluate without rows", findavoreb_evaluate_marked(BYTES(PI), NO_TEXT, NO_STORE, MARKED), FINDAVOREB_ROOM, 0, 0);
     expect_unmarked(
         "simplify without rows", findavoreb_simplify_marked(BYTES(PI), NO_TEXT, 10, NO_STORE, OUT, MARKED), FINDAVOREB_ROOM, 0, 0);
+    expect_answer("substitute without rows, with origins", findavoreb_substitute_origins(BYTES(PI), NO_STORE, OUT, answer), FINDAVOREB_ROOM, 0, 0);
+    expect_unmarked("simplify without rows, with origins", findavoreb_simplify_origins(BYTES(PI), NO_TEXT, 10, NO_STORE, OUT, MARKED),
+                    FINDAVOREB_ROOM, 0, 0);
 }
 
 static void no_outputs(void)
@@ -198,6 +206,9 @@ static void no_outputs(void)
     expect_answer("compile without out", findavoreb_compile(BYTES(PI), WORK, NO_OUT, answer), FINDAVOREB_OUT_ROOM, 0, 0);
     expect_unmarked(
         "simplify without out", findavoreb_simplify_marked(BYTES(PI), NO_TEXT, 10, WORK, NO_OUT, MARKED), FINDAVOREB_OUT_ROOM, 0, 0);
+    expect_answer("substitute without out, with origins", findavoreb_substitute_origins(BYTES(PI), WORK, NO_OUT, answer), FINDAVOREB_OUT_ROOM, 0, 0);
+    expect_unmarked("simplify without out, with origins", findavoreb_simplify_origins(BYTES(PI), NO_TEXT, 10, WORK, NO_OUT, MARKED),
+                    FINDAVOREB_OUT_ROOM, 0, 0);
 }
 
 /* ---- how many rows are enough */
@@ -269,13 +280,13 @@ static struct memory fresh_memory(int is_zeroed)
     m.desk = fresh(is_zeroed, FINDAVOREB_DESK_WORDS * sizeof *m.desk);
     m.table = fresh(is_zeroed, FINDAVOREB_TABLE_WORDS * sizeof *m.table);
     m.answer = fresh(is_zeroed, FINDAVOREB_ANSWER_WORDS * sizeof *m.answer);
-    m.out = fresh(is_zeroed, FINDAVOREB_OUT_BYTES);
+    m.out = fresh(is_zeroed, FINDAVOREB_ORIGINS_OUT_BYTES);
     m.marks = fresh(is_zeroed, FINDAVOREB_MARKS_BYTES);
     return m;
 }
 
 #define WORK_OF(m) m.store, FINDAVOREB_MOST_ROWS, m.desk, m.table
-#define OUT_OF(m) m.out, FINDAVOREB_OUT_BYTES
+#define OUT_OF(m) m.out, FINDAVOREB_ORIGINS_OUT_BYTES
 
 static void evaluate_in(struct memory m)
 {
@@ -331,6 +342,19 @@ static void marked_in(struct memory m, struct memory simplified, struct memory p
     expect("cos is marked", are_marked(m.marks, 1));
 }
 
+/* (a - b) - b as it is made of (a - b) by putting that in for a, and as it is made a by simplifying. */
+static void traced_in(struct memory m, struct memory simplified)
+{
+    static const char MADE[] = "v\t0\t@0\nv\t1\t@1\nb\t-\t0\t1\t@2\nb\t-\t2\t1\t@-\n", LEFT[] = "v\t0\t@0\n";
+    expect("substitute, with origins", findavoreb_substitute_origins(BYTES(SHIFT), WORK_OF(m), OUT_OF(m), m.answer) == FINDAVOREB_DONE);
+    expect("what it writes", m.answer[1] == strlen(MADE) && memcmp(m.out, MADE, strlen(MADE)) == 0);
+    m = simplified;
+    expect("simplify, with origins",
+           findavoreb_simplify_origins(BYTES(TWICE_LESS), BYTES(""), 10, WORK_OF(m), OUT_OF(m), m.answer, m.marks) == FINDAVOREB_DONE);
+    expect("what it writes", m.answer[1] == strlen(LEFT) && memcmp(m.out, LEFT, strlen(LEFT)) == 0);
+    expect("no row is marked", are_marked(m.marks, 0));
+}
+
 static void in_fresh_memory(int is_zeroed)
 {
     evaluate_in(fresh_memory(is_zeroed));
@@ -341,6 +365,7 @@ static void in_fresh_memory(int is_zeroed)
     compile_in(fresh_memory(is_zeroed));
     play_in(fresh_memory(is_zeroed));
     marked_in(fresh_memory(is_zeroed), fresh_memory(is_zeroed), fresh_memory(is_zeroed));
+    traced_in(fresh_memory(is_zeroed), fresh_memory(is_zeroed));
 }
 
 static void zeroed(void)

@@ -8,7 +8,7 @@
 
 /* ---- the memory that is lent, with words after it that nothing may touch */
 
-enum { GUARD = 8, ROWS = FINDAVOREB_MOST_ROWS + 904, TEXT = 1 << 17, PAPER = FINDAVOREB_OUT_BYTES + 4096 };
+enum { GUARD = 8, ROWS = FINDAVOREB_MOST_ROWS + 904, TEXT = 1 << 17, PAPER = FINDAVOREB_ORIGINS_OUT_BYTES + 4096 };
 
 static const uint64_t JUNK[4] = {0xDEADBEEF00010001, UINT64_MAX - 3, 0x0001000100010001, 1};
 static const uint8_t BLANK = 0xA5, SPOT = 0xFF;
@@ -168,7 +168,8 @@ static void check_marks(const char *name, const char *used)
         }
 }
 
-/* ---- one call each; a text ends where its string does. What can be asked with marks is asked with them too, and answers the same. */
+/* ---- one call each; a text ends where its string does. What can be asked with marks is asked with them too, and answers the same. What
+ * writes a listing is asked with origins too, and writes the same but for these. */
 
 static const uint8_t *bytes(const char *text)
 {
@@ -258,6 +259,78 @@ static void check_output(const char *name, const char *written)
     check_bytes(name, bytes(written), strlen(written));
 }
 
+/* How many bytes are written; no listing has the byte that out is filled with. */
+static size_t written_length(void)
+{
+    size_t count = 0;
+    while (count < PAPER && out[count] != BLANK)
+        count++;
+    return count;
+}
+
+/* The end of an origin that begins here: `@` and a number below 1024 without leading zeros, or `@-`; NULL where there is none. */
+static const uint8_t *end_of_origin(const uint8_t *at)
+{
+    unsigned number = 0;
+    const uint8_t *digits = at + 1;
+    if (at[0] != '@')
+        return NULL;
+    if (digits[0] == '-')
+        return digits + 1;
+    for (at = digits; *at >= '0' && *at <= '9' && number < 1024; at++)
+        number = 10 * number + (unsigned)(*at - '0');
+    return at > digits && number < 1024 && (*digits != '0' || at == digits + 1) ? at : NULL;
+}
+
+/* The listing in out is this one with an origin at the end of each line. */
+static void check_traced(const char *name, const char *written)
+{
+    const uint8_t *at = out;
+    for (; *written != 0; written++) {
+        if (*written == '\n') {
+            at = *at == '\t' ? end_of_origin(at + 1) : NULL;
+            if (at == NULL) {
+                complain(name, "a line has no origin");
+                return;
+            }
+        }
+        if (*at++ != (uint8_t)*written) {
+            complain(name, "without the origins the output is another one");
+            return;
+        }
+    }
+    if (at != out + written_length() || !is_blank_from(written_length()))
+        complain(name, "the output was changed past the result");
+}
+
+/* What is answered with origins where this is without: the same, but for the number of the bytes that were written. */
+static void check_answer_with_origins(const char *name, uint64_t returned, const uint64_t *want)
+{
+    uint64_t longer[FINDAVOREB_ANSWER_WORDS];
+    memcpy(longer, want, sizeof longer);
+    if (want[0] == FINDAVOREB_DONE)
+        longer[1] = written_length();
+    check_answer(name, returned, longer);
+}
+
+/* An output that is just long enough without origins is too short with them. */
+static struct lent with_room(struct lent lent, const uint64_t *want)
+{
+    if (want[0] == FINDAVOREB_DONE)
+        lent.bytes = PAPER;
+    return lent;
+}
+
+static void substitute_origins_in(const char *name, struct lent lent, const char *listing, const char *written, const uint64_t *want)
+{
+    prepare();
+    uint64_t returned = findavoreb_substitute_origins(
+        bytes(listing), strlen(listing), store, lent.rows, desk, table, out, lent.bytes, answer);
+    check_answer(name, returned, want);
+    check_memory(name, lent);
+    check_output(name, written);
+}
+
 static void substitute_in(const char *name, struct lent lent, const char *listing, const char *written, const uint64_t *want)
 {
     prepare();
@@ -266,6 +339,26 @@ static void substitute_in(const char *name, struct lent lent, const char *listin
     check_answer(name, returned, want);
     check_memory(name, lent);
     check_output(name, written);
+    prepare();
+    lent = with_room(lent, want);
+    returned = findavoreb_substitute_origins(
+        bytes(listing), strlen(listing), store, lent.rows, desk, table, out, lent.bytes, answer);
+    check_answer_with_origins(name, returned, want);
+    check_memory(name, lent);
+    check_traced(name, written);
+}
+
+static void simplify_origins_in(
+    const char *name, struct lent lent, const char *listing, const char *sheet, uint64_t limit, const char *written, const char *used,
+    const uint64_t *want)
+{
+    prepare();
+    uint64_t returned = findavoreb_simplify_origins(
+        bytes(listing), strlen(listing), bytes(sheet), strlen(sheet), limit, store, lent.rows, desk, table, out, lent.bytes, answer, marks);
+    check_answer(name, returned, want);
+    check_memory(name, lent);
+    check_output(name, written);
+    check_marks(name, used);
 }
 
 static void simplify_marked_in(
@@ -278,6 +371,14 @@ static void simplify_marked_in(
     check_answer(name, returned, want);
     check_memory(name, lent);
     check_output(name, written);
+    check_marks(name, used);
+    prepare();
+    lent = with_room(lent, want);
+    returned = findavoreb_simplify_origins(
+        bytes(listing), strlen(listing), bytes(sheet), strlen(sheet), limit, store, lent.rows, desk, table, out, lent.bytes, answer, marks);
+    check_answer_with_origins(name, returned, want);
+    check_memory(name, lent);
+    check_traced(name, written);
     check_marks(name, used);
 }
 
@@ -542,6 +643,27 @@ static void marked_simpler(
 {
     simplify_marked_in(
         name, ALL, listing, sheet, limit, written, used, (uint64_t[]){0, strlen(written), simplify_calls, 0, 0, 0});
+}
+
+/* With just enough memory for the bytes with origins, and then with a byte less. */
+static void result_from(const char *name, const char *listing, const char *written)
+{
+    struct lent lent = {FINDAVOREB_MOST_ROWS, strlen(written)};
+    substitute_origins_in(name, ALL, listing, written, (uint64_t[]){0, lent.bytes, 0, 0, 0, 0});
+    substitute_origins_in(name, lent, listing, written, (uint64_t[]){0, lent.bytes, 0, 0, 0, 0});
+    lent.bytes--;
+    substitute_origins_in(name, lent, listing, "", (uint64_t[]){FINDAVOREB_OUT_ROOM, 0, 0, 0, 0, 0});
+}
+
+static void simpler_from(
+    const char *name, const char *listing, const char *sheet, uint64_t limit, const char *written, const char *used, uint64_t simplify_calls)
+{
+    struct lent lent = {FINDAVOREB_MOST_ROWS, strlen(written)};
+    const uint64_t want[] = {0, lent.bytes, simplify_calls, 0, 0, 0};
+    simplify_origins_in(name, ALL, listing, sheet, limit, written, used, want);
+    simplify_origins_in(name, lent, listing, sheet, limit, written, used, want);
+    lent.bytes--;
+    simplify_origins_in(name, lent, listing, sheet, limit, "", "", (uint64_t[]){FINDAVOREB_OUT_ROOM, 0, 0, 0, 0, 0});
 }
 
 /* ---- pieces of texts: doubles by their bits */
@@ -1179,6 +1301,180 @@ static void marks_of_short_memory(void)
     simplify_marked_in("a bad sheet", ALL, SINE, SIN_OF_HALF "q\n", 10, "", "", (uint64_t[]){FINDAVOREB_BAD_SHEET, 1, 0, 0, 0, 0});
 }
 
+/* ---- where the nodes came from */
+
+#define FROM(line, origin) line "\t@" origin "\n"
+#define NUMBER_FROM(re, im, origin) FROM("n\t" re "\t" im, origin)
+#define INFIX_FROM(op, left, right, origin) FROM("b\t" op "\t" left "\t" right, origin)
+
+/* What is put in is a line's, and what is made around it is not, unless a line has the same. */
+static void origins_of_results(void)
+{
+    result_from("a shift", SHIFT,
+                FROM("v\t0", "0") NUMBER_FROM(HALF, ZERO, "4") INFIX_FROM("+", "0", "1", "5") FROM("v\t1", "1") INFIX_FROM("-", "2", "3", "-")
+                NUMBER_FROM(TWO, ZERO, "3") INFIX_FROM("/", "4", "5", "-"));
+    result_from("a swap", "v\t0\nv\t1\n" INFIX("-", "0", "1") "s\t0\t1\ns\t1\t0\n", FROM("v\t1", "1") FROM("v\t0", "0") INFIX_FROM("-", "0", "1", "-"));
+    result_from("a swap of which a line has the result", "v\t0\nv\t1\n" INFIX("-", "1", "0") INFIX("-", "0", "1") "s\t0\t1\ns\t1\t0\n",
+                FROM("v\t1", "1") FROM("v\t0", "0") INFIX_FROM("-", "0", "1", "2"));
+    result_from("equal and unused lines", "v\t0\nv\t7\nv\t0\n" INFIX("*", "0", "2"), FROM("v\t0", "0") INFIX_FROM("*", "0", "0", "3"));
+    result_from("the first of three", "p\nu\t-\t0\nu\t-\t0\nu\t-\t0\nu\t+\t3\n", FROM("p", "0") FROM("u\t-\t0", "1") FROM("u\t+\t1", "4"));
+    result_from("lines in another order", "v\t0\nv\t1\n" INFIX("-", "1", "0"), FROM("v\t1", "1") FROM("v\t0", "0") INFIX_FROM("-", "0", "1", "2"));
+    result_from("a leaf", "v\t0\np\nv\t1\nv\t0\ns\t0\t1\n", FROM("p", "1"));
+    result_from("every kind", NUMBER(ONE, TWO) "p\nv\t65535\nm\t65535\t4294967295\n" "f\tcis\t3\n" INFIX("^", "0", "1") INFIX("*", "5", "2") INFIX("/", "6", "4"),
+                NUMBER_FROM(ONE, TWO, "0") FROM("p", "1") INFIX_FROM("^", "0", "1", "5") FROM("v\t65535", "2") INFIX_FROM("*", "2", "3", "6")
+                FROM("m\t65535\t4294967295", "3") FROM("f\tcis\t5", "4") INFIX_FROM("/", "4", "6", "7"));
+}
+
+/* Numbers are the same by their bits, and all NaNs are one. */
+static void origins_of_numbers(void)
+{
+    result_from("zeros of two signs", NUMBER("8000000000000000", ZERO) NUMBER(ZERO, ZERO) NUMBER(ZERO, "8000000000000000") INFIX("+", "1", "2"),
+                NUMBER_FROM(ZERO, ZERO, "1") NUMBER_FROM(ZERO, "8000000000000000", "2") INFIX_FROM("+", "0", "1", "3"));
+    result_from("NaNs", NUMBER(A_NAN, ONE) NUMBER("7FF8000000000000", ONE) INFIX("+", "0", "1"),
+                NUMBER_FROM("7FF8000000000000", ONE, "0") INFIX_FROM("+", "0", "0", "2"));
+    simpler_from("a zero of a line", NUMBER(ZERO, ZERO) "v\t0\n" INFIX("-", "1", "1"), "", 10, NUMBER_FROM(ZERO, ZERO, "0"), "", 3);
+    simpler_from("a zero of the other sign", NUMBER("8000000000000000", ZERO) "v\t0\n" INFIX("-", "1", "1"), "", 10, NUMBER_FROM(ZERO, ZERO, "-"), "", 3);
+}
+
+static void origins_of_simpler(void)
+{
+    simpler_from("(a - b) - b", TWICE_LESS, "", 10, FROM("v\t0", "0"), "", 11);
+    simpler_from("a - a", "v\t0\n" INFIX("-", "0", "0"), "", 10, NUMBER_FROM(ZERO, ZERO, "-"), "", 3);
+    simpler_from("0 - a", NUMBER(ZERO, ZERO) "v\t0\n" INFIX("-", "0", "1"), "", 10, FROM("v\t0", "1") FROM("u\t-\t0", "-"), "", 5);
+    simpler_from("0 - a where a line has -a", NUMBER(ZERO, ZERO) "v\t0\nu\t-\t1\n" INFIX("-", "0", "1"), "", 10, FROM("v\t0", "1") FROM("u\t-\t0", "2"), "", 5);
+    simpler_from("limit 0", HALF_DIFFERENCE, "", 0,
+                 FROM("v\t0", "0") FROM("v\t1", "1") INFIX_FROM("-", "0", "1", "2") NUMBER_FROM(TWO, ZERO, "3") INFIX_FROM("/", "2", "3", "4"), "", 1);
+    simpler_from("a fold", SINE, ONE_FOR_EXP SIN_OF_HALF ONE_FOR_SIN, 10, NUMBER_FROM("3FDEAEE8744B05F0", ZERO, "-"), "010", 2);
+    simpler_from("a fold to the number of a line", SINE, ROW("sin", HALF, ZERO, HALF, ZERO), 10, NUMBER_FROM(HALF, ZERO, "0"), "1", 2);
+}
+
+/* The origins that a listing has are looked at and ignored, whatever they say. */
+static void origins_that_are_given(void)
+{
+    result_from("lines with origins", FROM("v\t0", "7") "v\t0\n" FROM("u\t-\t1", "-") FROM("v\t1", "1023") INFIX_FROM("+", "2", "3", "0") "s\t1\t0\n",
+                FROM("v\t0", "0") FROM("u\t-\t0", "2") INFIX_FROM("+", "1", "0", "-"));
+    simpler_from("lines with origins", FROM("v\t3", "5") FROM("v\t0", "5") INFIX_FROM("-", "0", "1", "5") INFIX_FROM("-", "2", "1", "5"), "", 10,
+                 FROM("v\t3", "0"), "", 11);
+    result("the same without", FROM("v\t0", "7") FROM("v\t0", "-") INFIX_FROM("*", "0", "1", "1"), "v\t0\n" INFIX("*", "0", "0"));
+    simpler("the same without", FROM("v\t0", "1") FROM("v\t1", "-") INFIX_FROM("-", "0", "1", "3") INFIX("-", "2", "1"), "", 10, "v\t0\n", 11);
+    value("a value", FROM("v\t0", "4") FROM("v\t1", "10") INFIX_FROM("-", "0", "1", "999") NUMBER_FROM(TWO, ZERO, "1000") INFIX_FROM("/", "2", "3", "-"),
+          BOUND("0", "3FF4000000000000") BOUND("1", HALF), 0x3FD8000000000000, 0);
+    value("a cell and a function", FROM("m\t3\t4294967295", "0") FROM("f\tsin\t0", "-"), "m\t3\t4294967295\t" HALF "\n" SIN_OF_HALF, SIN_BITS, 0);
+    real("a real number", NUMBER_FROM(TWO, ZERO, "-") NUMBER_FROM(THREE, ZERO, "2"), THREE_BITS);
+    real("pi", FROM("p", "0"), PI_BITS);
+    compiled("a tape", FROM("v\t1", "3") FROM("u\t-\t0", "0"), TAPE(VARIABLE_STEP(1), PREFIX_STEP(2)));
+    same_played("played", FROM("v\t0", "4") NUMBER_FROM(HALF, ZERO, "-") FROM("f\tcis\t1", "0") INFIX_FROM("*", "0", "2", "1"),
+                BOUND("0", TWO) SIN_OF_HALF COS_OF_HALF);
+    value("equal lines take one row", many("", "p\t@%u\n", 1024), "", PI_BITS, 0);
+    evaluate_in("equal lines take one row", (struct lent){1, PAPER}, text, "", (uint64_t[]){0, 0, PI_BITS, 0, 0, 0});
+}
+
+/* A line that ends in this is refused by each function that reads a listing, and leaves all memory as a refusal does. */
+static void bad_line(const char *name, const char *end)
+{
+    begin();
+    add("v\t0\t@0\np\t@-\n", 0, 0);
+    add("u\t-\t1\t", 0, 0);
+    strcpy(text + length, end);
+    no_value(name, text, "", FINDAVOREB_BAD_LIST, 2);
+    no_result(name, text, FINDAVOREB_BAD_LIST, 2);
+    no_real(name, text, FINDAVOREB_BAD_LIST, 2);
+    not_simpler(name, text, "", 10, FINDAVOREB_BAD_LIST, 2);
+    not_compiled(name, text, FINDAVOREB_BAD_LIST, 2);
+}
+
+static void malformed_origins(void)
+{
+    static const char *const ENDS[] = {
+        "\n", "@\n", "@01\n", "@00\n", "@1024\n", "@10000\n", "@18446744073709551616\n", "@x\n", "@1a\n", "@-1\n", "@--\n", "@+1\n", "@ 1\n",
+        "@1 \n", "@1\t\n", "@1\t@2\n", "@-\t@-\n", "\t@1\n", "@@1\n", "1\n", "-\n", "@1\r\n", "@", "@1", "@-"};
+    for (size_t i = 0; i < sizeof ENDS / sizeof ENDS[0]; i++)
+        bad_line(ENDS[i], ENDS[i]);
+    no_value("without a tab", "p@1\n", "", FINDAVOREB_BAD_LIST, 0);
+    no_value("an origin alone", "p\n@1\n", "", FINDAVOREB_BAD_LIST, 1);
+    no_value("an origin for a child", "p\nu\t-\t@0\n", "", FINDAVOREB_BAD_LIST, 1);
+    no_result("an s line", "v\t0\ns\t0\t0\t@0\n", FINDAVOREB_BAD_LIST, 1);
+    no_result("an s line, and none", "v\t0\ns\t0\t0\t@-\n", FINDAVOREB_BAD_LIST, 1);
+    no_value("a sheet", "p\n", "v\t0\t" ONE "\t" ZERO "\t@0\n", FINDAVOREB_BAD_SHEET, 0);
+    many("", "p\t@0\n", 1024);
+    add("p\t@\n", 0, 0);
+    no_value("a malformed 1025th line", text, "", FINDAVOREB_LONG_LIST, 1024);
+    many("", "p\t@0\n", 1023);
+    add("p\t@\n", 0, 0);
+    no_value("a malformed 1024th line", text, "", FINDAVOREB_BAD_LIST, 1023);
+}
+
+/* 512 numbers and a tree of 511 sums over them, below a sign: 1024 lines. */
+static const char *full_listing(void)
+{
+    unsigned lines[512];
+    begin();
+    for (unsigned i = 0; i < 512; i++) {
+        add("n\t%016X\t%016X\n", i, i);
+        lines[i] = i;
+    }
+    unsigned next = join(INFIX("+", "%u", "%u"), lines, 512, 512);
+    add("u\t-\t%u\n", next - 1, 0);
+    return text;
+}
+
+/* A listing as it is written keeps its lines, so each is its own origin; the last of 1024 is 1023. */
+static void origins_of_many(void)
+{
+    static char listing[PAPER], written[PAPER];
+    size_t at = 0;
+    unsigned line = 0;
+    full_listing();
+    prepare();
+    findavoreb_substitute(bytes(text), length, store, FINDAVOREB_MOST_ROWS, desk, table, out, PAPER, answer);
+    memcpy(listing, out, (size_t)answer[1]);
+    listing[answer[1]] = 0;
+    for (const char *each = listing; *each != 0; each++)
+        at += (size_t)(*each == '\n' ? snprintf(written + at, PAPER - at, "\t@%u\n", line++) : snprintf(written + at, PAPER - at, "%c", *each));
+    if (line != 1024)
+        complain("1024 lines", "the listing has another number of lines");
+    result_from("1024 lines", listing, written);
+    result_from("1024 lines with origins", written, written);
+    simpler_from("1024 lines at limit 0", listing, "", 0, written, "", 1);
+    result("1024 lines with origins, written without", written, listing);
+    result("1024 lines in another order", full_listing(), listing);
+}
+
+/* The shift has 7 nodes, and two more are made; with origins its result has 104 bytes and 21 more. */
+static void origins_in_short_memory(void)
+{
+    const char *traced = FROM("v\t0", "0") NUMBER_FROM(HALF, ZERO, "4") INFIX_FROM("+", "0", "1", "5") FROM("v\t1", "1") INFIX_FROM("-", "2", "3", "-")
+        NUMBER_FROM(TWO, ZERO, "3") INFIX_FROM("/", "4", "5", "-");
+    const uint64_t full[] = {FINDAVOREB_ROOM, 0, 0, 0, 0, 0}, short_of_out[] = {FINDAVOREB_OUT_ROOM, 0, 0, 0, 0, 0};
+    for (int k = 0; k < 4; k++) {
+        struct lent lent = {9, strlen(traced)};
+        junk = JUNK[k];
+        substitute_origins_in("just enough", lent, SHIFT, traced, (uint64_t[]){0, strlen(traced), 0, 0, 0, 0});
+        lent.bytes = strlen(traced) - 1;
+        substitute_origins_in("a byte less", lent, SHIFT, "", short_of_out);
+        lent.bytes = strlen(SHIFTED);
+        substitute_origins_in("just enough without origins", lent, SHIFT, "", short_of_out);
+        lent.bytes = 0;
+        substitute_origins_in("an empty output", lent, SHIFT, "", short_of_out);
+        lent.rows = 8;
+        substitute_origins_in("full before it is written", lent, SHIFT, "", full);
+        lent.rows = 3, lent.bytes = 39;
+        simplify_origins_in("just enough for a fold", lent, SINE, SIN_OF_HALF, 10, NUMBER_FROM("3FDEAEE8744B05F0", ZERO, "-"), "1",
+                            (uint64_t[]){0, 39, 2, 0, 0, 0});
+        lent.bytes = 38;
+        simplify_origins_in("an output too short after a fold", lent, SINE, SIN_OF_HALF, 10, "", "", short_of_out);
+        lent.bytes = 36;
+        simplify_origins_in("just enough without origins", lent, SINE, SIN_OF_HALF, 10, "", "", short_of_out);
+        lent.rows = 2;
+        simplify_origins_in("no room for what is folded", lent, SINE, SIN_OF_HALF, 10, "", "", full);
+    }
+    junk = JUNK[0];
+    simplify_origins_in("a lack", ALL, CIS, ONE_FOR_EXP COS_OF_HALF, 10, "", "01",
+                        (uint64_t[]){FINDAVOREB_NEED, FINDAVOREB_SIN, HALF_BITS, 0, 0, 0});
+    simplify_origins_in("a limit of 11", ALL, SINE, SIN_OF_HALF, 11, "", "", (uint64_t[]){FINDAVOREB_BAD_LIMIT, 0, 0, 0, 0, 0});
+    substitute_origins_in("1499 lines of result", ALL, grown(), "", (uint64_t[]){FINDAVOREB_LONG_LIST, 0, 0, 0, 0, 0});
+}
+
 /* Room for two nodes, for one, for none, whatever the memory held. */
 static void few_rows(void)
 {
@@ -1311,6 +1607,13 @@ int main(void)
     marks_of_large_nodes();
     marks_of_long_results();
     marks_of_short_memory();
+    origins_of_results();
+    origins_of_numbers();
+    origins_of_simpler();
+    origins_that_are_given();
+    malformed_origins();
+    origins_of_many();
+    origins_in_short_memory();
     printf("%u calls, %u wrong\n", calls, wrong);
     return wrong == 0 ? EXIT_SUCCESS : EXIT_FAILURE;
 }

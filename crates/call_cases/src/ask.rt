@@ -8,6 +8,7 @@ use exports::findavoreb_evaluate;
 use exports::findavoreb_play;
 use exports::findavoreb_simplify;
 use exports::findavoreb_substitute;
+use exports::findavoreb_substitute_origins;
 use exports::findavoreb_to_real;
 use memory::layout::DESK_WORDS;
 use memory::layout::MARKS;
@@ -44,6 +45,7 @@ fn call(
         b'e' => findavoreb_evaluate(text, sheet, store, desk, table, words),
         b'r' => findavoreb_to_real(text, store, desk, table, words),
         b's' => findavoreb_substitute(text, store, desk, table, out, words),
+        b'S' => findavoreb_substitute_origins(text, store, desk, table, out, words),
         b'z' => findavoreb_simplify(text, sheet, limit, store, desk, table, out, words),
         _ => findavoreb_compile(text, store, desk, table, out, words),
     }

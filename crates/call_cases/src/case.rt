@@ -48,7 +48,7 @@ fn detail(line: Line) -> u64 {
     }
     let kind = line.kind;
     match kind {
-        b's' | b'z' | b'Z' | b'c' => lower(line.fields[4]) as u64,
+        b's' | b'S' | b'z' | b'Z' | b'O' | b'c' => lower(line.fields[4]) as u64,
         b'k' => (upper(line.fields[3]) / 24) as u64,
         _ => line.fields[6],
     }

@@ -15,8 +15,8 @@ use replay::slices::is_same;
 // As long as the words of a command line can be.
 const WORDS: usize = 8192;
 
-// Room for a sentence that names a word, or for one and the rows that were used.
-const SAID: usize = 92_160;
+// Room for a sentence that names a word; or for one, the rows that were used, and where lines of the job stand.
+const SAID: usize = 148_480;
 
 fn say_both(what: &[u8], wanted: &[u8], got: &[u8]) {
     say::word(what);
@@ -46,7 +46,7 @@ fn is_printed(
     out: &mut [u8],
     said: &mut [u8],
 ) -> bool
-    requires { ⌜ (65536 ≤ length (now out)) × (length (now words) + 82960 ≤ length (now said)) ⌝ }
+    requires { ⌜ (65536 ≤ length (now out)) × (length (now words) + 139280 ≤ length (now said)) ⌝ }
     ensures { λ r. ⌜ r ≡ printedAs (now (words .entry)) (now (job .entry)) (now (out .entry)) (now («out_wanted» .entry)) (now («said_wanted» .entry)) ⌝ }
 {
     let printed = answer(words, job, out, said);

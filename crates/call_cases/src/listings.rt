@@ -52,11 +52,11 @@ fn ask_and_look(list: i32, case: Case, text: &[u8], sheet: &[u8]) -> Outcome {
     match kind {
         b'e' => evaluations::run(case, text, sheet),
         b'r' => Outcome::Right.if_right(is_value(case, ask(kind, case, text, sheet, 0))),
-        b's' | b'z' | b'c' => {
+        b's' | b'S' | b'z' | b'c' => {
             Outcome::Right.if_right(is_told(list, case, ask(kind, case, text, sheet, case.room)))
         }
         b'E' => evaluations::run_marked(list, case, text, sheet),
-        b'Z' => Outcome::Right.if_right(is_simplified(list, case, text, sheet)),
+        b'Z' | b'O' => Outcome::Right.if_right(is_simplified(list, case, text, sheet)),
         _ => Outcome::Wrong,
     }
 }

@@ -1,11 +1,12 @@
-// The port is asked through the calls with marks, as C asks it. All memory holds the case's word before, and every mark is
-// junk that is no mark.
+// The port is asked through the calls with marks, as C asks it; one of them writes origins too. All memory holds the case's
+// word before, and every mark is junk that is no mark.
 use super::ask::Told;
 use super::ask::is_table_clear;
 use super::case::Case;
 use exports::findavoreb_evaluate_marked;
 use exports::findavoreb_play_marked;
 use exports::findavoreb_simplify_marked;
+use exports::findavoreb_simplify_origins;
 use memory::layout::DESK_WORDS;
 use memory::layout::MARKS;
 use memory::layout::TABLE_WORDS;
@@ -41,6 +42,26 @@ pub fn evaluate(case: Case, text: &[u8], sheet: &[u8]) -> Told {
     }
 }
 
+// With origins if the case's letter asks for them.
+fn call_simplify(
+    kind: u8,
+    text: &[u8],
+    sheet: &[u8],
+    limit: u64,
+    store: &mut [[u64; 4]],
+    desk: &mut [u64; DESK_WORDS],
+    table: &mut [u64; TABLE_WORDS],
+    out: &mut [u8],
+    words: &mut [u64; 6],
+    marks: &mut [u8; MARKS],
+) {
+    if kind == b'O' {
+        findavoreb_simplify_origins(text, sheet, limit, store, desk, table, out, words, marks);
+        return;
+    }
+    findavoreb_simplify_marked(text, sheet, limit, store, desk, table, out, words, marks);
+}
+
 pub fn simplify(case: Case, text: &[u8], sheet: &[u8]) -> Told {
     let junk = case.junk;
     let rows = case.rows;
@@ -52,7 +73,8 @@ pub fn simplify(case: Case, text: &[u8], sheet: &[u8]) -> Told {
     let mut marks = [BLANK; MARKS];
     let m = part(&store, rows);
     let n = part_of_bytes(&paper, case.room);
-    findavoreb_simplify_marked(
+    call_simplify(
+        case.kind,
         text,
         sheet,
         case.limit,

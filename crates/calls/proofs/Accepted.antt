@@ -13,12 +13,14 @@ use Rattle.expression.specs.declared.refusal.Refusal.{Refusal}
 use Rattle.expression.specs.Trees.{Tree, leaf, pi}
 use Rattle.store.specs.Storing as Storing
 use Rattle.store.specs.Storing.{State, Answer, gives, intern, recall, fresh}
-use Rattle.text.specs.Reading.{Read, is, bad, then, tab, lf, ended, decimalField, hexField, nameField}
+use Rattle.text.specs.Reading.{Read, is, bad, then, tab, lf, ended, decimalField, hexField, nameField, decimal, hex}
 use Rattle.text.proofs.Only.{decimal-only, ended-only}
 use Rattle.text.specs.Lines as Lines
 use Rattle.text.specs.Lines.{Line, Whole, lines, none, aboveLast}
 use Rattle.spelling.specs.Names.{functionNames, prefixNames, infixNames, operationNames}
-use Rattle.node_lines.specs.NodeLines.{childField, numberFields, variableFields, cellFields, functionFields, prefixFields, infixFields, fieldsOf, nodeFields}
+use Rattle.node_lines.specs.NodeLines.{childBy, childField, numberFields, variableFields, cellFields, functionFields, prefixFields, infixFields, fieldsOf, piLine, lineBy, nodeFields}
+use Rattle.origins.specs.Fields.{lineEnd}
+use Rattle.origins.proofs.Ending.{line-end-only}
 use Rattle.listing.specs.Listings as Listings
 use Rattle.listing.specs.Listings.{Listing, Swap, accepted, Known, known, stored, formed, mostNodes, mostSwaps, nodeLine, swapFields, swapped, swapLine, listingLine, last, rooted, whole, listing, aboveVariable}
 use Rattle.sheet.specs.Rows as Rows
@@ -56,32 +58,41 @@ below stop limit bs = go (decimalField stop limit bs) refl
     go bad e = no
     go (is v rest) e = says (decimal-only limit v bs (stop ∷ rest) (ended-only stop _ v rest e) .0)
 
+-- at the end of a node line
+last-below : (limit : ℕ) (bs : List ℕ) → Reads (λ v. v < limit) (lineEnd (decimal limit bs))
+last-below limit bs = go (lineEnd (decimal limit bs)) refl
+  where
+    go : (r : Read ℕ) → lineEnd (decimal limit bs) ≡ r → Reads (λ v. v < limit) r
+    go bad e = no
+    go (is v rest) e = let q = line-end-only (decimal limit bs) v rest e in says (decimal-only limit v bs (q .mid) (q .read) .0)
+
 -- ---- a listing's line: a tree whose operands are stored
 
 module _ (ts nodes : List Tree) (f : Each (In ts) (leaf pi) nodes) where
   child-in : (stop : ℕ) (bs : List ℕ) → Reads (In ts) (childField stop nodes bs)
-  unfolding childField
+  unfolding childBy
   child-in stop bs = after _ (below stop (length nodes) bs) λ i rest l. says (f i l)
 
-  fields-new : (first : ℕ) (bs : List ℕ) → Reads (New ts) (fieldsOf nodes first bs)
+  last-child-in : (bs : List ℕ) → Reads (In ts) (childBy lineEnd nodes bs)
+  unfolding childBy
+  last-child-in bs = after _ (last-below (length nodes) bs) λ i rest l. says (f i l)
+
+  fields-new : (first : ℕ) (bs : List ℕ) → Reads (New ts) (fieldsOf lineEnd nodes first bs)
   unfolding fieldsOf numberFields variableFields cellFields functionFields prefixFields infixFields New
   fields-new first bs =
-      either (eqb first 110) (after _ (any (hexField tab bs)) λ re bs _. after _ (any (hexField lf bs)) λ im bs _. says (of-parts-fitting re im))
-      (either (eqb first 118) (after _ (below lf 65536 bs) λ v rest l. says l)
-      (either (eqb first 109) (after _ (below tab 65536 bs) λ region bs l. after _ (below lf 4294967296 bs) λ index rest l′. says (l, l′))
-      (either (eqb first 102) (after _ (any (nameField tab functionNames bs)) λ o bs _. after _ (child-in lf bs) λ t rest i. says i)
-      (either (eqb first 117) (after _ (any (nameField tab prefixNames bs)) λ o bs _. after _ (child-in lf bs) λ t rest i. says i)
+      either (eqb first 110) (after _ (any (hexField tab bs)) λ re bs _. after _ (any (lineEnd (hex bs))) λ im bs _. says (of-parts-fitting re im))
+      (either (eqb first 118) (after _ (last-below 65536 bs) λ v rest l. says l)
+      (either (eqb first 109) (after _ (below tab 65536 bs) λ region bs l. after _ (last-below 4294967296 bs) λ index rest l′. says (l, l′))
+      (either (eqb first 102) (after _ (any (nameField tab functionNames bs)) λ o bs _. after _ (last-child-in bs) λ t rest i. says i)
+      (either (eqb first 117) (after _ (any (nameField tab prefixNames bs)) λ o bs _. after _ (last-child-in bs) λ t rest i. says i)
       (either (eqb first 98)
-      (after _ (any (nameField tab infixNames bs)) λ o bs _. after _ (child-in tab bs) λ l bs i. after _ (child-in lf bs) λ r rest j. says (i, j))
+      (after _ (any (nameField tab infixNames bs)) λ o bs _. after _ (child-in tab bs) λ l bs i. after _ (last-child-in bs) λ r rest j. says (i, j))
       no)))))
 
   node-new : (first : ℕ) (bs : List ℕ) → Reads (New ts) (nodeFields nodes first bs)
-  unfolding nodeFields ended New
-  node-new first bs = either (eqb first 112) (pi-new bs) (after _ (any (ended tab (is first bs))) λ first bs _. fields-new first bs)
-    where
-      pi-new : (bs : List ℕ) → Reads (New ts) (ended lf (is (leaf pi) bs))
-      pi-new [] = no
-      pi-new (b ∷ bs) = either (eqb b lf) (says tt) no
+  unfolding lineBy piLine New
+  node-new first bs =
+      either (eqb first 112) (after _ (any (lineEnd (is 0 bs))) λ _ bs _. says tt) (after _ (any (ended tab (is first bs))) λ first bs _. fields-new first bs)
 
   swap-in : (first : ℕ) (bs : List ℕ) → Reads (λ w. In ts (treeOf w)) (swapFields nodes first bs)
   unfolding swapFields treeOf

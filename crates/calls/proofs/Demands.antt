@@ -32,11 +32,13 @@ use Rattle.calls.specs.declared.Simplified.{Simplified}
 use Rattle.calls.specs.Lent.{Work, capacity, zeroed}
 use Rattle.calls.specs.Calls.{evaluateCall, substituteCall, toRealCall, simplifyCall, compileCall, playCall}
 use Rattle.calls.specs.Marks.{evaluateMarks, playMarks}
-use Rattle.calls.specs.Promises.{Evaluates, Substitutes, ReadsReal, Simplifies, Compiles, Plays}
+use Rattle.calls.specs.Origins.{substituteOrigins, simplifyOrigins}
+use Rattle.calls.specs.Promises.{Evaluates, Substitutes, SubstitutesOrigins, ReadsReal, Simplifies, SimplifiesOrigins, Compiles, Plays}
 use Rattle.calls.proofs.Demand.{compiles}
 use Rattle.calls.proofs.TapeBytes.{written-plays, written-depth, FromAnywhere, from-anywhere}
 use Rattle.calls.proofs.MarkedDemand.{written-marks}
 use Rattle.calls.proofs.ReadBack.{SimplifiedBack, SubstitutedBack, simplified-reads-back, substituted-reads-back}
+use Rattle.calls.proofs.Beside.{SubstitutedWith, SimplifiedWith, substituted-with-origins, simplified-with-origins, substitute-origins-so, simplify-origins-so}
 use Rattle.calls.proofs.Answering.{EvaluatedSo, RealSo, WrittenSo, SimplifiedSo, evaluate-call-so, real-call-so, substitute-call-so, compile-call-so, simplify-call-so, play-call-so}
 
 -- ---- demand 1: "Every listing, value sheet, tape and limit gets a value or one of the numbered refusals, given exactly when 01 says. A refusal
@@ -54,6 +56,10 @@ pub record Demand1 : Type 0 where
   pub reading-real : (list : List ℕ) (w w′ : Work) (r : Real) → ReadsReal list w r w′ → (r ≡ toRealCall (capacity w) list) × RealSo r × (w′ ≡ zeroed w)
   pub compiling : (list out out′ : List ℕ) (w w′ : Work) (r : Written) → Compiles list out w r out′ w′
       → ((r, out′) ≡ compileCall (capacity w) list out) × WrittenSo out out′ r × (w′ ≡ zeroed w)
+  pub simplifying-origins : (limit : ℕ) (list values out marks out′ : List ℕ) (w w′ : Work) (r : Simplified) → SimplifiesOrigins limit list values out w r marks out′ w′
+      → ((r, out′) ≡ simplifyOrigins (capacity w) limit list values out) × SimplifiedSo out out′ r × (w′ ≡ zeroed w)
+  pub substituting-origins : (list out out′ : List ℕ) (w w′ : Work) (r : Written) → SubstitutesOrigins list out w r out′ w′
+      → ((r, out′) ≡ substituteOrigins (capacity w) list out) × WrittenSo out out′ r × (w′ ≡ zeroed w)
   pub playing : (tape values table table′ : List ℕ) (r : Evaluated) → Plays tape values table r table′
       → (r ≡ playCall tape values) × EvaluatedSo r × (table′ ≡ replicate (length table) 0)
 
@@ -66,6 +72,10 @@ demand-1 = record {
   substituting = λ list out out′ w w′ r p. (ap (λ x. x .0) p, subst (λ x. WrittenSo out (x .1) (x .0)) (sym (ap (λ x. x .0) p)) (substitute-call-so (capacity w) list out), ap (λ x. x .1) p);
   reading-real = λ list w w′ r p. (ap (λ x. x .0) p, subst RealSo (sym (ap (λ x. x .0) p)) (real-call-so (capacity w) list), ap (λ x. x .1) p);
   compiling = λ list out out′ w w′ r p. (ap (λ x. x .0) p, subst (λ x. WrittenSo out (x .1) (x .0)) (sym (ap (λ x. x .0) p)) (compile-call-so (capacity w) list out), ap (λ x. x .1) p);
+  simplifying-origins = λ limit list values out marks out′ w w′ r p.
+      (ap (λ x. x .0 .0) p, subst (λ x. SimplifiedSo out (x .1) (x .0)) (sym (ap (λ x. x .0 .0) p)) (simplify-origins-so (capacity w) limit list values out), ap (λ x. x .1) p);
+  substituting-origins = λ list out out′ w w′ r p.
+      (ap (λ x. x .0) p, subst (λ x. WrittenSo out (x .1) (x .0)) (sym (ap (λ x. x .0) p)) (substitute-origins-so (capacity w) list out), ap (λ x. x .1) p);
   playing = λ tape values table table′ r p. (ap (λ x. x .0) p, subst EvaluatedSo (sym (ap (λ x. x .0) p)) (play-call-so tape values), ap (λ x. x .1) p);
 }
 
@@ -102,6 +112,11 @@ pub record Demand2 : Type 0 where
       → simplifyCall room limit list values out ≡ (Simplified.Bytes bytes calls, out′) → SimplifiedBack room limit list values bytes out′
   pub substituted-back : (room : ℕ) (list out : List ℕ) (bytes : ℕ) (out′ : List ℕ)
       → substituteCall room list out ≡ (Written.Bytes bytes, out′) → SubstitutedBack room list bytes out′
+  -- Ticket 3: and so do those with origins
+  pub simplified-origins-back : (room limit : ℕ) (list values out : List ℕ) (bytes calls : ℕ) (out′ : List ℕ)
+      → simplifyOrigins room limit list values out ≡ (Simplified.Bytes bytes calls, out′) → SimplifiedWith room limit list values out bytes calls out′
+  pub substituted-origins-back : (room : ℕ) (list out : List ℕ) (bytes : ℕ) (out′ : List ℕ)
+      → substituteOrigins room list out ≡ (Written.Bytes bytes, out′) → SubstitutedWith room list out bytes out′
 
 pub demand-2 : Demand2
 unfolding plus minus times over negated
@@ -114,6 +129,8 @@ demand-2 = record {
   negations = λ x. refl;
   simplified-back = λ room limit list values out bytes calls out′ wrote. simplified-reads-back room limit list values out wrote;
   substituted-back = λ room list out bytes out′ wrote. substituted-reads-back room list out wrote;
+  simplified-origins-back = λ room limit list values out bytes calls out′ wrote. simplified-with-origins room limit list values out wrote;
+  substituted-origins-back = λ room list out bytes out′ wrote. substituted-with-origins room list out wrote;
 }
 
 -- ---- demand 3: "The tape, which the port adds, plays what was written. Take any accepted expression of size at most 512 and an output with room

@@ -18,7 +18,8 @@ use Rattle.text.specs.Letters.{bytes}
 use Rattle.text.specs.Lines.{afterLine, atLine, linesBy, lines, none, aboveLast}
 use Rattle.text.specs.Digits.{digits, digitsBy}
 use Rattle.text.specs.Writing.{byteOf, inDecimal, lastHex, inHex, line}
-use Rattle.node_lines.specs.NodeLines.{childField, numberFields, variableFields, prefixFields, infixFields, fieldsOf, nodeFields}
+use Rattle.node_lines.specs.NodeLines.{childBy, numberFields, variableFields, prefixFields, infixFields, fieldsOf, piLine, lineBy}
+use Rattle.origins.specs.Fields.{lineEnd}
 use Rattle.listing.specs.Listings.{stored, formed, nodeLine, swapFields, swapped, swapLine, listingLine, last, rooted, whole, listing, swapFor}
 use Rattle.sheet.specs.Rows.{sheet}
 use Rattle.substitution.specs.Substituting.{putIn, putInLeaf, substitute}
@@ -126,7 +127,7 @@ wanted e out = (withCalls (e .calls) (writing (e .result) out .0), writing (e .r
 
 -- the listing read, simplified from the store that reading leaves, and written
 computes : map asked table ≡ map wanted table
-unfolding asked wanted writing simplifyCall isAllowed job afterListing withSheet sheet simplifyJob callsIn writtenAnswer listing whole rooted last listingLine nodeLine formed stored none lines linesBy atLine afterLine nodeFields fieldsOf numberFields variableFields prefixFields infixFields childField then ended decimal spelt run value digitOf hex hexFrom starts nameFrom numbered computed written text line lineFields leafFields finished once place inDecimal digits digitsBy byteOf inHex lastHex
+unfolding asked wanted writing simplifyCall isAllowed job afterListing withSheet sheet simplifyJob callsIn writtenAnswer listing whole rooted last listingLine nodeLine formed stored none lines linesBy atLine afterLine lineBy piLine lineEnd fieldsOf numberFields variableFields prefixFields infixFields childBy then ended decimal spelt run value digitOf hex hexFrom starts nameFrom numbered computed written text line lineFields leafFields finished once place inDecimal digits digitsBy byteOf inHex lastHex
 computes = refl
 
 with-room : (e : Example) (out : List ℕ) → length (e .result) ≤ length out
@@ -143,7 +144,7 @@ pub proved-examples : Each Shown table
 proved-examples = each table computes
 
 pi-computes : map asked pi-table ≡ map wanted pi-table
-unfolding asked wanted writing simplifyCall isAllowed job afterListing withSheet sheet simplifyJob callsIn writtenAnswer listing whole rooted last listingLine nodeLine formed stored none lines linesBy atLine afterLine nodeFields fieldsOf prefixFields childField then ended decimal spelt run value digitOf starts nameFrom numbered computed written text line lineFields leafFields finished once
+unfolding asked wanted writing simplifyCall isAllowed job afterListing withSheet sheet simplifyJob callsIn writtenAnswer listing whole rooted last listingLine nodeLine formed stored none lines linesBy atLine afterLine lineBy piLine lineEnd fieldsOf prefixFields childBy then ended decimal spelt run value digitOf starts nameFrom numbered computed written text line lineFields leafFields finished once
 pi-computes = refl
 
 pub pi-comes-back : Each Shown pi-table
@@ -159,7 +160,7 @@ abbrev pub zeros-kept : List ℕ
 zeros-kept = bytes "n\t0000000000000000\t0000000000000000\nn\t8000000000000000\t0000000000000000\nb\t+\t0\t1\n"
 
 zeros-compute : _≡_ {A = List ℕ → Written × List ℕ} (λ out. substituteCall 4096 zeros out) (λ out. writing zeros-kept out)
-unfolding writing substituteCall afterListing writtenAnswer listing whole rooted last listingLine nodeLine swapLine swapFields swapped aboveLast formed stored none lines linesBy atLine afterLine nodeFields fieldsOf numberFields variableFields infixFields childField then ended decimal spelt run value digitOf hex hexFrom starts nameFrom numbered computed substitute putInLeaf putIn swapFor written text line lineFields leafFields finished once place inDecimal digits digitsBy byteOf inHex lastHex
+unfolding writing substituteCall afterListing writtenAnswer listing whole rooted last listingLine nodeLine swapLine swapFields swapped aboveLast formed stored none lines linesBy atLine afterLine lineBy piLine lineEnd fieldsOf numberFields variableFields infixFields childBy then ended decimal spelt run value digitOf hex hexFrom starts nameFrom numbered computed substitute putInLeaf putIn swapFor written text line lineFields leafFields finished once place inDecimal digits digitsBy byteOf inHex lastHex
 zeros-compute = refl
 
 pub minus-zero-stays : (out : List ℕ) → length zeros-kept ≤ length out

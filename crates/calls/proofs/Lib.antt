@@ -20,4 +20,7 @@ pub mod TapeBytes
 pub mod MarkedDemand
 pub mod UnusedRows
 pub mod Answering
+pub mod Given
+pub mod Ignored
+pub mod Beside
 pub mod Demands

@@ -11,7 +11,8 @@ use Rattle.memory.proofs.Marks.{length-marks, mark-small}
 use Rattle.expression.specs.declared.refusal.Refusal.{Refusal}
 use Rattle.expression.specs.Refusals.{isLack}
 use Rattle.expression.specs.Trees.{Tree}
-use Rattle.store.specs.Storing.{State}
+use Rattle.store.specs.Storing.{State, fresh}
+use Rattle.listing.specs.Listings.{given}
 use Rattle.text.specs.Lines as Lines
 use Rattle.text.specs.Lines.{Whole}
 use Rattle.sheet.specs.Rows.{Rows, sheet}
@@ -26,7 +27,8 @@ use Rattle.tape.specs.Using.{usedPlaying}
 use Rattle.calls.specs.declared.Simplified.{Simplified}
 use Rattle.calls.specs.Calls as Calls
 use Rattle.calls.specs.Calls.{Job, ready, job, simplifiedAnswer}
-use Rattle.calls.specs.Marks.{evaluateJobMarks, evaluateMarks, playSheetMarks, playCheckedMarks, playMarks, marksIn, shown, simplifyJobMarks, simplifyMarks}
+use Rattle.calls.specs.Marks.{evaluateJobMarks, evaluateMarks, playSheetMarks, playCheckedMarks, playMarks, marksIn, isShown, shown, simplifyJobMarks, simplifyMarks}
+use Rattle.calls.specs.Origins.{tracedSimplified, tracedJobMarks, simplifyOriginsMarks}
 use Rattle.calls.proofs.Framing.{marks-after}
 use Rattle.calls.proofs.Results.{FreshJob, job-fresh}
 
@@ -62,7 +64,7 @@ either-left true p q = p
 either-left false p q = q
 
 shown-left : (r : Simplified) {marks : List ℕ} → Left marks → Left (shown r marks)
-unfolding shown
+unfolding shown isShown
 shown-left (Simplified.Bytes bytes calls) p = p
 shown-left (Simplified.Refused why) p = either-left (isLack why) p none-left
 
@@ -76,6 +78,11 @@ simplified-job-left : (limit : ℕ) (out : List ℕ) (j : Job) → FreshJob j �
 unfolding simplifyJobMarks FreshJob
 simplified-job-left limit out (ready root store rows) f = shown-left (simplifiedAnswer out (simplify rows limit root store) .0) (simplified-left rows limit root store (f .unmarked))
 simplified-job-left limit out (Calls.refused why) f = none-left
+
+simplified-origins-left : (lines : List Tree) (limit : ℕ) (out : List ℕ) (j : Job) → FreshJob j → Left (tracedJobMarks lines limit out j)
+unfolding tracedJobMarks FreshJob
+simplified-origins-left lines limit out (ready root store rows) f = shown-left (tracedSimplified lines out (simplify rows limit root store) .0) (simplified-left rows limit root store (f .unmarked))
+simplified-origins-left lines limit out (Calls.refused why) f = none-left
 
 -- ---- "256 marks"
 
@@ -101,3 +108,8 @@ pub simplify-marks-whole : (room limit : ℕ) (list values out : List ℕ) → M
 unfolding simplifyMarks
 simplify-marks-whole room limit list values out =
     left-whole (either-left (isAllowed limit) (simplified-job-left limit out (job room list values) (job-fresh room list values)) none-left)
+
+pub simplify-origins-marks-whole : (room limit : ℕ) (list values out : List ℕ) → Marks256 (simplifyOriginsMarks room limit list values out)
+unfolding simplifyOriginsMarks
+simplify-origins-marks-whole room limit list values out =
+    left-whole (either-left (isAllowed limit) (simplified-origins-left (given false list (fresh room 0)) limit out (job room list values) (job-fresh room list values)) none-left)

@@ -4,11 +4,13 @@ use mathlib.Core.Path.{_≡_, sym, _∙_}
 use Prim.Native.Nat.{ℕ, _<_}
 use native.Mathlib.Omega.{arith}
 use mathlib.Core.List.{List}
+use mathlib.Core.Bool.{Bool}
 use Rattle.expression.specs.Trees.{Tree}
 use Rattle.expression.specs.Alike.{identical}
 use Rattle.store.specs.Storing.{State, state, place}
 use Rattle.store.specs.Desk.{count, refusedFrom}
 use Rattle.store.specs.Held.{Lent, treeIn, stateIn, Sound}
+use Rattle.store.specs.Tracing.{Traced}
 use Rattle.store.proofs.Seeking.{own-place}
 use Rattle.sheet.specs.declared.Counts.{Counts}
 use Rattle.sheet.specs.Table.{rowsOf}
@@ -20,7 +22,7 @@ use Rattle.calls.specs.declared.Simplified.{Simplified}
 use Rattle.calls.specs.declared.Job.{Job}
 use Rattle.calls.specs.Lent.{Work}
 use Rattle.calls.specs.Frame.{ReadsJob, WritesAnswer}
-use Rattle.calls.specs.Promises.{Evaluates, EvaluatesMarked, Substitutes, ReadsReal, Simplifies, SimplifiesMarked, Compiles, Plays, PlaysMarked}
+use Rattle.calls.specs.Promises.{Evaluates, EvaluatesMarked, Substitutes, SubstitutesOrigins, ReadsReal, Simplifies, SimplifiesMarked, SimplifiesOrigins, Compiles, Plays, PlaysMarked}
 
 pub one-evaluated : (list values : List ℕ) (w : Work) {r r′ : Evaluated} {w₁ w₂ : Work}
     → Evaluates list values w r w₁ → Evaluates list values w r′ w₂ → _≡_ {A = Evaluated × Work} (r, w₁) (r′, w₂)
@@ -45,6 +47,15 @@ pub one-simplified-marked : (limit : ℕ) (list values out : List ℕ) (w : Work
     → SimplifiesMarked limit list values out w r marks₁ out₁ w₁ → SimplifiesMarked limit list values out w r′ marks₂ out₂ w₂
     → _≡_ {A = ((Simplified × List ℕ) × List ℕ) × Work} (((r, out₁), marks₁), w₁) (((r′, out₂), marks₂), w₂)
 one-simplified-marked limit list values out w p q = p ∙ sym q
+
+pub one-substituted-origins : (list out : List ℕ) (w : Work) {r r′ : Written} {out₁ out₂ : List ℕ} {w₁ w₂ : Work}
+    → SubstitutesOrigins list out w r out₁ w₁ → SubstitutesOrigins list out w r′ out₂ w₂ → _≡_ {A = (Written × List ℕ) × Work} ((r, out₁), w₁) ((r′, out₂), w₂)
+one-substituted-origins list out w p q = p ∙ sym q
+
+pub one-simplified-origins : (limit : ℕ) (list values out : List ℕ) (w : Work) {r r′ : Simplified} {marks₁ marks₂ out₁ out₂ : List ℕ} {w₁ w₂ : Work}
+    → SimplifiesOrigins limit list values out w r marks₁ out₁ w₁ → SimplifiesOrigins limit list values out w r′ marks₂ out₂ w₂
+    → _≡_ {A = ((Simplified × List ℕ) × List ℕ) × Work} (((r, out₁), marks₁), w₁) (((r′, out₂), marks₂), w₂)
+one-simplified-origins limit list values out w p q = p ∙ sym q
 
 pub one-compiled : (list out : List ℕ) (w : Work) {r r′ : Written} {out₁ out₂ : List ℕ} {w₁ w₂ : Work}
     → Compiles list out w r out₁ w₁ → Compiles list out w r′ out₂ w₂ → _≡_ {A = (Written × List ℕ) × Work} ((r, out₁), w₁) ((r′, out₂), w₂)
@@ -89,6 +100,6 @@ module _ {list values : List ℕ} {l l₁ l₂ : Lent} {table₁ table₂ : List
       let w : rowsOf table₁ n ≡ rowsOf table₂ k = cc in
       (t, s, w)
 
-pub one-written : {l : Lent} {built : ℕ} {r r′ : Written} (out : List ℕ) {out₁ out₂ : List ℕ} → Sound l → (built < refusedFrom → built < count (l .desk))
-    → WritesAnswer l built r out out₁ → WritesAnswer l built r′ out out₂ → _≡_ {A = Written × List ℕ} (r, out₁) (r′, out₂)
-one-written out s b p q = p s b ∙ sym (q s b)
+pub one-written : (traced : Bool) (lines : List Tree) {l : Lent} {built : ℕ} {r r′ : Written} (out : List ℕ) {out₁ out₂ : List ℕ} → Sound l → Traced lines l → (built < refusedFrom → built < count (l .desk))
+    → WritesAnswer traced l built r out out₁ → WritesAnswer traced l built r′ out out₂ → _≡_ {A = Written × List ℕ} (r, out₁) (r′, out₂)
+one-written traced lines out s t b p q = p lines s t b ∙ sym (q lines s t b)

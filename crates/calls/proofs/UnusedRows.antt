@@ -35,10 +35,9 @@ use Rattle.tape.specs.Using.{usedPlaying}
 use Rattle.tape.proofs.Asking as Tape
 use Rattle.tape.proofs.Unused as Playing
 use Rattle.calls.specs.declared.Simplified.{Simplified}
-use Rattle.calls.specs.Frame.{isShown}
 use Rattle.calls.specs.Calls as Calls
 use Rattle.calls.specs.Calls.{Job, ready, afterListing, withSheet, job, writtenAnswer, callsIn, simplifiedAnswer, evaluated, evaluateJob, evaluateCall, playSheet, playChecked, playCall, simplifyJob, simplifyCall}
-use Rattle.calls.specs.Marks.{evaluateJobMarks, evaluateMarks, playSheetMarks, playCheckedMarks, playMarks, marksIn, shown, simplifyJobMarks, simplifyMarks}
+use Rattle.calls.specs.Marks.{evaluateJobMarks, evaluateMarks, playSheetMarks, playCheckedMarks, playMarks, marksIn, isShown, shown, simplifyJobMarks, simplifyMarks}
 use Rattle.calls.proofs.Framing.{shown-is, marks-after}
 use Rattle.calls.proofs.Results.{Fresh, FreshJob, job-fresh}
 
@@ -107,7 +106,7 @@ pub record SimplifyUses (room limit : ℕ) (list values : List ℕ) (j : ℕ) : 
   pub first : (other : Row) → Foremost (uses .operation) (uses .left) (uses .right) other (rows .functions) j (uses .value)
 
 shown-marked : (r : Simplified) (marks : List ℕ) (j : ℕ) → getD (shown r marks) j 0 ≡ 1 → getD marks j 0 ≡ 1
-unfolding shown
+unfolding shown isShown
 shown-marked (Simplified.Bytes bytes calls) marks j m = m
 shown-marked (Simplified.Refused why) marks j m = go (isLack why) m
   where

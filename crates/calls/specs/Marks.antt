@@ -2,7 +2,7 @@
 -- show the rows used up to there". Definitions only; the answers stand on the page Calls, and nothing here bears on them.
 use Prim.Native.Nat.{ℕ}
 use mathlib.Core.List.{List}
-use mathlib.Core.Bool.{cond}
+use mathlib.Core.Bool.{Bool, true, cond}
 use Rattle.memory.specs.Marks.{noMarks, marksOf}
 use Rattle.expression.specs.declared.refusal.Refusal.{Refusal}
 use Rattle.expression.specs.Refusals.{isLack}
@@ -47,9 +47,12 @@ marksIn (Storing.gives t (state room stored kept tally)) = tally .marks
 marksIn (Storing.refused why (state room stored kept tally)) = tally .marks
 
 -- shown after a success, and at a lack; a refusal by 6, 7 or 8, and one by 2 or 13 after simplifying, has none
+unfoldable pub isShown : Simplified → Bool
+isShown (Simplified.Bytes bytes calls) = true
+isShown (Simplified.Refused why) = isLack why
+
 unfoldable pub shown : Simplified → (marks : List ℕ) → List ℕ
-shown (Simplified.Bytes bytes calls) marks = marks
-shown (Simplified.Refused why) marks = cond (isLack why) marks noMarks
+shown r marks = cond (isShown r) marks noMarks
 
 unfoldable pub simplifyJobMarks : (limit : ℕ) (out : List ℕ) → Job → List ℕ
 simplifyJobMarks limit out (ready root store rows) = shown (simplifiedAnswer out (simplify rows limit root store) .0) (marksIn (simplify rows limit root store))

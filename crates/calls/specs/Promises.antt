@@ -10,6 +10,7 @@ use Rattle.calls.specs.declared.Evaluated.{Evaluated}
 use Rattle.calls.specs.declared.Simplified.{Simplified}
 use Rattle.calls.specs.Lent.{Work, capacity, zeroed}
 use Rattle.calls.specs.Marks.{evaluateMarks, simplifyMarks, playMarks}
+use Rattle.calls.specs.Origins.{substituteOrigins, simplifyOrigins, simplifyOriginsMarks}
 use Rattle.calls.specs.Calls.{evaluateCall, substituteCall, toRealCall, simplifyCall, compileCall, playCall}
 
 abbrev pub Evaluates : (list values : List ℕ) (w : Work) (r : Evaluated) (w′ : Work) → Type 0
@@ -44,3 +45,13 @@ SimplifiesMarked limit list values out w r marks out′ w′ =
 abbrev pub PlaysMarked : (tape values table : List ℕ) (r : Evaluated) (marks table′ : List ℕ) → Type 0
 PlaysMarked tape values table r marks table′ =
     _≡_ {A = (Evaluated × List ℕ) × List ℕ} ((r, marks), table′) ((playCall tape values, playMarks tape values), replicate (length table) 0)
+
+-- ---- the same with origins in the listing
+
+abbrev pub SubstitutesOrigins : (list out : List ℕ) (w : Work) (r : Written) (out′ : List ℕ) (w′ : Work) → Type 0
+SubstitutesOrigins list out w r out′ w′ = _≡_ {A = (Written × List ℕ) × Work} ((r, out′), w′) (substituteOrigins (capacity w) list out, zeroed w)
+
+abbrev pub SimplifiesOrigins : (limit : ℕ) (list values out : List ℕ) (w : Work) (r : Simplified) (marks out′ : List ℕ) (w′ : Work) → Type 0
+SimplifiesOrigins limit list values out w r marks out′ w′ =
+    _≡_ {A = ((Simplified × List ℕ) × List ℕ) × Work} (((r, out′), marks), w′)
+    ((simplifyOrigins (capacity w) limit list values out, simplifyOriginsMarks (capacity w) limit list values out), zeroed w)

@@ -18,6 +18,7 @@ use store::desk::REFUSED;
 use store::desk::refusal_of;
 use writing::Written;
 use writing::write_listing;
+use writing::write_origins;
 
 // A listing into the store, then a sheet into the table.
 pub fn read_job(
@@ -46,8 +47,9 @@ fn add_sheet(root: usize, values: Sheet) -> Job
     }
 }
 
-// The listing of what was built: 2, then 13, else its bytes at the start of the output. A refusal is passed on.
+// The listing of what was built, with origins if `traced`: 2, then 13, else its bytes at the start of the output. A refusal is passed on.
 pub fn write_answer(
+    traced: bool,
     store: &mut [[u64; 4]],
     desk: &[u64; DESK_WORDS],
     table: &mut [u64],
@@ -55,10 +57,13 @@ pub fn write_answer(
     built: usize,
 ) -> Written
     requires { ⌜ tableWords ≤ length (now table) ⌝ }
-    ensures { λ r. ⌜ WritesAnswer (lent (now (store .entry)) (now (desk .entry))) built r (now (out .entry)) (now (out .exit)) ⌝ }
+    ensures { λ r. ⌜ WritesAnswer traced (lent (now (store .entry)) (now (desk .entry))) built r (now (out .entry)) (now (out .exit)) ⌝ }
 {
     if REFUSED <= built {
         return Written::Refused(refusal_of(desk, built));
+    }
+    if traced {
+        return write_origins(store, built, table, out);
     }
     write_listing(store, built, table, out)
 }

@@ -8,7 +8,7 @@ ghost use Rattle.memory.specs.Layout.{tableWords};
 ghost use Rattle.calls.specs.Lent.{work, capacity};
 ghost use Rattle.calls.specs.Calls.{evaluated, toRealCall, withCalls};
 ghost use Rattle.calls.specs.Frame.{EvaluatesTexts, SubstitutesTexts, SimplifiesTexts};
-ghost use Rattle.calls.specs.Promises.{Evaluates, EvaluatesMarked, Substitutes, ReadsReal, Simplifies, SimplifiesMarked};
+ghost use Rattle.calls.specs.Promises.{Evaluates, EvaluatesMarked, Substitutes, SubstitutesOrigins, ReadsReal, Simplifies, SimplifiesMarked, SimplifiesOrigins};
 use complex::Complex;
 use evaluation::Evaluation;
 use evaluation::real::Real;
@@ -115,6 +115,7 @@ pub fn evaluate(
 }
 
 fn substitute_texts(
+    traced: bool,
     list: &[u8],
     store: &mut [[u64; 4]],
     desk: &mut [u64; DESK_WORDS],
@@ -122,13 +123,13 @@ fn substitute_texts(
     out: &mut [u8],
 ) -> Written
     requires { ⌜ tableWords ≤ length (now table) ⌝ }
-    ensures { λ r. ⌜ SubstitutesTexts (now (list .entry)) (now (out .entry)) (work (now (store .entry)) (now (desk .entry)) (now (table .entry))) r (now (out .exit)) ⌝ }
+    ensures { λ r. ⌜ SubstitutesTexts traced (now (list .entry)) (now (out .entry)) (work (now (store .entry)) (now (desk .entry)) (now (table .entry))) r (now (out .exit)) ⌝ }
 {
     let listed = read_listing(list, true, store, desk, table);
     match listed {
         Listing::Read { root, swaps } => {
             let built = substitute_variables(store, desk, table, swaps, root);
-            write_answer(store, desk, table, out, built)
+            write_answer(traced, store, desk, table, out, built)
         }
         Listing::Refused(why) => Written::Refused(why),
     }
@@ -144,7 +145,22 @@ pub fn substitute(
 ) -> Written
     ensures { λ r. ⌜ Substitutes (now (list .entry)) (now (out .entry)) (work (now (store .entry)) (now (desk .entry)) (now (table .entry))) r (now (out .exit)) (work (now (store .exit)) (now (desk .exit)) (now (table .exit))) ⌝ }
 {
-    let answer = substitute_texts(list, store, desk, table, out);
+    let answer = substitute_texts(false, list, store, desk, table, out);
+    clear_work(store, desk, table);
+    answer
+}
+
+// The same with origins in the listing.
+pub fn substitute_origins(
+    list: &[u8],
+    store: &mut [[u64; 4]],
+    desk: &mut [u64; DESK_WORDS],
+    table: &mut [u64; TABLE_WORDS],
+    out: &mut [u8],
+) -> Written
+    ensures { λ r. ⌜ SubstitutesOrigins (now (list .entry)) (now (out .entry)) (work (now (store .entry)) (now (desk .entry)) (now (table .entry))) r (now (out .exit)) (work (now (store .exit)) (now (desk .exit)) (now (table .exit))) ⌝ }
+{
+    let answer = substitute_texts(true, list, store, desk, table, out);
     clear_work(store, desk, table);
     answer
 }
@@ -189,6 +205,7 @@ fn with_calls(calls: u64, answer: Written) -> Simplified
 }
 
 fn simplify_texts(
+    traced: bool,
     list: &[u8],
     values: &[u8],
     limit: u64,
@@ -198,7 +215,7 @@ fn simplify_texts(
     out: &mut [u8],
 ) -> Simplified
     requires { ⌜ tableWords ≤ length (now table) ⌝ }
-    ensures { λ r. ⌜ SimplifiesTexts limit (now (list .entry)) (now (values .entry)) (now (out .entry)) (work (now (store .entry)) (now (desk .entry)) (now (table .entry))) r (now (out .exit)) (now (desk .exit)) ⌝ }
+    ensures { λ r. ⌜ SimplifiesTexts traced limit (now (list .entry)) (now (values .entry)) (now (out .entry)) (work (now (store .entry)) (now (desk .entry)) (now (table .entry))) r (now (out .exit)) (now (desk .exit)) ⌝ }
 {
     let limit = Limit(limit);
     if !limit.is_allowed() {
@@ -208,7 +225,7 @@ fn simplify_texts(
     match job {
         Job::Ready { root, counts } => {
             let built = simplification::simplify(limit, store, desk, table, counts, root);
-            let answer = write_answer(store, desk, table, out, built);
+            let answer = write_answer(traced, store, desk, table, out, built);
             with_calls(calls_made(desk), answer)
         }
         Job::Refused(why) => Simplified::Refused(why),
@@ -228,7 +245,26 @@ pub fn simplify_marked(
 ) -> Simplified
     ensures { λ r. ⌜ SimplifiesMarked limit (now (list .entry)) (now (values .entry)) (now (out .entry)) (work (now (store .entry)) (now (desk .entry)) (now (table .entry))) r (now (marks .exit)) (now (out .exit)) (work (now (store .exit)) (now (desk .exit)) (now (table .exit))) ⌝ }
 {
-    let answer = simplify_texts(list, values, limit, store, desk, table, out);
+    let answer = simplify_texts(false, list, values, limit, store, desk, table, out);
+    show_marks(answer, desk, marks);
+    clear_work(store, desk, table);
+    answer
+}
+
+// The same with origins in the listing.
+pub fn simplify_origins(
+    list: &[u8],
+    values: &[u8],
+    limit: u64,
+    store: &mut [[u64; 4]],
+    desk: &mut [u64; DESK_WORDS],
+    table: &mut [u64; TABLE_WORDS],
+    out: &mut [u8],
+    marks: &mut [u8; MARKS],
+) -> Simplified
+    ensures { λ r. ⌜ SimplifiesOrigins limit (now (list .entry)) (now (values .entry)) (now (out .entry)) (work (now (store .entry)) (now (desk .entry)) (now (table .entry))) r (now (marks .exit)) (now (out .exit)) (work (now (store .exit)) (now (desk .exit)) (now (table .exit))) ⌝ }
+{
+    let answer = simplify_texts(true, list, values, limit, store, desk, table, out);
     show_marks(answer, desk, marks);
     clear_work(store, desk, table);
     answer
@@ -246,7 +282,7 @@ pub fn simplify(
 ) -> Simplified
     ensures { λ r. ⌜ Simplifies limit (now (list .entry)) (now (values .entry)) (now (out .entry)) (work (now (store .entry)) (now (desk .entry)) (now (table .entry))) r (now (out .exit)) (work (now (store .exit)) (now (desk .exit)) (now (table .exit))) ⌝ }
 {
-    let answer = simplify_texts(list, values, limit, store, desk, table, out);
+    let answer = simplify_texts(false, list, values, limit, store, desk, table, out);
     clear_work(store, desk, table);
     answer
 }

@@ -2,7 +2,8 @@
 ghost use lib.ListN.{length};
 ghost use mathlib.Core.Path.{_≡_};
 ghost use Rattle.memory.specs.Marks.{mostMarks};
-ghost use Rattle.calls.specs.Frame.{isShown, Shown, Copies};
+ghost use Rattle.calls.specs.Marks.{isShown};
+ghost use Rattle.calls.specs.Frame.{Shown, Copies};
 use super::Simplified;
 use memory::layout::DESK_WORDS;
 use memory::layout::MARKS;

@@ -18,35 +18,26 @@ use Rattle.commands.specs.declared.Printed.{Printed}
 use Rattle.outcomes.specs.declared.Outcome.{Outcome}
 use Rattle.commands.specs.declared.words.Asked.{Asked}
 use Rattle.commands.specs.declared.words.Command.{Command}
-use Rattle.commands.specs.Words.{firstOf, request, shows}
+use Rattle.commands.specs.Words.{firstOf, request, shows, traces}
 use Rattle.commands.specs.Asking as Asking
 use Rattle.commands.specs.Help as Help
 use Rattle.commands.specs.Results.{result, marks}
-use Rattle.marks.specs.Marking.{usedLine}
-use Rattle.outcomes.specs.Outcomes.{said, outputWith, saidWith}
+use Rattle.outcomes.specs.Outcomes.{outputWith, saidWith}
 use Rattle.commands.specs.Printing.{outputOf, Answers}
 use Rattle.commands.specs.Printing as Printing
-use Rattle.outcomes.specs.Coming.{seen, saidOf, Stands}
+use Rattle.outcomes.specs.Coming.{seen, Stands}
 use Rattle.commands.specs.Coming.{ComesMarked, PrintsJob}
 use Rattle.commands.proofs.Choosing.{chosen, passed}
-
--- ---- what is said goes by no byte of the output
-
-said-alike : (out : List ℕ) (o : Outcome) → saidOf o ≡ said (seen out o)
-unfolding said
-said-alike out (Outcome.Printed n) = refl
-said-alike out (Outcome.Simplified n calls) = refl
-said-alike out (Outcome.Refused why detail) = refl
-said-alike out Outcome.TooLong = refl
 
 -- ---- a job
 
 module _ (command : Command) (input out : List ℕ) {outcome : Outcome} {mid marks′ : List ℕ} (c : ComesMarked (result command input out) (marks command input out) outcome mid marks′) where
-  pub prints-job : {shown : Bool} {out′ said′ : List ℕ} {n m : ℕ} → shown ≡ shows command → Stands (outputWith shown marks′ (seen mid outcome)) n out′
-      → Stands (saidOf outcome ++ usedLine marks′) m said′ → PrintsJob command input out (record { out = n; said = m }) out′ said′
-  prints-job e p l = record {
+  pub prints-job : {shown traced : Bool} {out′ said′ : List ℕ} {n m : ℕ} → shown ≡ shows command → traced ≡ traces command
+      → Stands (outputWith shown marks′ (seen mid outcome)) n out′ → Stands (saidWith traced marks′ (seen mid outcome)) m said′
+      → PrintsJob command input out (record { out = n; said = m }) out′ said′
+  prints-job e o p l = record {
     prints = p .are ∙ (λ i. outputWith (e i) (c .marked i) (c .comes .answer i));
-    says = l .are ∙ (λ i. said-alike mid outcome i ++ usedLine (c .marked i)) ∙ ap (saidWith (marks command input out)) (c .comes .answer);
+    says = l .are ∙ (λ i. saidWith (o i) (c .marked i) (c .comes .answer i));
     printed-within = p .within;
     said-within = l .within;
   }

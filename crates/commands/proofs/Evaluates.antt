@@ -21,12 +21,12 @@ use Rattle.lacks.specs.Lacking.{missingInJob}
 use Rattle.outcomes.specs.Outcomes.{Result, refusedText, output}
 use Rattle.commands.specs.declared.words.Command.{Command}
 use Rattle.commands.specs.declared.words.Parted.{Parted}
-use Rattle.commands.specs.Words.{job, afterMarks, jobWord, firstWord, withFile, request, partedShows, shows}
+use Rattle.commands.specs.Words.{job, after, jobWord, firstWord, withFile, request, partedShows, shows}
 use Rattle.commands.specs.Results.{ofEvaluated, parted, resultIn, result}
 use Rattle.commands.specs.Printing.{outputOf, standardOutput}
 
 word : request (bytes "evaluate\n") ≡ job (Command.Parted (Parted.Evaluate false)) []
-unfolding request withFile firstWord jobWord starts afterMarks nextLine
+unfolding request withFile firstWord jobWord starts after nextLine
 word = refl
 
 module _ (input out : List ℕ) (h : length input ≤ 262144) where

@@ -20,8 +20,7 @@ use Rattle.calls.specs.declared.Evaluated.{Evaluated}
 use Rattle.calls.specs.declared.Simplified.{Simplified}
 use Rattle.calls.specs.Lent.{Work, capacity, zeroed}
 use Rattle.memory.specs.Marks.{noMarks}
-use Rattle.calls.specs.Calls.{evaluateCall, substituteCall, toRealCall, simplifyCall, compileCall}
-use Rattle.calls.specs.Promises.{Evaluates, Substitutes, ReadsReal, Simplifies}
+use Rattle.calls.specs.Calls.{evaluateCall, toRealCall, simplifyCall, compileCall}
 use Rattle.tape.specs.declared.Checked.{Checked}
 use Rattle.console.specs.TapeText.{inLines, tapeIn}
 use Rattle.console.specs.Answers.{valueLine, realLine}
@@ -38,7 +37,7 @@ use Rattle.outcomes.specs.declared.Outcome.{Outcome}
 use Rattle.commands.specs.declared.words.Command.{Command}
 use Rattle.commands.specs.declared.words.Parted.{Parted}
 use Rattle.commands.specs.declared.words.Whole.{Whole}
-use Rattle.commands.specs.Results.{faultOf, emptyAt, aloneOf, lackOf, ofEvaluated, evaluated, ofSimplified, simplified, playedOf, played, ofWritten, substituted, ofReal, real, ofTape, emptyTape, compiled, ofChecked, whole, parted, resultIn, result, partedMarks, marksIn, marks}
+use Rattle.commands.specs.Results.{faultOf, emptyAt, aloneOf, lackOf, ofEvaluated, evaluated, ofSimplified, simplifiedWith, playedOf, played, ofWritten, substituted, substitutedOrigins, substitutedWith, ofReal, real, ofTape, emptyTape, compiled, ofChecked, whole, parted, resultIn, result, marksWith, partedMarks, marksIn, marks}
 use Rattle.commands.specs.Coming.{ComesMarked}
 use Rattle.outcomes.specs.Outcomes.{Result, printed, withCalls, refused}
 use Rattle.outcomes.specs.Coming.{seen, Comes}
@@ -98,12 +97,12 @@ module _ (missing : Missing) (list values : List ℕ) (call : Evaluated) {answer
 
 -- ---- simplify, and evaluate after it
 
-module _ (room limit : ℕ) (list values out : List ℕ) {answer : Simplified} {out′ : List ℕ} (q : _≡_ {A = Simplified × List ℕ} (answer, out′) (simplifyCall room limit list values out)) where
-  result-of : {A : Type 0} (f : Simplified → List ℕ → A) → f answer out′ ≡ f (simplifyCall room limit list values out .0) (simplifyCall room limit list values out .1)
+module _ (list values : List ℕ) (call : Simplified × List ℕ) {answer : Simplified} {out′ : List ℕ} (q : _≡_ {A = Simplified × List ℕ} (answer, out′) call) where
+  result-of : {A : Type 0} (f : Simplified → List ℕ → A) → f answer out′ ≡ f (call .0) (call .1)
   result-of f = ap (λ x. f (x .0) (x .1)) q
 
   pub listing-comes : {bytes calls n : ℕ} → answer ≡ Simplified.Bytes bytes calls → Counts n out′ → n ≡ min bytes (length out′)
-      → Comes (simplified room limit list values out) (Outcome.Simplified n calls) out′
+      → Comes (ofSimplified list values (call .0) (call .1)) (Outcome.Simplified n calls) out′
   unfolding ofSimplified
   listing-comes {bytes} {calls} told c e = record {
     answer = ap (λ l. withCalls l calls) (as-many bytes out′ e) ∙ ap (λ x. ofSimplified list values x out′) (sym told) ∙ result-of (ofSimplified list values);
@@ -111,7 +110,7 @@ module _ (room limit : ℕ) (list values out : List ℕ) {answer : Simplified} {
   }
 
   pub refusal-comes : {why : Refusal} {d : Detail} → answer ≡ Simplified.Refused why → d ≡ faultOf list values why
-      → Comes (simplified room limit list values out) (Outcome.Refused why d) out′
+      → Comes (ofSimplified list values (call .0) (call .1)) (Outcome.Refused why d) out′
   unfolding ofSimplified
   refusal-comes {why} told o = record {
     answer = ap (refused why) o ∙ ap (λ x. ofSimplified list values x out′) (sym told) ∙ result-of (ofSimplified list values);
@@ -142,17 +141,17 @@ module _ (room : ℕ) (list values out : List ℕ) {answer : Simplified} {out′
 
 -- ---- substitute, real
 
-module _ (room : ℕ) (list out : List ℕ) {answer : Written} {out′ : List ℕ} (q : _≡_ {A = Written × List ℕ} (answer, out′) (substituteCall room list out)) where
-  writing-of : ofWritten list answer out′ ≡ substituted room list out
+module _ (list : List ℕ) (call : Written × List ℕ) {answer : Written} {out′ : List ℕ} (q : _≡_ {A = Written × List ℕ} (answer, out′) call) where
+  writing-of : ofWritten list answer out′ ≡ ofWritten list (call .0) (call .1)
   writing-of = ap (λ x. ofWritten list (x .0) (x .1)) q
 
   pub written-comes : {bytes n : ℕ} → answer ≡ Written.Bytes bytes → Counts n out′ → n ≡ min bytes (length out′)
-      → Comes (substituted room list out) (Outcome.Printed n) out′
+      → Comes (ofWritten list (call .0) (call .1)) (Outcome.Printed n) out′
   unfolding ofWritten
   written-comes {bytes} told c e = record { answer = ap printed (as-many bytes out′ e) ∙ ap (λ x. ofWritten list x out′) (sym told) ∙ writing-of; inside = c }
 
   pub unwritten-comes : {why : Refusal} {d : Detail} → answer ≡ Written.Refused why → d ≡ aloneOf list why
-      → Comes (substituted room list out) (Outcome.Refused why d) out′
+      → Comes (ofWritten list (call .0) (call .1)) (Outcome.Refused why d) out′
   unfolding ofWritten
   unwritten-comes {why} told o = record { answer = ap (refused why) o ∙ ap (λ x. ofWritten list x out′) (sym told) ∙ writing-of; inside = tt }
 
@@ -226,6 +225,27 @@ module _ (list : List ℕ) (why : Refusal) {t : Bool} (a : t ≡ emptyAt list wh
   pub no-sheet-follows : t ≡ false → {d : Detail} → d ≡ faultOf list [] why → d ≡ aloneOf list why
   unfolding aloneOf
   no-sheet-follows o q = passed a o _ _ q
+
+-- ---- with origins or without
+
+module _ (room : ℕ) (list out : List ℕ) {traced : Bool} {r : Outcome} {out′ : List ℕ} where
+  pub substituted-with : traced ≡ true → Comes (substitutedOrigins room list out) r out′ → Comes (substitutedWith traced room list out) r out′
+  substituted-with e x = subst (λ b. Comes (substitutedWith b room list out) r out′) (sym e) x
+
+  pub substituted-without : traced ≡ false → Comes (substituted room list out) r out′ → Comes (substitutedWith traced room list out) r out′
+  substituted-without e x = subst (λ b. Comes (substitutedWith b room list out) r out′) (sym e) x
+
+module _ (room limit : ℕ) (list values out : List ℕ) where
+  abbrev Simplifies : (traced : Bool) → Outcome → (out′ marks′ : List ℕ) → Type 0
+  Simplifies traced r out′ marks′ =
+      ComesMarked (simplifiedWith traced room limit list values out) (marksWith traced room limit list values out) r out′ marks′
+
+  module _ {traced : Bool} {r : Outcome} {out′ marks′ : List ℕ} where
+    pub simplified-with : traced ≡ true → Simplifies true r out′ marks′ → Simplifies traced r out′ marks′
+    simplified-with e x = subst (λ b. Simplifies b r out′ marks′) (sym e) x
+
+    pub simplified-without : traced ≡ false → Simplifies false r out′ marks′ → Simplifies traced r out′ marks′
+    simplified-without e x = subst (λ b. Simplifies b r out′ marks′) (sym e) x
 
 -- ---- by the command
 

@@ -1,4 +1,4 @@
--- Where the marks are asked for, the answer before them has at most 36,864 bytes, so that their line has room. Assumes nothing.
+-- Where the marks are asked for, the answer before them has at most 43,008 bytes, so that their line has room. Assumes nothing.
 use mathlib.Core.Path.{_≡_, refl, sym, subst, _∙_}
 use mathlib.Core.Bool.{Bool, true, false, cond}
 use mathlib.Core.List.{List}
@@ -9,7 +9,8 @@ use lib.ListN.{length, take, length-take}
 use Rattle.calls.specs.declared.Evaluated.{Evaluated}
 use Rattle.calls.specs.declared.Simplified.{Simplified}
 use Rattle.calls.specs.Calls.{evaluateCall, simplifyCall, playCall}
-use Rattle.calls.proofs.OutRoom.{simplify-most}
+use Rattle.calls.specs.Origins.{simplifyOrigins}
+use Rattle.calls.proofs.OutRoom.{simplify-most, simplify-origins-most}
 use Rattle.console.proofs.Lines.{value-short}
 use Rattle.console.specs.TapeText.{tapeIn}
 use Rattle.console.specs.Parting.{listingIn, sheetIn}
@@ -22,7 +23,7 @@ use Rattle.commands.specs.declared.words.Command.{Command}
 use Rattle.commands.specs.declared.words.Parted.{Parted}
 use Rattle.commands.specs.declared.words.Whole.{Whole}
 use Rattle.commands.specs.Words.{partedShows, shows}
-use Rattle.commands.specs.Results.{ofEvaluated, ofSimplified, parted, resultIn, result}
+use Rattle.commands.specs.Results.{ofEvaluated, ofSimplified, simplifiedWith, parted, resultIn, result}
 use Rattle.commands.proofs.Choosing.{never}
 
 -- the bytes of a result leave room
@@ -46,28 +47,34 @@ unfolding Few ofEvaluated
 evaluated-few missing list values (Evaluated.Value z) = omega (arith, value-short z)
 evaluated-few missing list values (Evaluated.Refused why) = tt
 
-simplified-few : (room limit : ℕ) (list values out : List ℕ) → 36864 ≤ length out
-    → Few (ofSimplified list values (simplifyCall room limit list values out .0) (simplifyCall room limit list values out .1))
+listing-few : (list values : List ℕ) (call : Simplified × List ℕ) → ((bytes calls : ℕ) → call .0 ≡ Simplified.Bytes bytes calls → bytes ≤ 43008)
+    → Few (ofSimplified list values (call .0) (call .1))
 unfolding Few ofSimplified
-simplified-few room limit list values out h = go _ refl
+listing-few list values call most = go _ refl
   where
-    go : (s : Simplified) → simplifyCall room limit list values out .0 ≡ s → Few (ofSimplified list values s (simplifyCall room limit list values out .1))
-    go (Simplified.Bytes bytes calls) e = omega (arith, simplify-most room limit list values out h e, length-take bytes (simplifyCall room limit list values out .1))
+    go : (s : Simplified) → call .0 ≡ s → Few (ofSimplified list values s (call .1))
+    go (Simplified.Bytes bytes calls) e = omega (arith, most bytes calls e, length-take bytes (call .1))
     go (Simplified.Refused why) e = tt
 
-parted-few : (room : ℕ) (command : Parted) (list values out : List ℕ) → partedShows command ≡ true → 36864 ≤ length out → Few (parted room command list values out)
+simplified-few : (traced : Bool) (room limit : ℕ) (list values out : List ℕ) → 43008 ≤ length out → Few (simplifiedWith traced room limit list values out)
+simplified-few true room limit list values out h =
+    listing-few list values (simplifyOrigins room limit list values out) (λ bytes calls e. simplify-origins-most room limit list values out h e)
+simplified-few false room limit list values out h =
+    listing-few list values (simplifyCall room limit list values out) (λ bytes calls e. omega (arith, simplify-most room limit list values out (omega (arith, h)) e))
+
+parted-few : (room : ℕ) (command : Parted) (list values out : List ℕ) → partedShows command ≡ true → 43008 ≤ length out → Few (parted room command list values out)
 unfolding parted partedShows
 parted-few room (Parted.Evaluate shown) list values out e h = evaluated-few (missingInJob room list values) list values (evaluateCall room list values)
-parted-few room (Parted.Simplify limit shown) list values out e h = simplified-few room limit list values out h
+parted-few room (Parted.Simplify limit shown traced) list values out e h = simplified-few traced room limit list values out h
 parted-few room Parted.Played list values out e h = never e
 parted-few room (Parted.Play shown) list values out e h = evaluated-few (missingOnTape (tapeIn list) values) list values (playCall (tapeIn list) values)
 
-command-few : (room : ℕ) (command : Command) (input out : List ℕ) → shows command ≡ true → 36864 ≤ length out → Few (resultIn room command input out)
+command-few : (room : ℕ) (command : Command) (input out : List ℕ) → shows command ≡ true → 43008 ≤ length out → Few (resultIn room command input out)
 unfolding resultIn shows
 command-few room (Command.Whole command) input out e h = never e
 command-few room (Command.Parted command) input out e h = parted-few room command (listingIn input) (sheetIn input) out e h
 
-result-few : (command : Command) (input out : List ℕ) → shows command ≡ true → 36864 ≤ length out → Few (result command input out)
+result-few : (command : Command) (input out : List ℕ) → shows command ≡ true → 43008 ≤ length out → Few (result command input out)
 unfolding result Few
 result-few command input out e h = go (ltb 262144 (length input))
   where

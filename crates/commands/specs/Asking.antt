@@ -3,12 +3,11 @@ use mathlib.Core.Path.{_≡_}
 use Prim.Native.Nat.{ℕ, _≤_}
 use mathlib.Core.List.{List}
 use lib.ListN.{length, drop}
-use Rattle.text.specs.Letters.{bytes}
 use Rattle.text.specs.Reading.{starts}
 use Rattle.commands.specs.declared.words.Asked.{Asked}
 use Rattle.commands.specs.declared.words.Command.{Command}
-use Rattle.commands.specs.declared.words.Marks.{Marks}
-use Rattle.commands.specs.Words.{Request, job, help, version, nothing, unknown, tooMany, afterMarks, atLimit, withFile, request}
+use Rattle.commands.specs.declared.words.Found.{Found}
+use Rattle.commands.specs.Words.{Request, job, help, version, nothing, unknown, tooMany, after, simplifying, atLimit, withFile, request}
 
 -- a place in the words as the words from there on
 abbrev pub seen : (words : List ℕ) → Asked → Request
@@ -22,8 +21,11 @@ seen words Asked.TooMany = tooMany
 abbrev pub Asks : (List ℕ → Request) → (words : List ℕ) → Asked → Type 0
 Asks asked words r = seen words r ≡ asked words
 
-abbrev pub MarksAt : (words : List ℕ) (at : ℕ) → Marks → Type 0
-MarksAt words at r = (r .shown ≡ starts (bytes "marks\n") (drop at words)) × (drop (r .next) words ≡ afterMarks (drop at words))
+abbrev pub FoundAt : (words : List ℕ) (at : ℕ) (word : List ℕ) → Found → Type 0
+FoundAt words at word r = (r .stands ≡ starts word (drop at words)) × (drop (r .next) words ≡ after word (drop at words))
+
+abbrev pub AsksSimplifying : (words : List ℕ) (at limit : ℕ) → Asked → Type 0
+AsksSimplifying words at limit r = seen words r ≡ simplifying limit (drop at words)
 
 abbrev pub AsksAtLimit : (words : List ℕ) (at : ℕ) → Asked → Type 0
 AsksAtLimit words at r = seen words r ≡ atLimit (drop at words)

@@ -5,7 +5,7 @@ use mathlib.Core.List.{List, []}
 use lib.ListN.{take}
 use Rattle.io.specs.Counts.{Counts}
 use Rattle.commands.specs.declared.Printed.{Printed}
-use Rattle.commands.specs.Words.{Request, job, help, version, nothing, unknown, tooMany, firstOf, request, shows}
+use Rattle.commands.specs.Words.{Request, job, help, version, nothing, unknown, tooMany, firstOf, request, shows, traces}
 use Rattle.outcomes.specs.Outcomes.{outputWith, saidWith}
 use Rattle.commands.specs.Results.{result, marks}
 use Rattle.commands.specs.Help as Help
@@ -21,7 +21,7 @@ outputOf unknown input out = []
 outputOf tooMany input out = []
 
 unfoldable pub saidOf : Request → (words input out : List ℕ) → List ℕ
-saidOf (job command rest) words input out = saidWith (marks command input out) (result command input out)
+saidOf (job command rest) words input out = saidWith (traces command) (marks command input out) (result command input out)
 saidOf help words input out = []
 saidOf version words input out = []
 saidOf nothing words input out = Help.usage

@@ -16,6 +16,7 @@ use Rattle.tape.specs.Tapes as Tapes
 use Rattle.calls.specs.declared.Evaluated.{Evaluated}
 use Rattle.calls.specs.declared.Simplified.{Simplified}
 use Rattle.calls.specs.Marks.{evaluateMarks, simplifyMarks, playMarks}
+use Rattle.calls.specs.Origins.{substituteOrigins, simplifyOrigins, simplifyOriginsMarks}
 use Rattle.calls.specs.Calls.{evaluateCall, substituteCall, toRealCall, simplifyCall, compileCall, playCall}
 use Rattle.console.specs.Answers.{valueLine, realLine}
 use Rattle.console.specs.TapeText.{inLines, tapeIn}
@@ -67,6 +68,14 @@ abbrev pub simplified : (room limit : ℕ) (list values out : List ℕ) → Resu
 simplified room limit list values out =
     ofSimplified list values (simplifyCall room limit list values out .0) (simplifyCall room limit list values out .1)
 
+-- the same with origins in the listing
+abbrev pub simplifiedOrigins : (room limit : ℕ) (list values out : List ℕ) → Result
+simplifiedOrigins room limit list values out =
+    ofSimplified list values (simplifyOrigins room limit list values out .0) (simplifyOrigins room limit list values out .1)
+
+abbrev pub simplifiedWith : (traced : Bool) (room limit : ℕ) (list values out : List ℕ) → Result
+simplifiedWith traced room limit list values out = cond traced (simplifiedOrigins room limit list values out) (simplified room limit list values out)
+
 -- simplify at limit 10, then evaluate the result under the same sheet
 unfoldable pub playedOf : (room : ℕ) (list values : List ℕ) → Simplified → (out : List ℕ) → Result
 playedOf room list values (Simplified.Bytes bytes calls) out = evaluated room (take bytes out) values
@@ -81,6 +90,13 @@ ofWritten list (Written.Refused why) out = refused why (aloneOf list why)
 
 abbrev pub substituted : (room : ℕ) (list out : List ℕ) → Result
 substituted room list out = ofWritten list (substituteCall room list out .0) (substituteCall room list out .1)
+
+-- the same with origins in the listing
+abbrev pub substitutedOrigins : (room : ℕ) (list out : List ℕ) → Result
+substitutedOrigins room list out = ofWritten list (substituteOrigins room list out .0) (substituteOrigins room list out .1)
+
+abbrev pub substitutedWith : (traced : Bool) (room : ℕ) (list out : List ℕ) → Result
+substitutedWith traced room list out = cond traced (substitutedOrigins room list out) (substituted room list out)
 
 unfoldable pub ofReal : (list : List ℕ) → Real → Result
 ofReal list (Real.Number x) = printed (realLine x)
@@ -128,7 +144,7 @@ shownText text = shownTape (tapeIn text)
 
 -- the commands whose input is one text
 unfoldable pub whole : (room : ℕ) → Whole → (text out : List ℕ) → Result
-whole room Whole.Substitute text out = substituted room text out
+whole room (Whole.Substitute traced) text out = substitutedWith traced room text out
 whole room Whole.Real text out = real room text
 whole room Whole.Compile text out = compiled room text
 whole room Whole.Show text out = shownText text
@@ -137,7 +153,7 @@ whole room Whole.Check text out = checked text
 -- those whose input parts
 unfoldable pub parted : (room : ℕ) → Parted → (list values out : List ℕ) → Result
 parted room (Parted.Evaluate shown) list values out = evaluated room list values
-parted room (Parted.Simplify limit shown) list values out = simplified room limit list values out
+parted room (Parted.Simplify limit shown traced) list values out = simplifiedWith traced room limit list values out
 parted room Parted.Played list values out = played room list values out
 parted room (Parted.Play shown) list values out = playing list values
 
@@ -151,9 +167,12 @@ result command input out = cond (ltb 262144 (length input)) tooLong (resultIn 40
 
 -- ---- the t rows that it used, as marks; commands that do not say them have none
 
+abbrev pub marksWith : (traced : Bool) (room limit : ℕ) (list values out : List ℕ) → List ℕ
+marksWith traced room limit list values out = cond traced (simplifyOriginsMarks room limit list values out) (simplifyMarks room limit list values out)
+
 unfoldable pub partedMarks : (room : ℕ) → Parted → (list values out : List ℕ) → List ℕ
 partedMarks room (Parted.Evaluate shown) list values out = evaluateMarks room list values
-partedMarks room (Parted.Simplify limit shown) list values out = simplifyMarks room limit list values out
+partedMarks room (Parted.Simplify limit shown traced) list values out = marksWith traced room limit list values out
 partedMarks room Parted.Played list values out = noMarks
 partedMarks room (Parted.Play shown) list values out = playMarks (tapeIn list) values
 

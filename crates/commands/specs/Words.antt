@@ -24,13 +24,30 @@ pub data Request : Type 0 where
 abbrev pub when : (word : List ℕ) → Command → (words : List ℕ) → Request → Request
 when word command words other = cond (starts word words) (job command (drop (length word) words)) other
 
--- the word `marks`, which asks for the marks of the t rows that were used; where it does not follow, the words stay
-unfoldable pub afterMarks : List ℕ → List ℕ
-afterMarks rest = cond (starts (bytes "marks\n") rest) (drop (length (bytes "marks\n")) rest) rest
+-- a word that asks for more; where it does not follow, the words stay
+unfoldable pub after : (word rest : List ℕ) → List ℕ
+after word rest = cond (starts word rest) (drop (length word) rest) rest
 
--- a command that takes it, and the words after it: it stands before the file, so that a file of that name is written `./marks`
+-- the word `marks` asks for the marks of the t rows that were used
+abbrev pub marksAsked : (rest : List ℕ) → Bool
+marksAsked rest = starts (bytes "marks\n") rest
+
+abbrev pub afterMarks : (rest : List ℕ) → List ℕ
+afterMarks rest = after (bytes "marks\n") rest
+
+-- the word `origins` asks for where the lines of the listing came from
+abbrev pub originsAsked : (rest : List ℕ) → Bool
+originsAsked rest = starts (bytes "origins\n") rest
+
+abbrev pub afterOrigins : (rest : List ℕ) → List ℕ
+afterOrigins rest = after (bytes "origins\n") rest
+
+-- a command that takes such a word, and the words after it: it stands before the file, so that a file of that name is written `./marks` or `./origins`
 abbrev pub marking : (command : Bool → Parted) (rest : List ℕ) → Request
-marking command rest = job (Command.Parted (command (starts (bytes "marks\n") rest))) (afterMarks rest)
+marking command rest = job (Command.Parted (command (marksAsked rest))) (afterMarks rest)
+
+abbrev pub tracing : (command : Bool → Command) (rest : List ℕ) → Request
+tracing command rest = job (command (originsAsked rest)) (afterOrigins rest)
 
 abbrev pub whenMarking : (word : List ℕ) (command : Bool → Parted) (words : List ℕ) → Request → Request
 whenMarking word command words other = cond (starts word words) (marking command (drop (length word) words)) other
@@ -43,10 +60,14 @@ tapeWord words =
     (when (bytes "check\n") (Command.Whole Whole.Check) words
     unknown)))
 
--- the limit of `simplify`: a number below 2 to the 32nd, and 10 where none follows
+-- `simplify` takes both, `marks` before `origins`
+abbrev pub simplifying : (limit : ℕ) (rest : List ℕ) → Request
+simplifying limit rest = tracing (λ traced. Command.Parted (Parted.Simplify limit (marksAsked rest) traced)) (afterMarks rest)
+
+-- its limit: a number below 2 to the 32nd, and 10 where none follows
 unfoldable pub withLimit : Read ℕ → (rest : List ℕ) → Request
-withLimit (is limit after) rest = marking (Parted.Simplify limit) after
-withLimit bad rest = marking (Parted.Simplify 10) rest
+withLimit (is limit after) rest = simplifying limit after
+withLimit bad rest = simplifying 10 rest
 
 abbrev pub atLimit : List ℕ → Request
 atLimit rest = withLimit (decimalField lf 4294967296 rest) rest
@@ -54,7 +75,7 @@ atLimit rest = withLimit (decimalField lf 4294967296 rest) rest
 unfoldable pub jobWord : List ℕ → Request
 jobWord words =
     whenMarking (bytes "evaluate\n") Parted.Evaluate words
-    (when (bytes "substitute\n") (Command.Whole Whole.Substitute) words
+    (cond (starts (bytes "substitute\n") words) (tracing (λ traced. Command.Whole (Whole.Substitute traced)) (drop (length (bytes "substitute\n")) words))
     (when (bytes "real\n") (Command.Whole Whole.Real) words
     (cond (starts (bytes "simplify\n") words) (atLimit (drop (length (bytes "simplify\n")) words))
     (when (bytes "played\n") (Command.Parted Parted.Played) words
@@ -89,10 +110,29 @@ firstOf (b ∷ bs) = cond (eqb b lf) [] (b ∷ firstOf bs)
 
 unfoldable pub partedShows : Parted → Bool
 partedShows (Parted.Evaluate shown) = shown
-partedShows (Parted.Simplify limit shown) = shown
+partedShows (Parted.Simplify limit shown traced) = shown
 partedShows Parted.Played = false
 partedShows (Parted.Play shown) = shown
 
 unfoldable pub shows : Command → Bool
 shows (Command.Whole command) = false
 shows (Command.Parted command) = partedShows command
+
+-- ---- whether the origins are
+
+unfoldable pub wholeTraces : Whole → Bool
+wholeTraces (Whole.Substitute traced) = traced
+wholeTraces Whole.Real = false
+wholeTraces Whole.Compile = false
+wholeTraces Whole.Show = false
+wholeTraces Whole.Check = false
+
+unfoldable pub partedTraces : Parted → Bool
+partedTraces (Parted.Evaluate shown) = false
+partedTraces (Parted.Simplify limit shown traced) = traced
+partedTraces Parted.Played = false
+partedTraces (Parted.Play shown) = false
+
+unfoldable pub traces : Command → Bool
+traces (Command.Whole command) = wholeTraces command
+traces (Command.Parted command) = partedTraces command

@@ -15,7 +15,7 @@ pub fn write_help(out: &mut [u8]) -> usize
     write_bytes(
         out,
         0,
-        b"use: ./run rack COMMAND [LIMIT] [marks] [FILE], where COMMAND is one of:\n\
+        b"use: ./run rack COMMAND [LIMIT] [marks] [origins] [FILE], where COMMAND is one of:\n\
 \x20 evaluate    reads a listing and, after an empty line, a sheet of values; prints the expression's value\n\
 \x20 simplify    reads what evaluate reads; prints the listing simplified at LIMIT, 0 to 10, which is 10 if left out\n\
 \x20 played      reads what evaluate reads; simplifies at 10 and prints the value of the result under the same sheet\n\
@@ -29,6 +29,9 @@ pub fn write_help(out: &mut [u8]) -> usize
 The job is read from FILE or, where none is named, from standard input. docs/FORMATS.md says how a job is written.\n\
 Which t rows of the sheet evaluate, simplify and play used is said on standard error, by their numbers from 0; with the\n\
 word marks it is also printed, as a last line. A file of that name is written ./marks.\n\
+With the word origins, which stands after marks, simplify and substitute also print where each line came from, as its last\n\
+field: @ and the number of a line of the job, or @- for none. Which line of the job stands where in the result is then said\n\
+on standard error. Both count from 0. A file of that name is written ./origins.\n\
 A job that has no answer prints incomplete, or need and the function value that is lacking, or refused, the\n\
 refusal's number and the place: a line or a step counted from 0. The sentence on standard error counts from 1.\n\
 Example, half of pi: printf 'p\\nn\\t4000000000000000\\t0000000000000000\\nb\\t/\\t0\\t1\\n' | ./run rack evaluate\n\
@@ -41,7 +44,7 @@ pub fn write_version(out: &mut [u8]) -> usize
     ensures { λ r. ⌜ Put (now (out .entry)) 0 version r (now (out .exit)) ⌝ }
     ensures within { λ r. ⌜ Counts r (now (out .exit)) ⌝ }
 {
-    write_bytes(out, 0, b"rack 2.1.0\n")
+    write_bytes(out, 0, b"rack 2.2.0\n")
 }
 
 pub fn write_usage(out: &mut [u8]) -> usize
@@ -52,7 +55,7 @@ pub fn write_usage(out: &mut [u8]) -> usize
     write_bytes(
         out,
         0,
-        b"use: ./run rack COMMAND [LIMIT] [marks] [FILE]; ./run rack help names the commands.\n",
+        b"use: ./run rack COMMAND [LIMIT] [marks] [origins] [FILE]; ./run rack help names the commands.\n",
     )
 }
 
@@ -64,7 +67,7 @@ pub fn write_too_many(out: &mut [u8]) -> usize
     write_bytes(
         out,
         0,
-        b"There are too many words: at most a file follows on a command, before it marks on evaluate, simplify and play, and before that on simplify a limit.\n",
+        b"There are too many words: at most a file follows on a command, before it origins on simplify and substitute, before that marks on evaluate, simplify and play, and before that on simplify a limit.\n",
     )
 }
 

@@ -3,9 +3,10 @@ ghost use Prim.Native.Nat.{_≤_};
 ghost use lib.ListN.{length, take};
 ghost use Rattle.io.specs.Counts.{Counts};
 ghost use Rattle.calls.specs.Lent.{work, capacity};
-ghost use Rattle.commands.specs.Results.{evaluated, simplified, played, substituted, real};
+ghost use Rattle.commands.specs.Results.{evaluated, simplified, simplifiedOrigins, played, substituted, substitutedOrigins, real};
 ghost use Rattle.outcomes.specs.Coming.{Comes};
 ghost use Rattle.calls.specs.Marks.{evaluateMarks, simplifyMarks};
+ghost use Rattle.calls.specs.Origins.{simplifyOriginsMarks};
 ghost use Rattle.commands.specs.Coming.{ComesMarked};
 use super::details::fault_alone;
 use super::details::fault_of;
@@ -65,6 +66,26 @@ pub fn simplify(
     }
 }
 
+// The same with origins in the listing.
+pub fn simplify_origins(
+    list: &[u8],
+    values: &[u8],
+    limit: u64,
+    store: &mut [[u64; 4]],
+    desk: &mut [u64; DESK_WORDS],
+    table: &mut [u64; TABLE_WORDS],
+    out: &mut [u8],
+    marks: &mut [u8; MARKS],
+) -> Outcome
+    ensures { λ r. ⌜ ComesMarked (simplifiedOrigins (capacity (work (now (store .entry)) (now (desk .entry)) (now (table .entry)))) limit (now (list .entry)) (now (values .entry)) (now (out .entry))) (simplifyOriginsMarks (capacity (work (now (store .entry)) (now (desk .entry)) (now (table .entry)))) limit (now (list .entry)) (now (values .entry)) (now (out .entry))) r (now (out .exit)) (now (marks .exit)) ⌝ }
+{
+    let answer = calls::simplify_origins(list, values, limit, store, desk, table, out, marks);
+    match answer {
+        Simplified::Bytes { bytes, calls } => Outcome::Simplified(part(out, bytes), calls),
+        Simplified::Refused(why) => Outcome::Refused(why, fault_of(why, list, values)),
+    }
+}
+
 // The value of the listing that the first n bytes of the output are; its line takes their place.
 fn evaluate_written(
     n: usize,
@@ -118,6 +139,23 @@ pub fn substitute(
     ensures { λ r. ⌜ Comes (substituted (capacity (work (now (store .entry)) (now (desk .entry)) (now (table .entry)))) (now (list .entry)) (now (out .entry))) r (now (out .exit)) ⌝ }
 {
     let answer = calls::substitute(list, store, desk, table, out);
+    match answer {
+        Written::Bytes(bytes) => Outcome::Printed(part(out, bytes)),
+        Written::Refused(why) => Outcome::Refused(why, fault_alone(why, list)),
+    }
+}
+
+// The same with origins in the listing.
+pub fn substitute_origins(
+    list: &[u8],
+    store: &mut [[u64; 4]],
+    desk: &mut [u64; DESK_WORDS],
+    table: &mut [u64; TABLE_WORDS],
+    out: &mut [u8],
+) -> Outcome
+    ensures { λ r. ⌜ Comes (substitutedOrigins (capacity (work (now (store .entry)) (now (desk .entry)) (now (table .entry)))) (now (list .entry)) (now (out .entry))) r (now (out .exit)) ⌝ }
+{
+    let answer = calls::substitute_origins(list, store, desk, table, out);
     match answer {
         Written::Bytes(bytes) => Outcome::Printed(part(out, bytes)),
         Written::Refused(why) => Outcome::Refused(why, fault_alone(why, list)),

@@ -13,13 +13,14 @@ use help::write_usage;
 use help::write_version;
 use memory::layout::MARKS;
 use outcomes::print_marked;
-use outcomes::say_marked;
+use outcomes::say_traced;
 use running::run;
 use words::Asked;
 use words::Command;
 use words::first_length;
 use words::read_words;
 use words::shows;
+use words::traces;
 
 mod details;
 mod help;
@@ -41,20 +42,21 @@ fn no_marks() -> [u8; MARKS]
     [0; MARKS]
 }
 
+// What is said goes by the listing, behind which the marks are printed: so it comes first.
 fn run_job(command: Command, input: &[u8], out: &mut [u8], said: &mut [u8]) -> Printed
-    requires { ⌜ (65536 ≤ length (now out)) × (82960 ≤ length (now said)) ⌝ }
+    requires { ⌜ (65536 ≤ length (now out)) × (139280 ≤ length (now said)) ⌝ }
     ensures { λ r. ⌜ PrintsJob command (now (input .entry)) (now (out .entry)) r (now (out .exit)) (now (said .exit)) ⌝ }
 {
     let mut marks = no_marks();
     let outcome = run(command, input, out, &mut marks);
+    let m = say_traced(said, out, outcome, marks, traces(command));
     let n = print_marked(out, outcome, marks, shows(command));
-    let m = say_marked(said, outcome, marks);
     Printed { out: n, said: m }
 }
 
 // The words of the command line, each ended by a line feed; the input, which a command reads; and the two outputs.
 pub fn answer(words: &[u8], input: &[u8], out: &mut [u8], said: &mut [u8]) -> Printed
-    requires { ⌜ (65536 ≤ length (now out)) × (length (now words) + 82960 ≤ length (now said)) ⌝ }
+    requires { ⌜ (65536 ≤ length (now out)) × (length (now words) + 139280 ≤ length (now said)) ⌝ }
     ensures { λ r. ⌜ Answers (now (words .entry)) (now (input .entry)) (now (out .entry)) r (now (out .exit)) (now (said .exit)) ⌝ }
 {
     let asked = read_words(words);

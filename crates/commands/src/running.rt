@@ -5,7 +5,7 @@ ghost use Prim.Native.Nat.{_≤_};
 ghost use lib.ListN.{length};
 ghost use Rattle.calls.specs.Lent.{work, capacity};
 ghost use Rattle.commands.specs.Results as Results;
-ghost use Rattle.commands.specs.Results.{resultIn, result, marksIn};
+ghost use Rattle.commands.specs.Results.{simplifiedWith, marksWith, substitutedWith, resultIn, result, marksIn};
 ghost use Rattle.commands.specs.Needing.{WholeAlike, PartedAlike, Alike};
 ghost use Rattle.outcomes.specs.Coming.{Comes};
 ghost use Rattle.memory.specs.Marks.{noMarks};
@@ -25,6 +25,22 @@ use outcomes::Outcome;
 // The longest input.
 const MOST: usize = 262_144;
 
+fn run_substitute(
+    traced: bool,
+    text: &[u8],
+    store: &mut [[u64; 4]],
+    desk: &mut [u64; DESK_WORDS],
+    table: &mut [u64; TABLE_WORDS],
+    out: &mut [u8],
+) -> Outcome
+    ensures { λ r. ⌜ Comes (substitutedWith traced (capacity (work (now (store .entry)) (now (desk .entry)) (now (table .entry)))) (now (text .entry)) (now (out .entry))) r (now (out .exit)) ⌝ }
+{
+    if traced {
+        return jobs::substitute_origins(text, store, desk, table, out);
+    }
+    jobs::substitute(text, store, desk, table, out)
+}
+
 fn run_whole(
     command: Whole,
     text: &[u8],
@@ -37,12 +53,31 @@ fn run_whole(
     ensures { λ r. ⌜ Comes (Results.whole (capacity (work (now (store .entry)) (now (desk .entry)) (now (table .entry)))) command (now (text .entry)) (now (out .entry))) r (now (out .exit)) ⌝ }
 {
     match command {
-        Whole::Substitute => jobs::substitute(text, store, desk, table, out),
+        Whole::Substitute(traced) => run_substitute(traced, text, store, desk, table, out),
         Whole::Real => jobs::real(text, store, desk, table, out),
         Whole::Compile => tapes::compile(text, store, desk, table, out),
         Whole::Show => tapes::show(text, out),
         Whole::Check => tapes::check(text, out),
     }
+}
+
+fn run_simplify(
+    limit: u64,
+    traced: bool,
+    list: &[u8],
+    values: &[u8],
+    store: &mut [[u64; 4]],
+    desk: &mut [u64; DESK_WORDS],
+    table: &mut [u64; TABLE_WORDS],
+    out: &mut [u8],
+    marks: &mut [u8; MARKS],
+) -> Outcome
+    ensures { λ r. ⌜ ComesMarked (simplifiedWith traced (capacity (work (now (store .entry)) (now (desk .entry)) (now (table .entry)))) limit (now (list .entry)) (now (values .entry)) (now (out .entry))) (marksWith traced (capacity (work (now (store .entry)) (now (desk .entry)) (now (table .entry)))) limit (now (list .entry)) (now (values .entry)) (now (out .entry))) r (now (out .exit)) (now (marks .exit)) ⌝ }
+{
+    if traced {
+        return jobs::simplify_origins(list, values, limit, store, desk, table, out, marks);
+    }
+    jobs::simplify(list, values, limit, store, desk, table, out, marks)
 }
 
 fn run_parted(
@@ -60,8 +95,8 @@ fn run_parted(
 {
     match command {
         Parted::Evaluate(_) => jobs::evaluate(list, values, store, desk, table, out, marks),
-        Parted::Simplify(limit, _) => {
-            jobs::simplify(list, values, limit, store, desk, table, out, marks)
+        Parted::Simplify(limit, _, traced) => {
+            run_simplify(limit, traced, list, values, store, desk, table, out, marks)
         }
         Parted::Played => jobs::played(list, values, store, desk, table, out),
         Parted::Play(_) => tapes::play(list, values, table, out, marks),
@@ -106,7 +141,7 @@ fn whole_stores_little(command: Whole) -> bool
     ensures { λ r. ⌜ (r ≡ true → WholeAlike command) ⌝ }
 {
     match command {
-        Whole::Substitute => false,
+        Whole::Substitute(_) => false,
         Whole::Real => true,
         Whole::Compile => true,
         Whole::Show => true,
@@ -119,7 +154,7 @@ fn parted_stores_little(command: Parted) -> bool
 {
     match command {
         Parted::Evaluate(_) => true,
-        Parted::Simplify(_, _) => false,
+        Parted::Simplify(_, _, _) => false,
         Parted::Played => false,
         Parted::Play(_) => true,
     }

@@ -2,8 +2,8 @@
 ghost use mathlib.Core.Path.{_≡_};
 ghost use lib.ListN.{take};
 ghost use Rattle.io.specs.Counts.{Counts};
-ghost use Rattle.commands.specs.Words.{tapeWord, jobWord, firstWord, firstOf, partedShows, shows};
-ghost use Rattle.commands.specs.Asking.{Asks, MarksAt, AsksAtLimit, AsksFile, AsksAll};
+ghost use Rattle.commands.specs.Words.{tapeWord, jobWord, firstWord, firstOf, partedShows, shows, wholeTraces, partedTraces, traces};
+ghost use Rattle.commands.specs.Asking.{Asks, FoundAt, AsksSimplifying, AsksAtLimit, AsksFile, AsksAll};
 use console::tape::next_line;
 use text::reading::Number;
 use text::reading::decimal_field;
@@ -17,19 +17,20 @@ const LIMIT: u64 = 10;
 // A limit is a number below this one.
 const LIMITS: u64 = 4_294_967_296;
 
-// The commands whose input is one text.
+// The commands whose input is one text; the first by whether origins are asked for.
 pub enum Whole {
-    Substitute,
+    Substitute(bool),
     Real,
     Compile,
     Show,
     Check,
 }
 
-// Those whose input parts at the first empty line; three of them by whether the marks are asked for.
+// Those whose input parts at the first empty line; three of them by whether the marks are asked for, and simplify by its limit
+// and by whether origins are asked for besides.
 pub enum Parted {
     Evaluate(bool),
-    Simplify(u64, bool),
+    Simplify(u64, bool, bool),
     Played,
     Play(bool),
 }
@@ -49,25 +50,37 @@ pub enum Asked {
     TooMany,
 }
 
-// Whether the word `marks` stands at a place, and where the words after it begin.
-struct Marks {
-    shown: bool,
+// Whether a word stands at a place, and where the words after it begin.
+struct Found {
+    stands: bool,
     next: usize,
 }
 
-fn marks_at(words: &[u8], at: usize) -> Marks
-    ensures { λ r. ⌜ MarksAt (now (words .entry)) at r ⌝ }
+fn find_at(words: &[u8], at: usize, word: &[u8]) -> Found
+    ensures { λ r. ⌜ FoundAt (now (words .entry)) at (now (word .entry)) r ⌝ }
 {
-    if word_at(words, at, b"marks\n") {
-        return Marks {
-            shown: true,
-            next: at + 6,
+    if word_at(words, at, word) {
+        return Found {
+            stands: true,
+            next: at + word.len(),
         };
     }
-    Marks {
-        shown: false,
+    Found {
+        stands: false,
         next: at,
     }
+}
+
+// "simplify" at a limit, and what follows on that.
+fn simplify_at(words: &[u8], at: usize, limit: u64) -> Asked
+    ensures { λ r. ⌜ AsksSimplifying (now (words .entry)) at limit r ⌝ }
+{
+    let marks = find_at(words, at, b"marks\n");
+    let origins = find_at(words, marks.next, b"origins\n");
+    Asked::Job(
+        Command::Parted(Parted::Simplify(limit, marks.stands, origins.stands)),
+        origins.next,
+    )
 }
 
 // "simplify" and, if one follows, its limit.
@@ -76,20 +89,8 @@ fn at_limit(words: &[u8], at: usize) -> Asked
 {
     let limit = decimal_field(words, at, LF, LIMITS);
     match limit {
-        Number::Is(n, next) => {
-            let marks = marks_at(words, next);
-            Asked::Job(
-                Command::Parted(Parted::Simplify(n, marks.shown)),
-                marks.next,
-            )
-        }
-        Number::Bad => {
-            let marks = marks_at(words, at);
-            Asked::Job(
-                Command::Parted(Parted::Simplify(LIMIT, marks.shown)),
-                marks.next,
-            )
-        }
+        Number::Is(n, next) => simplify_at(words, next, n),
+        Number::Bad => simplify_at(words, at, LIMIT),
     }
 }
 
@@ -100,8 +101,8 @@ fn tape_word(words: &[u8]) -> Asked
         return Asked::Job(Command::Whole(Whole::Compile), 8);
     }
     if word_at(words, 0, b"play\n") {
-        let marks = marks_at(words, 5);
-        return Asked::Job(Command::Parted(Parted::Play(marks.shown)), marks.next);
+        let marks = find_at(words, 5, b"marks\n");
+        return Asked::Job(Command::Parted(Parted::Play(marks.stands)), marks.next);
     }
     if word_at(words, 0, b"show\n") {
         return Asked::Job(Command::Whole(Whole::Show), 5);
@@ -116,11 +117,15 @@ fn job_word(words: &[u8]) -> Asked
     ensures { λ r. ⌜ Asks jobWord (now (words .entry)) r ⌝ }
 {
     if word_at(words, 0, b"evaluate\n") {
-        let marks = marks_at(words, 9);
-        return Asked::Job(Command::Parted(Parted::Evaluate(marks.shown)), marks.next);
+        let marks = find_at(words, 9, b"marks\n");
+        return Asked::Job(Command::Parted(Parted::Evaluate(marks.stands)), marks.next);
     }
     if word_at(words, 0, b"substitute\n") {
-        return Asked::Job(Command::Whole(Whole::Substitute), 11);
+        let origins = find_at(words, 11, b"origins\n");
+        return Asked::Job(
+            Command::Whole(Whole::Substitute(origins.stands)),
+            origins.next,
+        );
     }
     if word_at(words, 0, b"real\n") {
         return Asked::Job(Command::Whole(Whole::Real), 5);
@@ -199,7 +204,7 @@ fn parted_shows(command: Parted) -> bool
 {
     match command {
         Parted::Evaluate(shown) => shown,
-        Parted::Simplify(_, shown) => shown,
+        Parted::Simplify(_, shown, _) => shown,
         Parted::Played => false,
         Parted::Play(shown) => shown,
     }
@@ -212,5 +217,38 @@ pub fn shows(command: Command) -> bool
     match command {
         Command::Whole(_) => false,
         Command::Parted(parted) => parted_shows(parted),
+    }
+}
+
+fn whole_traces(command: Whole) -> bool
+    ensures { λ r. ⌜ r ≡ wholeTraces command ⌝ }
+{
+    match command {
+        Whole::Substitute(traced) => traced,
+        Whole::Real => false,
+        Whole::Compile => false,
+        Whole::Show => false,
+        Whole::Check => false,
+    }
+}
+
+fn parted_traces(command: Parted) -> bool
+    ensures { λ r. ⌜ r ≡ partedTraces command ⌝ }
+{
+    match command {
+        Parted::Evaluate(_) => false,
+        Parted::Simplify(_, _, traced) => traced,
+        Parted::Played => false,
+        Parted::Play(_) => false,
+    }
+}
+
+// Whether origins are asked for.
+pub fn traces(command: Command) -> bool
+    ensures { λ r. ⌜ r ≡ traces command ⌝ }
+{
+    match command {
+        Command::Whole(whole) => whole_traces(whole),
+        Command::Parted(parted) => parted_traces(parted),
     }
 }

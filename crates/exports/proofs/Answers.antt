@@ -23,7 +23,7 @@ use Rattle.calls.specs.declared.Evaluated.{Evaluated}
 use Rattle.calls.specs.declared.Simplified.{Simplified}
 use Rattle.calls.specs.Lent.{Work}
 use Rattle.calls.specs.Promises as Calls
-use Rattle.exports.specs.Words.{words, carriedWords, refusalWords, evaluatedWords, realWords, writtenWords, simplifiedWords, firstWord, Answered, Evaluates, EvaluatesMarked, Substitutes, ReadsReal, Simplifies, SimplifiesMarked, Compiles, Plays, PlaysMarked, Picks, whichNumber}
+use Rattle.exports.specs.Words.{words, carriedWords, refusalWords, evaluatedWords, realWords, writtenWords, simplifiedWords, firstWord, Answered, Evaluates, EvaluatesMarked, Substitutes, SubstitutesOrigins, ReadsReal, Simplifies, SimplifiesMarked, SimplifiesOrigins, Compiles, Plays, PlaysMarked, Picks, whichNumber}
 
 -- all six are written
 pub six : (s : List ℕ) (a b c d e f : ℕ) → length s ≡ 6 → set (set (set (set (set (set s 0 a) 1 b) 2 c) 3 d) 4 e) 5 f ≡ words a b c d e f
@@ -84,6 +84,10 @@ pub substitutes : {list out : List ℕ} {w w′ : Work} {e : Written} {r : ℕ} 
     → Answered (writtenWords e) r answer → Substitutes list out w r answer out′ w′
 substitutes p a = record { answered = known-as (ap (λ x. writtenWords (x .0 .0)) p) a; output = ap (λ x. x .0 .1) p; left = ap (λ x. x .1) p }
 
+pub substitutes-origins : {list out : List ℕ} {w w′ : Work} {e : Written} {r : ℕ} {answer out′ : List ℕ} → Calls.SubstitutesOrigins list out w e out′ w′
+    → Answered (writtenWords e) r answer → SubstitutesOrigins list out w r answer out′ w′
+substitutes-origins p a = record { answered = known-as (ap (λ x. writtenWords (x .0 .0)) p) a; output = ap (λ x. x .0 .1) p; left = ap (λ x. x .1) p }
+
 pub reads-real : {list : List ℕ} {w w′ : Work} {e : Real} {r : ℕ} {answer : List ℕ} → Calls.ReadsReal list w e w′
     → Answered (realWords e) r answer → ReadsReal list w r answer w′
 reads-real p a = record { answered = known-as (ap (λ x. realWords (x .0)) p) a; left = ap (λ x. x .1) p }
@@ -95,6 +99,11 @@ simplifies p a = record { answered = known-as (ap (λ x. simplifiedWords (x .0 .
 pub simplifies-marked : {limit : ℕ} {list values out : List ℕ} {w w′ : Work} {e : Simplified} {r : ℕ} {answer marks out′ : List ℕ} → Calls.SimplifiesMarked limit list values out w e marks out′ w′
     → Answered (simplifiedWords e) r answer → SimplifiesMarked limit list values out w r answer marks out′ w′
 simplifies-marked p a =
+    record { answered = known-as (ap (λ x. simplifiedWords (x .0 .0 .0)) p) a; marked = ap (λ x. x .0 .1) p; output = ap (λ x. x .0 .0 .1) p; left = ap (λ x. x .1) p }
+
+pub simplifies-origins : {limit : ℕ} {list values out : List ℕ} {w w′ : Work} {e : Simplified} {r : ℕ} {answer marks out′ : List ℕ} → Calls.SimplifiesOrigins limit list values out w e marks out′ w′
+    → Answered (simplifiedWords e) r answer → SimplifiesOrigins limit list values out w r answer marks out′ w′
+simplifies-origins p a =
     record { answered = known-as (ap (λ x. simplifiedWords (x .0 .0 .0)) p) a; marked = ap (λ x. x .0 .1) p; output = ap (λ x. x .0 .0 .1) p; left = ap (λ x. x .1) p }
 
 -- ---- tapes

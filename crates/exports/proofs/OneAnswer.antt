@@ -3,7 +3,7 @@ use mathlib.Core.Path.{_≡_, sym, _∙_}
 use Prim.Native.Nat.{ℕ}
 use mathlib.Core.List.{List}
 use Rattle.calls.specs.Lent.{Work}
-use Rattle.exports.specs.Words.{Answered, Evaluates, EvaluatesMarked, Substitutes, ReadsReal, Simplifies, SimplifiesMarked, Compiles, Plays, PlaysMarked, Checks, Picks}
+use Rattle.exports.specs.Words.{Answered, Evaluates, EvaluatesMarked, Substitutes, SubstitutesOrigins, ReadsReal, Simplifies, SimplifiesMarked, SimplifiesOrigins, Compiles, Plays, PlaysMarked, Checks, Picks}
 
 pub one-words : {want : List ℕ} {r r′ : ℕ} {a a′ : List ℕ} → Answered want r a → Answered want r′ a′ → (r ≡ r′) × (a ≡ a′)
 one-words p q = (p .number ∙ sym (q .number), p .words ∙ sym (q .words))
@@ -20,6 +20,10 @@ pub one-substituted : {list out : List ℕ} {w : Work} {r r′ : ℕ} {a a′ ou
     → Substitutes list out w r a out₁ w₁ → Substitutes list out w r′ a′ out₂ w₂ → ((r ≡ r′) × (a ≡ a′)) × (out₁ ≡ out₂) × (w₁ ≡ w₂)
 one-substituted p q = (one-words (p .answered) (q .answered), p .output ∙ sym (q .output), p .left ∙ sym (q .left))
 
+pub one-substituted-origins : {list out : List ℕ} {w : Work} {r r′ : ℕ} {a a′ out₁ out₂ : List ℕ} {w₁ w₂ : Work}
+    → SubstitutesOrigins list out w r a out₁ w₁ → SubstitutesOrigins list out w r′ a′ out₂ w₂ → ((r ≡ r′) × (a ≡ a′)) × (out₁ ≡ out₂) × (w₁ ≡ w₂)
+one-substituted-origins p q = (one-words (p .answered) (q .answered), p .output ∙ sym (q .output), p .left ∙ sym (q .left))
+
 pub one-real : {list : List ℕ} {w : Work} {r r′ : ℕ} {a a′ : List ℕ} {w₁ w₂ : Work} → ReadsReal list w r a w₁ → ReadsReal list w r′ a′ w₂
     → ((r ≡ r′) × (a ≡ a′)) × (w₁ ≡ w₂)
 one-real p q = (one-words (p .answered) (q .answered), p .left ∙ sym (q .left))
@@ -32,6 +36,11 @@ pub one-simplified-marked : {limit : ℕ} {list values out : List ℕ} {w : Work
     → SimplifiesMarked limit list values out w r a marks₁ out₁ w₁ → SimplifiesMarked limit list values out w r′ a′ marks₂ out₂ w₂
     → ((r ≡ r′) × (a ≡ a′)) × (marks₁ ≡ marks₂) × (out₁ ≡ out₂) × (w₁ ≡ w₂)
 one-simplified-marked p q = (one-words (p .answered) (q .answered), p .marked ∙ sym (q .marked), p .output ∙ sym (q .output), p .left ∙ sym (q .left))
+
+pub one-simplified-origins : {limit : ℕ} {list values out : List ℕ} {w : Work} {r r′ : ℕ} {a a′ marks₁ marks₂ out₁ out₂ : List ℕ} {w₁ w₂ : Work}
+    → SimplifiesOrigins limit list values out w r a marks₁ out₁ w₁ → SimplifiesOrigins limit list values out w r′ a′ marks₂ out₂ w₂
+    → ((r ≡ r′) × (a ≡ a′)) × (marks₁ ≡ marks₂) × (out₁ ≡ out₂) × (w₁ ≡ w₂)
+one-simplified-origins p q = (one-words (p .answered) (q .answered), p .marked ∙ sym (q .marked), p .output ∙ sym (q .output), p .left ∙ sym (q .left))
 
 pub one-compiled : {list out : List ℕ} {w : Work} {r r′ : ℕ} {a a′ out₁ out₂ : List ℕ} {w₁ w₂ : Work}
     → Compiles list out w r a out₁ w₁ → Compiles list out w r′ a′ out₂ w₂ → ((r ≡ r′) × (a ≡ a′)) × (out₁ ≡ out₂) × (w₁ ≡ w₂)

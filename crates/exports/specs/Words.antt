@@ -15,6 +15,7 @@ use Rattle.tape.specs.Tapes.{count, check, picked, pick}
 use Rattle.calls.specs.declared.Evaluated.{Evaluated}
 use Rattle.calls.specs.declared.Simplified.{Simplified}
 use Rattle.calls.specs.Lent.{Work, capacity, zeroed}
+use Rattle.calls.specs.Origins.{substituteOrigins, simplifyOrigins, simplifyOriginsMarks}
 use Rattle.calls.specs.Calls.{evaluateCall, substituteCall, toRealCall, simplifyCall, compileCall, playCall}
 use Rattle.calls.specs.Marks.{evaluateMarks, simplifyMarks, playMarks}
 
@@ -98,6 +99,18 @@ pub record SimplifiesMarked (limit : ℕ) (list values out : List ℕ) (w : Work
   pub answered : Answered (simplifiedWords (simplifyCall (capacity w) limit list values out .0)) r answer
   pub marked : marks ≡ simplifyMarks (capacity w) limit list values out
   pub output : out′ ≡ simplifyCall (capacity w) limit list values out .1
+  pub left : w′ ≡ zeroed w
+
+-- with origins in the listing
+pub record SubstitutesOrigins (list out : List ℕ) (w : Work) (r : ℕ) (answer out′ : List ℕ) (w′ : Work) : Type 0 where
+  pub answered : Answered (writtenWords (substituteOrigins (capacity w) list out .0)) r answer
+  pub output : out′ ≡ substituteOrigins (capacity w) list out .1
+  pub left : w′ ≡ zeroed w
+
+pub record SimplifiesOrigins (limit : ℕ) (list values out : List ℕ) (w : Work) (r : ℕ) (answer marks out′ : List ℕ) (w′ : Work) : Type 0 where
+  pub answered : Answered (simplifiedWords (simplifyOrigins (capacity w) limit list values out .0)) r answer
+  pub marked : marks ≡ simplifyOriginsMarks (capacity w) limit list values out
+  pub output : out′ ≡ simplifyOrigins (capacity w) limit list values out .1
   pub left : w′ ≡ zeroed w
 
 pub record Compiles (list out : List ℕ) (w : Work) (r : ℕ) (answer out′ : List ℕ) (w′ : Work) : Type 0 where

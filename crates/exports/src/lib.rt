@@ -2,7 +2,7 @@
 // parameter and each answer word is.
 ghost use mathlib.Core.Path.{_≡_};
 ghost use Rattle.calls.specs.Lent.{work};
-ghost use Rattle.exports.specs.Words.{Evaluates, EvaluatesMarked, Substitutes, ReadsReal, Simplifies, SimplifiesMarked, Compiles, Plays, PlaysMarked, Checks, Picks};
+ghost use Rattle.exports.specs.Words.{Evaluates, EvaluatesMarked, Substitutes, SubstitutesOrigins, ReadsReal, Simplifies, SimplifiesMarked, SimplifiesOrigins, Compiles, Plays, PlaysMarked, Checks, Picks};
 use answer::put_checked;
 use answer::put_evaluated;
 use answer::put_real;
@@ -13,7 +13,9 @@ use calls::evaluate;
 use calls::evaluate_marked;
 use calls::simplify;
 use calls::simplify_marked;
+use calls::simplify_origins;
 use calls::substitute;
+use calls::substitute_origins;
 use calls::tapes::compile;
 use calls::tapes::play;
 use calls::tapes::play_marked;
@@ -28,11 +30,11 @@ use tape::which;
 mod answer;
 
 // 10000 times the major number, 100 times the minor one and the patch's: FINDAVOREB_VERSION_NUMBER of the header.
-pub const VERSION: u64 = 20_100;
+pub const VERSION: u64 = 20_200;
 
 #[no_mangle]
 pub extern "C" fn findavoreb_version() -> u64
-    ensures { λ r. ⌜ r ≡ 20100 ⌝ }
+    ensures { λ r. ⌜ r ≡ 20200 ⌝ }
 {
     VERSION
 }
@@ -84,6 +86,20 @@ pub extern "C" fn findavoreb_substitute(
 }
 
 #[no_mangle]
+pub extern "C" fn findavoreb_substitute_origins(
+    list: &[u8],
+    store: &mut [[u64; 4]],
+    desk: &mut [u64; DESK_WORDS],
+    table: &mut [u64; TABLE_WORDS],
+    out: &mut [u8],
+    answer: &mut [u64; 6],
+) -> u64
+    ensures { λ r. ⌜ SubstitutesOrigins (now (list .entry)) (now (out .entry)) (work (now (store .entry)) (now (desk .entry)) (now (table .entry))) r (now (answer .exit)) (now (out .exit)) (work (now (store .exit)) (now (desk .exit)) (now (table .exit))) ⌝ }
+{
+    put_written(answer, substitute_origins(list, store, desk, table, out))
+}
+
+#[no_mangle]
 pub extern "C" fn findavoreb_to_real(
     list: &[u8],
     store: &mut [[u64; 4]],
@@ -132,6 +148,26 @@ pub extern "C" fn findavoreb_simplify_marked(
     put_simplified(
         answer,
         simplify_marked(list, values, limit, store, desk, table, out, marks),
+    )
+}
+
+#[no_mangle]
+pub extern "C" fn findavoreb_simplify_origins(
+    list: &[u8],
+    values: &[u8],
+    limit: u64,
+    store: &mut [[u64; 4]],
+    desk: &mut [u64; DESK_WORDS],
+    table: &mut [u64; TABLE_WORDS],
+    out: &mut [u8],
+    answer: &mut [u64; 6],
+    marks: &mut [u8; MARKS],
+) -> u64
+    ensures { λ r. ⌜ SimplifiesOrigins limit (now (list .entry)) (now (values .entry)) (now (out .entry)) (work (now (store .entry)) (now (desk .entry)) (now (table .entry))) r (now (answer .exit)) (now (marks .exit)) (now (out .exit)) (work (now (store .exit)) (now (desk .exit)) (now (table .exit))) ⌝ }
+{
+    put_simplified(
+        answer,
+        simplify_origins(list, values, limit, store, desk, table, out, marks),
     )
 }
 

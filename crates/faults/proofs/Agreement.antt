@@ -28,7 +28,7 @@ use Rattle.faults.specs.Faulting.{listingForm, sheetForm, faultIn, lineF
 use Rattle.faults.proofs.Places.{Next, refused-at, ends-at, listing-feedless, sheet-feedless}
 use Rattle.faults.proofs.Telling.{nothing-left}
 use Rattle.faults.proofs.Passing.{Taken, Stops}
-use Rattle.faults.proofs.Feeding.{line-fed}
+use Rattle.faults.proofs.Feeding.{line-fed, at-fed}
 use Rattle.faults.proofs.ListingLines.{listing-took, listing-refused, node-taken}
 use Rattle.faults.proofs.SheetLines.{Goes, sheet-took, sheet-refused, sheet-goes}
 
@@ -116,10 +116,10 @@ listing-next : (substituting : Bool) (before : Known) (b : ℕ) (bs : List ℕ) 
     → Next lineNumber Few before after (b ∷ bs) rest
 listing-next substituting before b bs after rest f e =
     let t = listing-took substituting before b bs f e in
-    let h = listing-feedless b in
+    let h = listing-feedless b (b ∷ bs) in
     record { ends = ends-at (t .passes) (h .0) (h .1); one = t .line; fine = t .few }
 
-listing-told : (text : List ℕ) (k first : ℕ) (rest : List ℕ) → fromLine k text ≡ first ∷ rest → listingFault text k ≡ faultIn (listingForm first) (first ∷ rest)
+listing-told : (text : List ℕ) (k first : ℕ) (rest : List ℕ) → fromLine k text ≡ first ∷ rest → listingFault text k ≡ faultIn (listingForm first (first ∷ rest)) (first ∷ rest)
 unfolding listingFault lineFault
 listing-told text k first rest e = rw e
 
@@ -176,7 +176,7 @@ pub record ListingLine (substituting : Bool) (text : List ℕ) (k : ℕ) : Type 
   pub there : fromLine k text ≡ first ∷ rest
   pub number : lineNumber known ≡ k
   pub not-taken : listingLine substituting known first rest ≡ stops (Refusal.BadList k)
-  pub fault : listingFault text k ≡ faultIn (listingForm first) (first ∷ rest)
+  pub fault : listingFault text k ≡ faultIn (listingForm first (first ∷ rest)) (first ∷ rest)
 
 pub listing-fault-of : (substituting : Bool) (text : List ℕ) (k : ℕ) (store : State) → lines (listingLine substituting) (known [] [] store) text ≡ Lines.refused (Refusal.BadList k)
     → ListingLine substituting text k
@@ -254,8 +254,11 @@ module _ (text : List ℕ) (k first : ℕ) (rest : List ℕ) (there : fromLine k
   elsewhere-in-a-sheet e = sheet-goes first rest (sym (sheet-told text k first rest there) ∙ e)
 
   -- NoLineFeed: with a line feed after it all its fields read
-  pub fed-in-a-listing : listingFault text k ≡ Fault.NoLineFeed → faultIn (listingForm first) (first ∷ (rest ++ (10 ∷ []))) ≡ Fault.Order
-  fed-in-a-listing e = line-fed (listingForm first) (first ∷ rest) (listing-feedless first .0) (sym (listing-told text k first rest there) ∙ e)
+  pub fed-in-a-listing : listingFault text k ≡ Fault.NoLineFeed → faultIn (listingForm first (first ∷ (rest ++ (10 ∷ [])))) (first ∷ (rest ++ (10 ∷ []))) ≡ Fault.Order
+  unfolding listingForm
+  fed-in-a-listing e =
+      rw (at-fed (first ∷ rest))
+      (line-fed (listingForm first (first ∷ rest)) (first ∷ rest) (listing-feedless first (first ∷ rest) .0) (sym (listing-told text k first rest there) ∙ e))
 
   pub fed-in-a-sheet : sheetFault text k ≡ Fault.NoLineFeed → faultIn (sheetForm first (first ∷ rest)) (first ∷ (rest ++ (10 ∷ []))) ≡ Fault.Order
   fed-in-a-sheet e = line-fed (sheetForm first (first ∷ rest)) (first ∷ rest) (sheet-feedless first (first ∷ rest) .0) (sym (sheet-told text k first rest there) ∙ e)

@@ -2,7 +2,7 @@
 use mathlib.Core.Path.{_≡_, refl, sym, ap, _∙_}
 use mathlib.Core.List.{List, [], _∷_, _++_, append-assoc}
 use mathlib.Core.Bool.{Bool, true, false, cond, _&&_, _||_}
-use Prim.Native.Nat.{ℕ, suc, _≤_}
+use Prim.Native.Nat.{ℕ, zero, suc, _≤_}
 use native.Mathlib.Omega.{arith}
 use native.Mathlib.Decide.{ℕ-discrete}
 use lib.ListN.{length, drop}
@@ -10,15 +10,17 @@ use lib.Dec.{ltb, eqb}
 use lib.Seq.{drop-append-seam}
 use borrow.Author.Tests.{eq-eqb, ne-eqb}
 use Rattle.text.specs.Letters.{letter}
-use Rattle.text.specs.Reading.{Read, is, bad, tab, lf, ended, isFrom, digitOf, decimal, hex, starts, nameFrom}
+use Rattle.text.specs.Reading.{Read, is, bad, then, tab, lf, ended, isFrom, digitOf, run, spelt, decimal, hex, starts, nameFrom}
 use Rattle.text.specs.Writing.{inDecimal, inHex}
 use Rattle.text.proofs.RoundTrip.{decimal-reads, hex-reads, ended-here}
 use Rattle.text.proofs.Only.{never, decimal-only, hex-only, starts-only, ended-only}
+use Rattle.origins.specs.Fields.{mostOrigins, afterAt, origin, originText}
+use Rattle.origins.proofs.Ending.{origin-only}
 use Rattle.faults.specs.declared.Fault.{Fault}
-use Rattle.faults.specs.Faulting.{wordsOf, read, told, baseOf, noDigit, fieldFault, stopOf, orElse, faultIn}
+use Rattle.faults.specs.Faulting.{wordsOf, read, told, baseOf, noDigit, fieldFault, stopOf, orElse, hasAt, faultIn}
 use Rattle.faults.proofs.Telling.{reads-on}
-use Rattle.faults.proofs.Passing.{apart}
-use Rattle.faults.proofs.Places.{feedless, allFeedless, no-feed, both, words-feedless}
+use Rattle.faults.proofs.Passing.{apart, a-double, a-number, an-origin, a-name, reader}
+use Rattle.faults.proofs.Places.{feedless, no-feed, clean, clean-feedless, allClean, both, words-clean}
 
 abbrev feed : List ℕ
 feed = 10 ∷ []
@@ -48,10 +50,10 @@ after-word w bs e =
     let s = starts-only w bs e in
     ap (λ (l : List ℕ). drop (length w) (l ++ feed)) s ∙ ap (drop (length w)) (append-assoc w (drop (length w) bs) feed) ∙ drop-append-seam w (drop (length w) bs ++ feed)
 
-name-more : (number : ℕ) (ws : List (List ℕ)) (bs : List ℕ) {v : ℕ} {rest : List ℕ} → allFeedless ws ≡ true → nameFrom number ws bs ≡ is v rest → nameFrom number ws (bs ++ feed) ≡ is v (rest ++ feed)
-unfolding nameFrom allFeedless
+name-more : (number : ℕ) (ws : List (List ℕ)) (bs : List ℕ) {v : ℕ} {rest : List ℕ} → allClean ws ≡ true → nameFrom number ws bs ≡ is v rest → nameFrom number ws (bs ++ feed) ≡ is v (rest ++ feed)
+unfolding nameFrom allClean
 name-more number [] bs f e = never e
-name-more number (w ∷ ws) bs {v} {rest} f e = go (starts w bs) refl (λ e. name-more (suc number) ws bs (both (feedless w) (allFeedless ws) f .1) e)
+name-more number (w ∷ ws) bs {v} {rest} f e = go (starts w bs) refl (λ e. name-more (suc number) ws bs (both (clean w) (allClean ws) f .1) e)
   where
     go : (b : Bool) → starts w bs ≡ b → (nameFrom (suc number) ws bs ≡ is v rest → nameFrom (suc number) ws (bs ++ feed) ≡ is v (rest ++ feed))
         → cond (starts w (bs ++ feed)) (is number (drop (length w) (bs ++ feed))) (nameFrom (suc number) ws (bs ++ feed)) ≡ is v (rest ++ feed)
@@ -60,7 +62,7 @@ name-more number (w ∷ ws) bs {v} {rest} f e = go (starts w bs) refl (λ e. nam
         let x : number ≡ v = cc in
         let y : drop (length w) bs ≡ rest = cc in
         rw (starts-more w bs q, after-word w bs q, x, y)
-    go false q later = rw (starts-less w bs (both (feedless w) (allFeedless ws) f .0) q) (later (rw q at e))
+    go false q later = rw (starts-less w bs (clean-feedless w (both (clean w) (allClean ws) f .0)) q) (later (rw q at e))
 
 -- ---- and so is a field, where no digit follows on it
 
@@ -82,18 +84,32 @@ hex-more bs {v} {rest} e =
     let d = hex-only v bs rest e in
     ap (λ (l : List ℕ). hex (l ++ feed)) (d .1) ∙ ap hex (append-assoc (inHex v) rest feed) ∙ hex-reads v (rest ++ feed) (d .0)
 
+after-more : (n : ℕ) (bs rest : List ℕ) → decimal mostOrigins bs ≡ is n rest → afterAt bs ≡ is (suc n) rest
+unfolding afterAt then decimal spelt run digitOf
+after-more n [] rest e = never e
+after-more n (b ∷ bs) rest e = elim (ℕ-discrete b 45) [ yes q ↦ never (rw q at e) | no o ↦ rw (ne-eqb b 45 o, e) ]
+
+-- an origin, and on it the line feed after the text or what follows on it there
+origin-on : (v b : ℕ) (bs : List ℕ) → v ≤ 1024 → 10 ≤ digitOf b → origin (originText v ++ (b ∷ bs)) ≡ is v (b ∷ bs)
+unfolding origin afterAt originText
+origin-on zero b bs l h = refl
+origin-on (suc n) b bs l h = after-more n (inDecimal n ++ (b ∷ bs)) (b ∷ bs) (decimal-reads 1024 n b bs (omega (arith, l)) h)
+
+origin-more : (bs : List ℕ) {v : ℕ} {rest : List ℕ} → Tame rest → origin bs ≡ is v rest → origin (bs ++ feed) ≡ is v (rest ++ feed)
+unfolding digitOf
+origin-more bs {v} at-end e =
+    let d = origin-only v bs [] e in
+    ap (λ (l : List ℕ). origin (l ++ feed)) (d .1) ∙ ap origin (append-assoc (originText v) [] feed) ∙ origin-on v 10 [] (d .0) (omega arith)
+origin-more bs {v} (at-byte {b} {bs = rest} h) e =
+    let d = origin-only v bs (b ∷ rest) e in
+    ap (λ (l : List ℕ). origin (l ++ feed)) (d .1) ∙ ap origin (append-assoc (originText v) (b ∷ rest) feed) ∙ origin-on v b (rest ++ feed) (d .0) h
+
 read-more : (kind : ℕ) (bs : List ℕ) {v : ℕ} {rest : List ℕ} → (kind ≡ 10 → ⊥) → Tame rest → read kind bs ≡ is v rest → read kind (bs ++ feed) ≡ is v (rest ++ feed)
-unfolding read
-read-more kind bs n t e = elim (ℕ-discrete kind 72) [
-  | yes q ↦ rw (eq-eqb kind 72 q) (hex-more bs (rw (eq-eqb kind 72 q) at e))
-  | no h ↦ elim (ℕ-discrete kind 78) [
-    | yes q ↦ rw (ne-eqb kind 72 h, eq-eqb kind 78 q) (decimal-more 65536 bs t (rw (ne-eqb kind 72 h, eq-eqb kind 78 q) at e))
-    | no m ↦ elim (ℕ-discrete kind 73) [
-      | yes q ↦ rw (ne-eqb kind 72 h, ne-eqb kind 78 m, eq-eqb kind 73 q) (decimal-more 4294967296 bs t (rw (ne-eqb kind 72 h, ne-eqb kind 78 m, eq-eqb kind 73 q) at e))
-      | no i ↦ rw (ne-eqb kind 72 h, ne-eqb kind 78 m, ne-eqb kind 73 i)
-          (name-more 1 (wordsOf kind) bs (words-feedless kind n) (rw (ne-eqb kind 72 h, ne-eqb kind 78 m, ne-eqb kind 73 i) at e))
-    ]
-  ]
+read-more kind bs n t e = elim (reader kind) [
+  | a-double r ↦ r (bs ++ feed) ∙ hex-more bs (sym (r bs) ∙ e)
+  | a-number limit r ↦ r (bs ++ feed) ∙ decimal-more limit bs t (sym (r bs) ∙ e)
+  | an-origin q r ↦ r (bs ++ feed) ∙ origin-more bs t (sym (r bs) ∙ e)
+  | a-name m r ↦ r (bs ++ feed) ∙ name-more 1 (wordsOf kind) bs (words-clean kind n m) (sym (r bs) ∙ e)
 ]
 
 -- ---- a line
@@ -153,3 +169,10 @@ line-fed (kind ∷ kinds) bs f e = go (ended (stopOf (length kinds)) (read kind 
         let w = read-more kind bs (no-feed kind kinds f .0) (stop-tame (length kinds) rest) (ended-only (stopOf (length kinds)) (read kind bs) v rest q) in
         reads-on kind kinds (bs ++ feed) v (rest ++ feed) (ap (ended (stopOf (length kinds))) w ∙ ended-here (stopOf (length kinds)) v (rest ++ feed)) ∙ later rest (rw q at e)
     go bad q later = field-fed kind kinds bs (no-feed kind kinds f .0) (read kind bs) refl (rw q at e)
+
+-- ---- a line feed after the text changes nothing of whether `@` stands in its line
+
+pub at-fed : (bs : List ℕ) → hasAt (bs ++ feed) ≡ hasAt bs
+unfolding hasAt
+at-fed [] = refl
+at-fed (b ∷ bs) = rw (at-fed bs)

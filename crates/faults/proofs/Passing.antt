@@ -5,18 +5,20 @@ use mathlib.Core.List.{List, [], _∷_}
 use mathlib.Core.Bool.{Bool, true, false, cond, _&&_, _||_}
 use Prim.Native.Nat.{ℕ, suc, _≤_, _<_}
 use native.Mathlib.Omega.{arith}
-use native.Mathlib.Decide.{decLt}
+use native.Mathlib.Decide.{decLt, ℕ-discrete}
 use lib.ListN.{length, drop}
 use lib.Dec.{ltb, eqb}
-use borrow.Author.Tests.{lt-ltb, le-ltb, ne-eqb}
+use borrow.Author.Tests.{lt-ltb, le-ltb, eq-eqb, ne-eqb}
+use Rattle.expression.specs.Limits.{numbers, indices}
 use Rattle.text.specs.Letters.{letter}
-use Rattle.text.specs.Reading.{Read, is, bad, then, tab, lf, ended, isFrom, run, value, spelt, decimal, decimalField}
+use Rattle.text.specs.Reading.{Read, is, bad, then, tab, lf, ended, isFrom, run, value, spelt, decimal, hex, nameFrom, decimalField}
 use Rattle.text.specs.Lines.{Line, goes, stops}
 use Rattle.text.proofs.Running.{too-large}
 use Rattle.text.proofs.RoundTrip.{ended-here}
 use Rattle.text.proofs.Only.{never, ended-only}
+use Rattle.origins.specs.Fields.{origin}
 use Rattle.faults.specs.declared.Fault.{Fault}
-use Rattle.faults.specs.Faulting.{read, told, noDigit, baseOf, fieldFault, stopOf, orElse, faultIn}
+use Rattle.faults.specs.Faulting.{wordsOf, read, told, noDigit, baseOf, fieldFault, stopOf, orElse, faultIn}
 use Rattle.faults.proofs.Telling.{reads-on}
 
 -- ---- what was read
@@ -82,11 +84,36 @@ spelt-wider limit limit′ (d ∷ ds) bs h e = elim (decLt (value 0 (d ∷ ds)) 
   | yes lt ↦ rw (lt-ltb (value 0 (d ∷ ds)) limit′ (omega arith)) (rw (lt-ltb (value 0 (d ∷ ds)) limit lt) at e)
 ]
 
-pub wider : (stop limit limit′ : ℕ) (bs : List ℕ) {v : ℕ} {rest : List ℕ} → limit ≤ limit′ → decimalField stop limit bs ≡ is v rest → decimalField stop limit′ bs ≡ is v rest
+pub wider-number : (limit limit′ : ℕ) (bs : List ℕ) {v : ℕ} {rest : List ℕ} → limit ≤ limit′ → decimal limit bs ≡ is v rest → decimal limit′ bs ≡ is v rest
 unfolding decimal
-wider stop limit limit′ bs {v} {rest} h e =
-    let w = spelt-wider limit limit′ (run bs) (drop (length (run bs)) bs) h (ended-only stop (decimal limit bs) v rest e) in
-    ap (ended stop) w ∙ ended-here stop v rest
+wider-number limit limit′ bs h e = spelt-wider limit limit′ (run bs) (drop (length (run bs)) bs) h e
+
+pub wider : (stop limit limit′ : ℕ) (bs : List ℕ) {v : ℕ} {rest : List ℕ} → limit ≤ limit′ → decimalField stop limit bs ≡ is v rest → decimalField stop limit′ bs ≡ is v rest
+wider stop limit limit′ bs {v} {rest} h e = ap (ended stop) (wider-number limit limit′ bs h (ended-only stop (decimal limit bs) v rest e)) ∙ ended-here stop v rest
+
+-- ---- how a field is read, by its letter
+
+pub data Reader (kind : ℕ) : Type 0 where
+  a-double : ((bs : List ℕ) → read kind bs ≡ hex bs) → Reader kind
+  a-number : (limit : ℕ) → ((bs : List ℕ) → read kind bs ≡ decimal limit bs) → Reader kind
+  an-origin : kind ≡ 64 → ((bs : List ℕ) → read kind bs ≡ origin bs) → Reader kind
+  a-name : (kind ≡ 64 → ⊥) → ((bs : List ℕ) → read kind bs ≡ nameFrom 1 (wordsOf kind) bs) → Reader kind
+
+pub reader : (kind : ℕ) → Reader kind
+unfolding read
+reader kind = elim (ℕ-discrete kind 72) [
+  | yes q ↦ a-double (λ bs. rw (eq-eqb kind 72 q))
+  | no h ↦ elim (ℕ-discrete kind 78) [
+    | yes q ↦ a-number numbers (λ bs. rw (ne-eqb kind 72 h, eq-eqb kind 78 q))
+    | no m ↦ elim (ℕ-discrete kind 73) [
+      | yes q ↦ a-number indices (λ bs. rw (ne-eqb kind 72 h, ne-eqb kind 78 m, eq-eqb kind 73 q))
+      | no i ↦ elim (ℕ-discrete kind 64) [
+        | yes q ↦ an-origin q (λ bs. rw (ne-eqb kind 72 h, ne-eqb kind 78 m, ne-eqb kind 73 i, eq-eqb kind 64 q))
+        | no a ↦ a-name a (λ bs. rw (ne-eqb kind 72 h, ne-eqb kind 78 m, ne-eqb kind 73 i, ne-eqb kind 64 a))
+      ]
+    ]
+  ]
+]
 
 -- ---- a line whose fields all read, and what follows on it
 

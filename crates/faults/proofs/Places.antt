@@ -1,24 +1,26 @@
 -- Where the readers stand: a line whose fields all read ends at its first LF, so that the line at which a text is refused is the one that its number names,
 -- and the fault is told of that line. Assumes nothing.
-use mathlib.Core.Path.{_≡_, refl, ap, _∙_}
+use mathlib.Core.Path.{_≡_, refl, sym, ap, _∙_}
 use mathlib.Core.List.{List, [], _∷_, _++_, map}
 use mathlib.Core.Bool.{Bool, true, false, cond}
 use Prim.Native.Nat.{ℕ, zero, suc, _+_, _-_, _/_, _%_, _<_}
 use native.Mathlib.Omega.{arith}
 use native.Mathlib.Decide.{decLt, ℕ-discrete}
-use lib.ListN.{length, getD}
+use lib.ListN.{length, getD, length-append}
 use lib.Dec.{eqb}
 use borrow.Author.Tests.{lt-ltb, le-ltb, eq-eqb, ne-eqb}
 use Rattle.spelling.specs.Names.{functionNames, operationNames, prefixNames, infixNames}
-use Rattle.text.specs.Letters.{bytes}
+use Rattle.text.specs.Letters.{letter, bytes}
 use Rattle.text.specs.Reading.{is, tab, lf, ended, starts}
 use Rattle.text.specs.Writing.{byteOf, inDecimal, lastHex, inHex}
 use Rattle.text.specs.Digits.{digits}
 use Rattle.text.specs.Lines as Lines
 use Rattle.text.specs.Lines.{Line, goes, stops, linesBy, lines, atLine}
 use Rattle.text.proofs.Only.{ended-only, decimal-only, hex-only, name-only}
-use Rattle.faults.specs.Faulting.{wordsOf, read, listingForm, sheetForm, stopOf, afterLine, fromLine}
-use Rattle.faults.proofs.Passing.{apart, Passes, done, field, stop-more}
+use Rattle.origins.specs.Fields.{originText}
+use Rattle.origins.proofs.Ending.{origin-only}
+use Rattle.faults.specs.Faulting.{wordsOf, read, nodeForm, hasAt, formWith, listingForm, sheetForm, stopOf, afterLine, fromLine}
+use Rattle.faults.proofs.Passing.{apart, a-double, a-number, an-origin, a-name, reader, Passes, done, field, stop-more}
 
 -- ---- bytes with no LF among them
 
@@ -51,70 +53,127 @@ unfolding afterLine
 over [] bs e = refl
 over (x ∷ xs) bs e = rw (ne-eqb x 10 (no-feed x xs e .0)) (over xs bs (no-feed x xs e .1))
 
--- ---- digits and names are such
+-- ---- bytes with no LF and no `@` among them
 
-byte-no-feed : (d : ℕ) → byteOf d ≡ 10 → ⊥
-unfolding byteOf
-byte-no-feed d e = elim (decLt d 10) [
-  | yes lt ↦ omega (arith, rw (lt-ltb d 10 lt) at e)
-  | no ge ↦ omega (arith, rw (le-ltb d 10 (omega arith)) at e)
+unfoldable pub clean : List ℕ → Bool
+clean [] = true
+clean (b ∷ bs) = cond (eqb b lf) false (cond (eqb b (letter "@")) false (clean bs))
+
+no-mark : (b : ℕ) (bs : List ℕ) → clean (b ∷ bs) ≡ true → (b ≡ 10 → ⊥) × (b ≡ 64 → ⊥) × (clean bs ≡ true)
+unfolding clean
+no-mark b bs e = elim (ℕ-discrete b 10) [
+  | yes q ↦ apart (rw (eq-eqb b 10 q) at e)
+  | no n ↦ elim (ℕ-discrete b 64) [
+    | yes q ↦ apart (rw (ne-eqb b 10 n, eq-eqb b 64 q) at e)
+    | no m ↦ (n, m, rw (ne-eqb b 10 n, ne-eqb b 64 m) at e)
+  ]
 ]
 
-digits-feedless : (ds : List ℕ) → feedless (map byteOf ds) ≡ true
+clean-more : (b : ℕ) (bs : List ℕ) → (b ≡ 10 → ⊥) → (b ≡ 64 → ⊥) → clean bs ≡ true → clean (b ∷ bs) ≡ true
+unfolding clean
+clean-more b bs n m e = rw (ne-eqb b 10 n, ne-eqb b 64 m) e
+
+clean-append : (xs ys : List ℕ) → clean xs ≡ true → clean ys ≡ true → clean (xs ++ ys) ≡ true
+clean-append [] ys e f = f
+clean-append (x ∷ xs) ys e f = let k = no-mark x xs e in clean-more x (xs ++ ys) (k .0) (k .1) (clean-append xs ys (k .2) f)
+
+pub clean-feedless : (xs : List ℕ) → clean xs ≡ true → feedless xs ≡ true
 unfolding feedless
-digits-feedless [] = refl
-digits-feedless (d ∷ ds) = feedless-more (byteOf d) (map byteOf ds) (byte-no-feed d) (digits-feedless ds)
+clean-feedless [] e = refl
+clean-feedless (x ∷ xs) e = let k = no-mark x xs e in feedless-more x xs (k .0) (clean-feedless xs (k .2))
 
-hex-feedless : (k n : ℕ) → feedless (lastHex k n) ≡ true
-unfolding lastHex feedless
-hex-feedless zero n = refl
-hex-feedless (suc k) n = feedless-append (lastHex k (n / 16)) (byteOf (n % 16) ∷ []) (hex-feedless k (n / 16)) (feedless-more (byteOf (n % 16)) [] (byte-no-feed (n % 16)) refl)
+-- they are passed over where an `@` is looked for
+at-over : (xs bs : List ℕ) → clean xs ≡ true → hasAt (xs ++ bs) ≡ hasAt bs
+unfolding hasAt
+at-over [] bs e = refl
+at-over (x ∷ xs) bs e = let k = no-mark x xs e in rw (ne-eqb x 10 (k .0), ne-eqb x 64 (k .1)) (at-over xs bs (k .2))
 
-unfoldable pub allFeedless : List (List ℕ) → Bool
-allFeedless [] = true
-allFeedless (w ∷ ws) = cond (feedless w) (allFeedless ws) false
+-- ---- digits and names are such
+
+byte-clean : (d : ℕ) → (byteOf d ≡ 10 → ⊥) × (byteOf d ≡ 64 → ⊥)
+unfolding byteOf
+byte-clean d = elim (decLt d 10) [
+  | yes lt ↦ rw (lt-ltb d 10 lt) (λ e. omega (arith, e), λ e. omega (arith, e, lt))
+  | no ge ↦ rw (le-ltb d 10 (omega arith)) (λ e. omega (arith, e), λ e. omega (arith, e))
+]
+
+digits-clean : (ds : List ℕ) → clean (map byteOf ds) ≡ true
+unfolding clean
+digits-clean [] = refl
+digits-clean (d ∷ ds) = clean-more (byteOf d) (map byteOf ds) (byte-clean d .0) (byte-clean d .1) (digits-clean ds)
+
+decimal-clean : (n : ℕ) → clean (inDecimal n) ≡ true
+unfolding inDecimal
+decimal-clean n = digits-clean (digits n)
+
+last-clean : (k n : ℕ) → clean (lastHex k n) ≡ true
+unfolding lastHex clean
+last-clean zero n = refl
+last-clean (suc k) n = clean-append (lastHex k (n / 16)) (byteOf (n % 16) ∷ []) (last-clean k (n / 16)) (clean-more (byteOf (n % 16)) [] (byte-clean (n % 16) .0) (byte-clean (n % 16) .1) refl)
+
+hex-clean : (n : ℕ) → clean (inHex n) ≡ true
+unfolding inHex
+hex-clean n = last-clean 16 n
+
+unfoldable pub allClean : List (List ℕ) → Bool
+allClean [] = true
+allClean (w ∷ ws) = cond (clean w) (allClean ws) false
 
 pub both : (b c : Bool) → cond b c false ≡ true → (b ≡ true) × (c ≡ true)
 both true c e = (refl, e)
 both false c e = apart e
 
-among : (ws : List (List ℕ)) (k : ℕ) → allFeedless ws ≡ true → feedless (getD ws k []) ≡ true
-unfolding allFeedless feedless
+among : (ws : List (List ℕ)) (k : ℕ) → allClean ws ≡ true → clean (getD ws k []) ≡ true
+unfolding allClean clean
 among [] zero e = refl
 among [] (suc k) e = refl
-among (w ∷ ws) zero e = both (feedless w) (allFeedless ws) e .0
-among (w ∷ ws) (suc k) e = among ws k (both (feedless w) (allFeedless ws) e .1)
+among (w ∷ ws) zero e = both (clean w) (allClean ws) e .0
+among (w ∷ ws) (suc k) e = among ws k (both (clean w) (allClean ws) e .1)
 
-pub words-feedless : (kind : ℕ) → (kind ≡ 10 → ⊥) → allFeedless (wordsOf kind) ≡ true
-unfolding wordsOf allFeedless feedless
-words-feedless kind n =
+pub words-clean : (kind : ℕ) → (kind ≡ 10 → ⊥) → (kind ≡ 64 → ⊥) → allClean (wordsOf kind) ≡ true
+unfolding wordsOf allClean clean
+words-clean kind n m =
     if-all (eqb kind 70) functionNames _ refl
     (if-all (eqb kind 79) operationNames _ refl
     (if-all (eqb kind 85) prefixNames _ refl
     (if-all (eqb kind 66) infixNames _ refl
     (if-all (eqb kind 90) (bytes "0000000000000000" ∷ []) ((kind ∷ []) ∷ []) refl
-    (rw (ne-eqb kind 10 n))))))
+    (rw (ne-eqb kind 10 n, ne-eqb kind 64 m))))))
   where
-    if-all : (b : Bool) (xs ys : List (List ℕ)) → allFeedless xs ≡ true → allFeedless ys ≡ true → allFeedless (cond b xs ys) ≡ true
+    if-all : (b : Bool) (xs ys : List (List ℕ)) → allClean xs ≡ true → allClean ys ≡ true → allClean (cond b xs ys) ≡ true
     if-all true xs ys e f = e
     if-all false xs ys e f = f
 
+-- the field of an origin has an `@`, and no LF
+origin-feedless : (o : ℕ) → feedless (originText o) ≡ true
+unfolding originText feedless
+origin-feedless zero = refl
+origin-feedless (suc n) = clean-feedless (inDecimal n) (decimal-clean n)
+
 -- ---- a field passes no LF
 
-field-over : (kind : ℕ) (bs : List ℕ) {v : ℕ} {rest : List ℕ} → (kind ≡ 10 → ⊥) → read kind bs ≡ is v rest → afterLine bs ≡ afterLine rest
-unfolding read inHex inDecimal
-field-over kind bs {v} {rest} n e = elim (ℕ-discrete kind 72) [
-  | yes q ↦ rw (hex-only v bs rest (rw (eq-eqb kind 72 q) at e) .1) (over (inHex v) rest (hex-feedless 16 v))
-  | no h ↦ elim (ℕ-discrete kind 78) [
-    | yes q ↦ rw (decimal-only 65536 v bs rest (rw (ne-eqb kind 72 h, eq-eqb kind 78 q) at e) .1) (over (inDecimal v) rest (digits-feedless (digits v)))
-    | no m ↦ elim (ℕ-discrete kind 73) [
-      | yes q ↦ rw (decimal-only 4294967296 v bs rest (rw (ne-eqb kind 72 h, ne-eqb kind 78 m, eq-eqb kind 73 q) at e) .1) (over (inDecimal v) rest (digits-feedless (digits v)))
-      | no i ↦
-          let w = name-only 1 v (wordsOf kind) bs rest (rw (ne-eqb kind 72 h, ne-eqb kind 78 m, ne-eqb kind 73 i) at e) in
-          rw (w .word) (over (getD (wordsOf kind) (v - 1) []) rest (among (wordsOf kind) (v - 1) (words-feedless kind n)))
-    ]
-  ]
+-- what was passed
+passed : (P : List ℕ → Type 0) (kind : ℕ) (bs : List ℕ) {v : ℕ} {rest : List ℕ} → (kind ≡ 10 → ⊥) → (kind ≡ 64 → ⊥) → read kind bs ≡ is v rest
+    → ((xs : List ℕ) → clean xs ≡ true → P (xs ++ rest)) → P bs
+passed P kind bs {v} {rest} n m e on = elim (reader kind) [
+  | a-double r ↦ rw (hex-only v bs rest (sym (r bs) ∙ e) .1) (on (inHex v) (hex-clean v))
+  | a-number limit r ↦ rw (decimal-only limit v bs rest (sym (r bs) ∙ e) .1) (on (inDecimal v) (decimal-clean v))
+  | an-origin q r ↦ absurd (m q)
+  | a-name q r ↦
+      let w = name-only 1 v (wordsOf kind) bs rest (sym (r bs) ∙ e) in
+      rw (w .word) (on (getD (wordsOf kind) (v - 1) []) (among (wordsOf kind) (v - 1) (words-clean kind n m)))
 ]
+
+field-over : (kind : ℕ) (bs : List ℕ) {v : ℕ} {rest : List ℕ} → (kind ≡ 10 → ⊥) → read kind bs ≡ is v rest → afterLine bs ≡ afterLine rest
+unfolding read
+field-over kind bs {v} {rest} n e = elim (ℕ-discrete kind 64) [
+  | yes q ↦ rw (origin-only v bs rest (rw q at e) .1) (over (originText v) rest (origin-feedless v))
+  | no m ↦ passed (λ l. afterLine l ≡ afterLine rest) kind bs n m e λ xs c. over xs rest (clean-feedless xs c)
+]
+
+-- nor, but for that of an origin, an `@`
+field-at : (kind : ℕ) (bs : List ℕ) {v : ℕ} {rest : List ℕ} → (kind ≡ 10 → ⊥) → (kind ≡ 64 → ⊥) → read kind bs ≡ is v rest → hasAt bs ≡ hasAt rest
+field-at kind bs {rest = rest} n m e = passed (λ l. hasAt l ≡ hasAt rest) kind bs n m e λ xs c. at-over xs rest c
 
 -- ---- a line that passes ends at its first LF
 
@@ -133,18 +192,59 @@ ends-at (done q) f h = absurd (omega arith)
 ends-at {rest = rest} (field {kind} {kinds} {bs} {v} {mid} e p) f h =
     last-field kind kinds bs v mid rest (no-feed kind kinds f .0) e p λ l. ends-at p (no-feed kind kinds f .1) l
 
+-- ---- a line that passes has an `@` before its LF if its form has one
+
+tab-field : (kind k : ℕ) (ks bs : List ℕ) {v : ℕ} {mid : List ℕ} → (kind ≡ 10 → ⊥) → (kind ≡ 64 → ⊥) → ended (stopOf (suc (length ks))) (read kind bs) ≡ is v mid → hasAt bs ≡ hasAt mid
+unfolding hasAt
+tab-field kind k ks bs {v} {mid} n m e = field-at kind bs n m (ended-only tab (read kind bs) v mid (rw (stop-more (length ks)) at e))
+
+pub plain-at : {bs rest : List ℕ} (form : List ℕ) → Passes form bs rest → clean form ≡ true → 0 < length form → hasAt bs ≡ false
+unfolding hasAt
+plain-at [] p c h = absurd (omega arith)
+plain-at {bs} (kind ∷ []) (field {v} {mid} e p) c h =
+    let k = no-mark kind [] c in
+    field-at kind bs (k .0) (k .1) (ended-only lf (read kind bs) v mid (rw stop-last at e))
+plain-at {bs} (kind ∷ k ∷ ks) (field {v} {mid} e p) c h =
+    let f = no-mark kind (k ∷ ks) c in
+    tab-field kind k ks bs (f .0) (f .1) e ∙ plain-at (k ∷ ks) p (f .2) (omega arith)
+
+origin-has : (o : ℕ) (bs : List ℕ) → hasAt (originText o ++ bs) ≡ true
+unfolding originText hasAt
+origin-has zero bs = refl
+origin-has (suc n) bs = refl
+
+pub origin-at : {bs rest : List ℕ} (form : List ℕ) → Passes (form ++ (64 ∷ [])) bs rest → clean form ≡ true → hasAt bs ≡ true
+unfolding read
+origin-at {bs} [] (field {v} {mid} e p) c = rw (origin-only v bs (10 ∷ mid) (ended-only lf (read 64 bs) v mid (rw stop-last at e)) .1) (origin-has v (10 ∷ mid))
+origin-at {bs} (kind ∷ []) (field e p) c = let f = no-mark kind [] c in tab-field kind 64 [] bs (f .0) (f .1) e ∙ origin-at [] p (f .2)
+origin-at {bs} (kind ∷ k ∷ ks) (field e p) c = let f = no-mark kind (k ∷ ks) c in tab-field kind k (ks ++ (64 ∷ [])) bs (f .0) (f .1) e ∙ origin-at (k ∷ ks) p (f .2)
+
 -- the forms of the lines are such, and each has a letter
-pub listing-feedless : (first : ℕ) → (feedless (listingForm first) ≡ true) × (0 < length (listingForm first))
+clean-if : (b : Bool) (xs ys : List ℕ) → (clean xs ≡ true) × (0 < length xs) → (clean ys ≡ true) × (0 < length ys) → (clean (cond b xs ys) ≡ true) × (0 < length (cond b xs ys))
+clean-if true xs ys e f = e
+clean-if false xs ys e f = f
+
+pub node-clean : (first : ℕ) → (clean (nodeForm first) ≡ true) × (0 < length (nodeForm first))
+unfolding nodeForm clean
+node-clean first =
+    clean-if (eqb first 110) (bytes "nHH") _ (refl, omega arith)
+    (clean-if (eqb first 112) (bytes "p") _ (refl, omega arith)
+    (clean-if (eqb first 118) (bytes "vN") _ (refl, omega arith)
+    (clean-if (eqb first 109) (bytes "mNI") _ (refl, omega arith)
+    (clean-if (eqb first 102) (bytes "fFI") _ (refl, omega arith)
+    (clean-if (eqb first 117) (bytes "uUI") _ (refl, omega arith)
+    (clean-if (eqb first 98) (bytes "bBII") (bytes "n") (refl, omega arith) (refl, omega arith)))))))
+
+with-feedless : (origin : Bool) (form : List ℕ) → feedless form ≡ true → 0 < length form → (feedless (formWith origin form) ≡ true) × (0 < length (formWith origin form))
+unfolding formWith feedless
+with-feedless true form e h = (feedless-append form (64 ∷ []) e refl, omega (arith, h, length-append form (64 ∷ [])))
+with-feedless false form e h = (e, h)
+
+pub listing-feedless : (first : ℕ) (line : List ℕ) → (feedless (listingForm first line) ≡ true) × (0 < length (listingForm first line))
 unfolding listingForm feedless
-listing-feedless first =
-    form-if (eqb first 110) (bytes "nHH") _ (refl, omega arith)
-    (form-if (eqb first 112) (bytes "p") _ (refl, omega arith)
-    (form-if (eqb first 118) (bytes "vN") _ (refl, omega arith)
-    (form-if (eqb first 109) (bytes "mNI") _ (refl, omega arith)
-    (form-if (eqb first 102) (bytes "fFI") _ (refl, omega arith)
-    (form-if (eqb first 117) (bytes "uUI") _ (refl, omega arith)
-    (form-if (eqb first 98) (bytes "bBII") _ (refl, omega arith)
-    (form-if (eqb first 115) (bytes "sNI") (bytes "n") (refl, omega arith) (refl, omega arith))))))))
+listing-feedless first line =
+    let c = node-clean first in
+    form-if (eqb first 115) (bytes "sNI") (formWith (hasAt line) (nodeForm first)) (refl, omega arith) (with-feedless (hasAt line) (nodeForm first) (clean-feedless (nodeForm first) (c .0)) (c .1))
 
 pub sheet-feedless : (first : ℕ) (line : List ℕ) → (feedless (sheetForm first line) ≡ true) × (0 < length (sheetForm first line))
 unfolding sheetForm feedless

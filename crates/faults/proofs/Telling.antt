@@ -1,14 +1,14 @@
 -- The laws that the functions of this crate cite: the bytes that are passed over, a field that reads and one that does not, over plain lists and
 -- numbers. Assumes nothing.
 use mathlib.Core.Path.{_≡_, refl, sym, ap, _∙_}
-use mathlib.Core.List.{List, [], _∷_}
+use mathlib.Core.List.{List, [], _∷_, _++_}
 use Prim.Native.Nat.{ℕ, zero, suc, _+_, _-_, _≤_, _<_}
 use native.Mathlib.Numerals.{add-one}
 use native.Mathlib.Omega.{arith}
 use native.Mathlib.Decide.{decLt}
 use mathlib.Core.Bool.{Bool, true, false, cond}
 use lib.Dec.{eqb}
-use lib.ListN.{length, getD, drop, drop-of-length-le, length-drop}
+use lib.ListN.{length, getD, drop, drop-of-length-le, length-drop, length-append}
 use borrow.Author.Tests.{lt-ltb, le-ltb, eq-eqb, ne-eqb}
 use Rattle.text.specs.declared.reading.Number.{Number}
 use Rattle.text.specs.Reading.{is, bad, ended, digitOf}
@@ -16,7 +16,7 @@ use Rattle.text.specs.Seen.{seen, Reads}
 use Rattle.text.proofs.Running.{here, within}
 use Rattle.faults.specs.declared.Fault.{Fault}
 use Rattle.faults.specs.Faulting as Spec
-use Rattle.faults.specs.Faulting.{read, baseOf, noDigit, fieldFault, stopOf, orElse, faultIn, lineFault, afterLine, fromLine}
+use Rattle.faults.specs.Faulting.{read, baseOf, noDigit, fieldFault, stopOf, orElse, formWith, hasAt, faultIn, lineFault, afterLine, fromLine}
 
 -- ---- digits that are passed over
 
@@ -104,6 +104,50 @@ reads-on kind kinds bs v rest e = rw e
 pub stops : (kind : ℕ) (kinds bs : List ℕ) → ended (stopOf (length kinds)) (read kind bs) ≡ bad → faultIn (kind ∷ kinds) bs ≡ fieldFault kind (length kinds) bs (read kind bs)
 unfolding faultIn orElse
 stops kind kinds bs e = rw e
+
+-- the fields of a form, with that of an origin
+pub count-more : (form : List ℕ) {origin : Bool} → origin ≡ true → length form + 1 ≡ length (formWith origin form)
+unfolding formWith
+count-more form e = rw e (sym (length-append form (64 ∷ [])))
+
+pub count-plain : (form : List ℕ) {origin : Bool} → origin ≡ false → length form ≡ length (formWith origin form)
+unfolding formWith
+count-plain form e = rw e
+
+kind-more : (form : List ℕ) (k : ℕ) → k < length (form ++ (64 ∷ [])) → getD form k 64 ≡ getD (form ++ (64 ∷ [])) k 0
+kind-more [] zero h = refl
+kind-more [] (suc k) h = absurd (omega (arith, h))
+kind-more (b ∷ form) zero h = refl
+kind-more (b ∷ form) (suc k) h = kind-more form k (omega (arith, h))
+
+pub kind-plain : (form : List ℕ) (k : ℕ) → k < length form → getD form k 64 ≡ getD form k 0
+kind-plain [] k h = absurd (omega (arith, h))
+kind-plain (b ∷ form) zero h = refl
+kind-plain (b ∷ form) (suc k) h = kind-plain form k (omega (arith, h))
+
+pub kind-with : (form : List ℕ) (origin : Bool) (k : ℕ) {kind count : ℕ} → kind ≡ getD form k 64 → count ≡ length (formWith origin form) → k < count → kind ≡ getD (formWith origin form) k 0
+unfolding formWith
+kind-with form true k e c h = e ∙ kind-more form k (omega (arith, c, h))
+kind-with form false k e c h = e ∙ kind-plain form k (omega (arith, c, h))
+
+-- ---- whether `@` stands in a line
+
+module _ (s : List ℕ) (i : ℕ) where
+  pub at-passed : i < length s → (getD s i 0 ≡ 10 → ⊥) → (getD s i 0 ≡ 64 → ⊥) → hasAt (drop i s) ≡ hasAt (drop (i + 1) s)
+  unfolding hasAt
+  at-passed h n m = rw (here s i h, ne-eqb (getD s i 0) 10 n, ne-eqb (getD s i 0) 64 m)
+
+  pub at-feed : i < length s → getD s i 0 ≡ 10 → hasAt (drop i s) ≡ false
+  unfolding hasAt
+  at-feed h e = rw (here s i h, e)
+
+  pub at-found : i < length s → getD s i 0 ≡ 64 → hasAt (drop i s) ≡ true
+  unfolding hasAt
+  at-found h e = rw (here s i h, e)
+
+  pub at-end : length s ≤ i → hasAt (drop i s) ≡ false
+  unfolding hasAt
+  at-end h = rw (drop-of-length-le s {i = i} h)
 
 -- the fields that are left, of those of the form
 pub record Fielding (s form : List ℕ) (at i k : ℕ) : Type 0 where

@@ -1,20 +1,22 @@
 -- Which fault a line of a listing or of a sheet has that was refused: the first field that does not read says it, by the first byte that is not
 -- as it is due. Built of the readers' own definitions. Definitions only.
 use Prim.Native.Nat.{ℕ, zero, suc}
-use mathlib.Core.List.{List, [], _∷_}
-use mathlib.Core.Bool.{cond, _&&_, _||_}
+use mathlib.Core.List.{List, [], _∷_, _++_}
+use mathlib.Core.Bool.{Bool, true, false, cond, _&&_, _||_}
 use lib.ListN.{length}
 use lib.Dec.{ltb, eqb}
 use Rattle.expression.specs.Limits.{numbers, indices}
 use Rattle.spelling.specs.Names.{functionNames, operationNames, prefixNames, infixNames}
 use Rattle.text.specs.Letters.{letter, bytes}
 use Rattle.text.specs.Reading.{Read, is, bad, tab, lf, ended, isFrom, digitOf, decimal, hex, starts, nameFrom}
+use Rattle.origins.specs.Fields.{origin}
 use Rattle.faults.specs.declared.Fault.{Fault}
 
 -- ---- the forms of the lines: a letter for each field
 
 -- H: a double; N: a number of a variable or a region; I: an index, or the number of a line, whether it is earlier or not; F, O, U, B: the name of a
--- function, an operation, a prefix or an infix operator; Z: the zeros of a double. Any other letter is the line's own, and stands for itself.
+-- function, an operation, a prefix or an infix operator; Z: the zeros of a double; @: an origin. Any other letter is the line's own, and stands for
+-- itself.
 unfoldable pub wordsOf : (kind : ℕ) → List (List ℕ)
 wordsOf kind =
     cond (eqb kind (letter "F")) functionNames
@@ -29,11 +31,12 @@ read kind bs =
     cond (eqb kind (letter "H")) (hex bs)
     (cond (eqb kind (letter "N")) (decimal numbers bs)
     (cond (eqb kind (letter "I")) (decimal indices bs)
-    (nameFrom 1 (wordsOf kind) bs)))
+    (cond (eqb kind (letter "@")) (origin bs)
+    (nameFrom 1 (wordsOf kind) bs))))
 
--- the line of a listing, by its first byte; where that begins no line, the letter n is as good as any that is due
-unfoldable pub listingForm : (first : ℕ) → List ℕ
-listingForm first =
+-- a node line, by its first byte; where that begins no line, the letter n is as good as any that is due
+unfoldable pub nodeForm : (first : ℕ) → List ℕ
+nodeForm first =
     cond (eqb first (letter "n")) (bytes "nHH")
     (cond (eqb first (letter "p")) (bytes "p")
     (cond (eqb first (letter "v")) (bytes "vN")
@@ -41,8 +44,20 @@ listingForm first =
     (cond (eqb first (letter "f")) (bytes "fFI")
     (cond (eqb first (letter "u")) (bytes "uUI")
     (cond (eqb first (letter "b")) (bytes "bBII")
-    (cond (eqb first (letter "s")) (bytes "sNI")
-    (bytes "n"))))))))
+    (bytes "n")))))))
+
+-- whether `@` stands in a line, before its LF
+unfoldable pub hasAt : List ℕ → Bool
+hasAt [] = false
+hasAt (b ∷ bs) = cond (eqb b lf) false (cond (eqb b (letter "@")) true (hasAt bs))
+
+-- the fields, and one more where there is an origin
+unfoldable pub formWith : (origin : Bool) → List ℕ → List ℕ
+formWith origin form = cond origin (form ++ bytes "@") form
+
+-- the line of a listing: "Written listings may carry the origins as a last field of their node lines"
+unfoldable pub listingForm : (first : ℕ) (line : List ℕ) → List ℕ
+listingForm first line = cond (eqb first (letter "s")) (bytes "sNI") (formWith (hasAt line) (nodeForm first))
 
 -- the line of a sheet, by its first byte, and t by its name as well: "For all but pow the second operand is two fields of zeros"
 unfoldable pub sheetForm : (first : ℕ) (line : List ℕ) → List ℕ
@@ -111,7 +126,7 @@ fromLine (suc line) bs = fromLine line (afterLine bs)
 
 -- the line that a refusal names, from 0
 unfoldable pub listingFault : (text : List ℕ) (line : ℕ) → Fault
-listingFault text line = lineFault (λ first _. listingForm first) (fromLine line text)
+listingFault text line = lineFault listingForm (fromLine line text)
 
 unfoldable pub sheetFault : (text : List ℕ) (line : ℕ) → Fault
 sheetFault text line = lineFault sheetForm (fromLine line text)

@@ -5,11 +5,12 @@ ghost use mathlib.Core.List.{[], _∷_};
 ghost use mathlib.Core.Bool.{_&&_, _||_};
 ghost use Prim.Native.Nat.{_<_, _≤_};
 ghost use lib.Dec.{ltb, eqb};
-ghost use lib.ListN.{length, drop};
+ghost use lib.ListN.{length, getD, drop};
 ghost use Rattle.text.specs.Reading.{isFrom, nameFrom};
 ghost use Rattle.text.specs.Seen.{Reads};
-ghost use Rattle.faults.specs.Faulting.{wordsOf, read, told, baseOf, noDigit, fieldFault, stopOf, faultIn};
+ghost use Rattle.faults.specs.Faulting.{wordsOf, read, told, baseOf, noDigit, fieldFault, stopOf, formWith, faultIn};
 use super::Fault;
+use origins::fields::read_origin;
 use spelling::function_at;
 use spelling::infix_at;
 use spelling::operation_at;
@@ -74,6 +75,9 @@ fn field_at(text: &[u8], at: usize, kind: u8) -> Number
     }
     if kind == b'I' {
         return read_decimal(text, at, 4294967296);
+    }
+    if kind == b'@' {
+        return read_origin(text, at);
     }
     words_at(text, at, kind)
 }
@@ -172,15 +176,35 @@ fn field_fault(text: &[u8], at: usize, kind: u8, left: usize) -> Fault
     told_at(text, stuck, base, left + 1)
 }
 
-// The fields of a line, by its form.
-pub fn fields_fault(text: &[u8], at: usize, form: &[u8]) -> Fault
-    ensures { λ r. ⌜ r ≡ faultIn (now (form .entry)) (drop at (now (text .entry))) ⌝ }
+// How many fields there are, with that of an origin.
+fn field_count(form: &[u8], origin: bool) -> usize
+    requires { ⌜ length (now form) ≤ 8 ⌝ }
+    ensures { λ r. ⌜ r ≡ length (formWith origin (now (form .entry))) ⌝ }
 {
+    if origin {
+        return form.len() + 1;
+    }
+    form.len()
+}
+
+// The letter of a field; after those of the form comes an origin.
+fn kind_at(form: &[u8], k: usize) -> u8
+    ensures { λ r. ⌜ r ≡ getD (now (form .entry)) k 64 ⌝ }
+{
+    if k < form.len() { form[k] } else { b'@' }
+}
+
+// The fields of a line, by its form, and one more where there is an origin.
+pub fn fields_fault(text: &[u8], at: usize, form: &[u8], origin: bool) -> Fault
+    requires { ⌜ length (now form) ≤ 8 ⌝ }
+    ensures { λ r. ⌜ r ≡ faultIn (formWith origin (now (form .entry))) (drop at (now (text .entry))) ⌝ }
+{
+    let count = field_count(form, origin);
     let mut i = at;
     let mut k: usize = 0;
-    while k < form.len() {
-        let kind = form[k];
-        let left = form.len() - k - 1;
+    while k < count {
+        let kind = kind_at(form, k);
+        let left = count - k - 1;
         let n = end_field(text, field_at(text, i, kind), stop_of(left));
         let Number::Is(_, next) = n else {
             return field_fault(text, i, kind, left);

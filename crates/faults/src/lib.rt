@@ -2,7 +2,7 @@
 ghost use mathlib.Core.Path.{_≡_};
 ghost use Prim.Native.Nat.{_≤_};
 ghost use lib.ListN.{length, drop};
-ghost use Rattle.faults.specs.Faulting.{faultIn, listingForm, sheetForm, fromLine, listingFault, sheetFault};
+ghost use Rattle.faults.specs.Faulting.{faultIn, nodeForm, hasAt, formWith, listingForm, sheetForm, fromLine, listingFault, sheetFault};
 use fields::fields_fault;
 use text::reading::word_at;
 
@@ -41,49 +41,74 @@ pub fn line_start(text: &[u8], line: u64) -> usize
     i
 }
 
-fn listing_line(text: &[u8], at: usize, first: u8) -> Fault
-    ensures { λ r. ⌜ r ≡ faultIn (listingForm first) (drop at (now (text .entry))) ⌝ }
+// Whether `@` stands in the line that begins at a place, before its line feed.
+fn has_at(text: &[u8], at: usize) -> bool
+    ensures { λ r. ⌜ r ≡ hasAt (drop at (now (text .entry))) ⌝ }
+{
+    let mut i = at;
+    while i < text.len() {
+        let b = text[i];
+        if b == LF {
+            return false;
+        }
+        if b == b'@' {
+            return true;
+        }
+        i += 1;
+    }
+    false
+}
+
+fn node_line(text: &[u8], at: usize, first: u8, origin: bool) -> Fault
+    ensures { λ r. ⌜ r ≡ faultIn (formWith origin (nodeForm first)) (drop at (now (text .entry))) ⌝ }
 {
     if first == b'n' {
-        return fields_fault(text, at, b"nHH");
+        return fields_fault(text, at, b"nHH", origin);
     }
     if first == b'p' {
-        return fields_fault(text, at, b"p");
+        return fields_fault(text, at, b"p", origin);
     }
     if first == b'v' {
-        return fields_fault(text, at, b"vN");
+        return fields_fault(text, at, b"vN", origin);
     }
     if first == b'm' {
-        return fields_fault(text, at, b"mNI");
+        return fields_fault(text, at, b"mNI", origin);
     }
     if first == b'f' {
-        return fields_fault(text, at, b"fFI");
+        return fields_fault(text, at, b"fFI", origin);
     }
     if first == b'u' {
-        return fields_fault(text, at, b"uUI");
+        return fields_fault(text, at, b"uUI", origin);
     }
     if first == b'b' {
-        return fields_fault(text, at, b"bBII");
+        return fields_fault(text, at, b"bBII", origin);
     }
+    fields_fault(text, at, b"n", origin)
+}
+
+// Node lines may end in an origin.
+fn listing_line(text: &[u8], at: usize, first: u8) -> Fault
+    ensures { λ r. ⌜ r ≡ faultIn (listingForm first (drop at (now (text .entry)))) (drop at (now (text .entry))) ⌝ }
+{
     if first == b's' {
-        return fields_fault(text, at, b"sNI");
+        return fields_fault(text, at, b"sNI", false);
     }
-    fields_fault(text, at, b"n")
+    node_line(text, at, first, has_at(text, at))
 }
 
 fn sheet_line(text: &[u8], at: usize, first: u8) -> Fault
     ensures { λ r. ⌜ r ≡ faultIn (sheetForm first (drop at (now (text .entry)))) (drop at (now (text .entry))) ⌝ }
 {
     if first == b'v' {
-        return fields_fault(text, at, b"vNHH");
+        return fields_fault(text, at, b"vNHH", false);
     }
     if first == b'm' {
-        return fields_fault(text, at, b"mNIH");
+        return fields_fault(text, at, b"mNIH", false);
     }
     if word_at(text, at, b"t\tpow") {
-        return fields_fault(text, at, b"tOHHHHHH");
+        return fields_fault(text, at, b"tOHHHHHH", false);
     }
-    fields_fault(text, at, b"tOHHZZHH")
+    fields_fault(text, at, b"tOHHZZHH", false)
 }
 
 // The fault of a line of a listing that was refused as BAD_LIST at that line.

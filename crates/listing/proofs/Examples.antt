@@ -9,7 +9,7 @@ use borrow.Author.Tests.{lt-ltb, le-ltb, ne-eqb}
 use Rattle.expression.specs.declared.refusal.Refusal.{Refusal}
 use Rattle.expression.specs.Trees.{Tree, leaf, variable}
 use Rattle.store.specs.Storing.{State}
-use Rattle.node_lines.specs.NodeLines.{childField, nodeFields}
+use Rattle.node_lines.specs.NodeLines.{childBy, nodeFields}
 use Rattle.text.specs.Reading.{then, ended, digitOf, run, value, spelt, decimal}
 use Rattle.text.specs.Lines.{goes, stops, none, aboveLast}
 use Rattle.listing.specs.Listings.{Known, known, swap, formed, nodeLine, swapFields, aboveVariable, swapped, swapLine, listingLine, lineNumber}
@@ -47,16 +47,21 @@ swap-257 k bs substituting e = rw (le-ltb (length (k .swaps)) 256 e)
 module _ (σ : State) where
   -- `s·7·1`, where something is substituted and where nothing is
   swap-line : listingLine true (known two [] σ) 115 (9 ∷ 55 ∷ 9 ∷ 49 ∷ 10 ∷ []) ≡ goes (known two (swap 7 b ∷ []) σ) []
-  unfolding listingLine swapLine swapped swapFields childField aboveLast aboveVariable then ended decimal spelt run value digitOf
+  unfolding listingLine swapLine swapped swapFields childBy aboveLast aboveVariable then ended decimal spelt run value digitOf
   swap-line = refl
 
   swap-unasked : listingLine false (known two [] σ) 115 (9 ∷ 55 ∷ 9 ∷ 49 ∷ 10 ∷ []) ≡ stops (Refusal.BadList 2)
-  unfolding listingLine swapLine swapped swapFields childField aboveLast aboveVariable then ended decimal spelt run value digitOf
+  unfolding listingLine swapLine swapped swapFields childBy aboveLast aboveVariable then ended decimal spelt run value digitOf
   swap-unasked = refl
+
+  -- `s·7·1·@0`: "`@` on an s line is malformed"
+  swap-origin : listingLine true (known two [] σ) 115 (9 ∷ 55 ∷ 9 ∷ 49 ∷ 9 ∷ 64 ∷ 48 ∷ 10 ∷ []) ≡ stops (Refusal.BadList 2)
+  unfolding listingLine swapLine swapped swapFields childBy aboveLast aboveVariable then ended decimal spelt run value digitOf
+  swap-origin = refl
 
   -- the same variable again; a node line after it
   swap-repeated : listingLine true (known two (swap 7 b ∷ []) σ) 115 (9 ∷ 55 ∷ 9 ∷ 48 ∷ 10 ∷ []) ≡ stops (Refusal.BadList 3)
-  unfolding listingLine swapLine swapped swapFields childField aboveLast aboveVariable then ended decimal spelt run value digitOf
+  unfolding listingLine swapLine swapped swapFields childBy aboveLast aboveVariable then ended decimal spelt run value digitOf
   swap-repeated = refl
 
   node-after : listingLine true (known two (swap 7 b ∷ []) σ) 112 (10 ∷ []) ≡ stops (Refusal.BadList 3)

@@ -3,6 +3,8 @@ pub mod Numbers
 pub mod Taking
 pub mod Shortening
 pub mod Whole
+pub mod Plain
+pub mod Ignoring
 mod Naming
 mod Examples
 pub mod OneAnswer

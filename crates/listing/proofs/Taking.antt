@@ -1,5 +1,5 @@
 -- What one line of a listing does to the table and the store, over plain lists and trees: each return of `take_node` and `take_swap`. Assumes nothing.
-use mathlib.Core.Path.{_≡_, refl, sym, ap, _∙_}
+use mathlib.Core.Path.{_≡_, refl, sym, ap, _∙_, subst}
 use mathlib.Core.List.{List, [], _∷_, _++_}
 use mathlib.Core.Bool.{Bool, true, false}
 use Prim.Native.Nat.{ℕ, zero, suc, _+_, _-_, _*_, _≤_, _<_}
@@ -18,8 +18,10 @@ use Rattle.store.specs.Storing.{intern}
 use Rattle.store.specs.Memory.{Memory, treeOf}
 use Rattle.store.specs.Desk.{count, refusalOn, refusedFrom}
 use Rattle.store.specs.Held.{Lent, treeIn, stateIn, Built, Adds}
+use Rattle.store.specs.Tracing.{withMark, Traced}
 use Rattle.store.proofs.Trees.{grown-alike}
 use Rattle.store.proofs.Building.{seen-node, seen-refused}
+use Rattle.store.proofs.Tracing.{relabelled-mark, tree-relabelled, traced-step, traced-mark, sound-marked, state-marked}
 use Rattle.memory.specs.Layout.{swapsFrom}
 use Rattle.memory.specs.Keys.{upTo, keyAt, Ascends}
 use Rattle.memory.proofs.Values.{length-upTo, at-upTo, upTo-snoc, upTo-alike, upTo-grown}
@@ -33,7 +35,7 @@ use Rattle.listing.specs.declared.Step as StepEnum
 use Rattle.listing.specs.declared.SwapLine.{SwapLine}
 use Rattle.listing.specs.Listings.{Known, known, Swap, swap, aboveVariable, stored, formed, nodeLine, swapFields, swapped, swapLine, listingLine}
 use Rattle.node_lines.specs.NodeLines.{nodeFields}
-use Rattle.listing.specs.Tables.{movedTo, moved, lineTrees, swapTrees, knownAt, Lists, Ready, Takes, FindsSwap, Above}
+use Rattle.listing.specs.Tables.{movedTo, moved, lineTrees, swapTrees, knownAt, Listed, Ready, Takes, FindsSwap, Above}
 use Rattle.node_lines.specs.Seen.{Finds}
 
 -- ---- whether there are values
@@ -90,7 +92,7 @@ moved-within table lines n (Expression.Infix o a b) h w = (h a (w .0), h b (w .1
 
 -- ---- a node line
 
-module _ {text table : List ℕ} {p : Progress} (ready : Ready text table p) {l : Lent} (li : Lists l table (p .lines) (p .swaps)) where
+module _ {text table : List ℕ} {p : Progress} (ready : Ready text table p) {l : Lent} (li : Listed l table (p .lines) (p .swaps)) where
   lines-long : length (lineTrees (l .rows) table (p .lines)) ≡ p .lines
   lines-long = length-upTo (p .lines) (λ k. treeIn l (getD table k 0))
 
@@ -126,7 +128,7 @@ module _ {text table : List ℕ} {p : Progress} (ready : Ready text table p) {l 
       operands = rw is-node at (f .within)
 
       pub operands-stored : Within (count (l .desk)) (moved table e)
-      operands-stored = moved-within table (p .lines) (count (l .desk)) e (li .nodes) operands
+      operands-stored = moved-within table (p .lines) (count (l .desk)) e (li .lists .nodes) operands
 
       tree-is : grown (λ k. getD (lineTrees (l .rows) table (p .lines)) k (leaf pi)) e ≡ treeOf (l .rows) (moved table e)
       tree-is =
@@ -143,7 +145,14 @@ module _ {text table : List ℕ} {p : Progress} (ready : Ready text table p) {l 
 
       module _ {node : ℕ} {l′ : Lent} (adds : Adds (moved table e) node l l′) where
         built : Built (intern (treeOf (l .rows) (moved table e)) (stateIn l)) node l l′
-        built = adds (li .sound) operands-stored
+        built = adds (li .lists .sound) operands-stored
+
+        -- the node came from this line
+        abbrev marked : Lent
+        marked = record { rows = withMark (l′ .rows) node (p .lines); desk = l′ .desk }
+
+        same-tree : (k : ℕ) → treeIn marked k ≡ treeIn l′ k
+        same-tree k = tree-relabelled (relabelled-mark (l′ .rows) node (p .lines)) k
 
         pub node-refused : {why : Refusal} {table′ : List ℕ} → refusedFrom ≤ node → why ≡ refusalOn (node - refusedFrom) (l′ .desk)
             → Takes (nodeLine (knownAt l table p) (getD text (p .at) 0) (drop (p .at + 1) text)) text p (StepEnum.Step.Refused why) l′ table′
@@ -151,22 +160,26 @@ module _ {text table : List ℕ} {p : Progress} (ready : Ready text table p) {l 
         node-refused h e =
             record { answer = ap stops e ∙ sym (found ∙ ap (stored (knownAt l table p) (drop next text)) (sym (built .answer) ∙ seen-refused node l′ h)); after = tt }
 
-        pub node-next : {table′ : List ℕ} → node < refusedFrom → table′ ≡ set table (p .lines) node
+        pub node-next : {rows : Memory} {table′ : List ℕ} → node < refusedFrom → rows ≡ marked .rows → table′ ≡ set table (p .lines) node
             → Takes (nodeLine (knownAt l table p) (getD text (p .at) 0) (drop (p .at + 1) text)) text p
-            (StepEnum.Step.Next (record { at = next; lines = p .lines + 1; swaps = p .swaps })) l′ table′
+            (StepEnum.Step.Next (record { at = next; lines = p .lines + 1; swaps = p .swaps })) (record { rows = rows; desk = l′ .desk }) table′
         unfolding stored
-        node-next {table′} h w =
-            record {
+        node-next {rows} {table′} h m w =
+            rw m (record {
               answer = sym (found ∙ ap (stored (knownAt l table p) (drop next text)) (sym (built .answer) ∙ seen-node node l′ h)
                   ∙ ap (λ ts. goes (known ts (swapTrees (l .rows) table (p .swaps)) (stateIn l′)) (drop next text)) (sym grows)
-                  ∙ ap (λ ss. goes (known (lineTrees (l′ .rows) table′ (p .lines + 1)) ss (stateIn l′)) (drop next text)) nothing-named);
+                  ∙ ap (λ ss. goes (known (lineTrees (marked .rows) table′ (p .lines + 1)) ss (stateIn l′)) (drop next text)) nothing-named
+                  ∙ ap (λ σ. goes (known (lineTrees (marked .rows) table′ (p .lines + 1)) (swapTrees (marked .rows) table′ (p .swaps)) σ) (drop next text)) (sym (state-marked l′ node (p .lines))));
               after = record {
-                lists = record { sound = built .step .sound; nodes = inside; named = λ k h. absurd (omega (arith, h, unswapped)); ascends = record { each = λ j h. absurd (omega (arith, h, unswapped)) } };
+                listed = record {
+                  lists = record { sound = sound-marked node (p .lines) (built .step .sound); nodes = inside; named = λ k h. absurd (omega (arith, h, unswapped)); ascends = record { each = λ j h. absurd (omega (arith, h, unswapped)) } };
+                  traced = subst (λ ts. Traced ts marked) (sym grows) origins;
+                };
                 count = omega arith;
                 lines = omega (arith, few);
                 swaps = omega (arith, ready .swaps);
               };
-            }
+            })
           where
             at-line : getD table′ (p .lines) 0 ≡ node
             at-line = rw w (getD-set-same table (p .lines) node 0 (omega (arith, few, ready .long)))
@@ -174,18 +187,24 @@ module _ {text table : List ℕ} {p : Progress} (ready : Ready text table p) {l 
             before : (k : ℕ) → k < p .lines → getD table′ k 0 ≡ getD table k 0
             before k h = rw w (getD-set-other table (p .lines) k node 0 (λ z. omega (arith, z, h)))
 
-            grows : lineTrees (l′ .rows) table′ (p .lines + 1) ≡ lineTrees (l .rows) table (p .lines) ++ (treeIn l′ node ∷ [])
+            grows : lineTrees (marked .rows) table′ (p .lines + 1) ≡ lineTrees (l .rows) table (p .lines) ++ (treeIn l′ node ∷ [])
             grows =
-                upTo-grown (p .lines) (λ k. treeIn l′ (getD table′ k 0)) (λ k. treeIn l (getD table k 0)) (treeIn l′ node) (λ k h. rw (before k h) (built .step .stays _ (li .nodes k h))) (ap (treeIn l′) at-line)
+                upTo-grown (p .lines) (λ k. treeIn marked (getD table′ k 0)) (λ k. treeIn l (getD table k 0)) (treeIn l′ node)
+                (λ k h. rw (before k h) (same-tree _ ∙ built .step .stays _ (li .lists .nodes k h))) (ap (treeIn marked) at-line ∙ same-tree node)
 
-            nothing-named : swapTrees (l .rows) table (p .swaps) ≡ swapTrees (l′ .rows) table′ (p .swaps)
+            origins : Traced (lineTrees (l .rows) table (p .lines) ++ (treeIn l′ node ∷ [])) marked
+            origins =
+                subst (λ line. Traced (lineTrees (l .rows) table (p .lines) ++ (treeIn l′ node ∷ [])) (record { rows = withMark (l′ .rows) node line; desk = l′ .desk })) lines-long
+                (traced-mark node (built .step .sound) (traced-step (li .lists .sound) (li .traced) (built .step)) (built .inside h) (omega (arith, lines-long, few)))
+
+            nothing-named : swapTrees (l .rows) table (p .swaps) ≡ swapTrees (marked .rows) table′ (p .swaps)
             nothing-named = upTo-alike (p .swaps) _ _ (λ k h. absurd (omega (arith, h, unswapped)))
 
             inside : (k : ℕ) → k < p .lines + 1 → getD table′ k 0 < count (l′ .desk)
             inside k o = go (decLt k (p .lines))
               where
                 go : Dec (k < p .lines) → getD table′ k 0 < count (l′ .desk)
-                go (yes y) = rw (before k y) (omega (arith, li .nodes k y, built .step .grew))
+                go (yes y) = rw (before k y) (omega (arith, li .lists .nodes k y, built .step .grew))
                 go (no g) = let z : k ≡ p .lines = omega arith in rw (z, at-line) (built .inside h)
 
 -- ---- an s line
@@ -206,7 +225,7 @@ above-later m table (suc k) v t h =
     let z : swapsFrom + 2 * (suc k - 1) ≡ swapsFrom + 2 * k = omega arith in
     rw z (sym (ap (λ ss. aboveLast aboveVariable ss (swap v t)) (upTo-snoc k _) ∙ above-snoc (swapTrees m table k) (getD table (swapsFrom + 2 * k) 0) v _ t))
 
-module _ (substituting : Bool) {text table : List ℕ} {p : Progress} (ready : Ready text table p) {l : Lent} (li : Lists l table (p .lines) (p .swaps)) where
+module _ (substituting : Bool) {text table : List ℕ} {p : Progress} (ready : Ready text table p) {l : Lent} (li : Listed l table (p .lines) (p .swaps)) where
   pub swap-long : {l′ : Lent} {table′ : List ℕ} → 256 ≤ p .swaps
       → Takes (swapLine substituting (knownAt l table p) (getD text (p .at) 0) (drop (p .at + 1) text)) text p (StepEnum.Step.Refused (Refusal.LongList (p .lines + p .swaps))) l′ table′
   unfolding swapLine
@@ -257,7 +276,10 @@ module _ (substituting : Bool) {text table : List ℕ} {p : Progress} (ready : R
                   (ap (λ ts. goes (known ts (swapTrees (l .rows) table (p .swaps) ++ (swap v named-tree ∷ [])) (stateIn l)) (drop next text)) same-lines
                   ∙ ap (λ ss. goes (known (lineTrees (l .rows) table′ (p .lines)) ss (stateIn l)) (drop next text)) (sym grows)));
               after = record {
-                lists = record { sound = li .sound; nodes = λ k h. rw (kept k (omega (arith, h, ready .lines))) (li .nodes k h); named = inside; ascends = rising };
+                listed = record {
+                  lists = record { sound = li .lists .sound; nodes = λ k h. rw (kept k (omega (arith, h, ready .lines))) (li .lists .nodes k h); named = inside; ascends = rising };
+                  traced = subst (λ ts. Traced ts l) same-lines (li .traced);
+                };
                 count = omega arith;
                 lines = ready .lines;
                 swaps = omega (arith, few);
@@ -294,14 +316,14 @@ module _ (substituting : Bool) {text table : List ℕ} {p : Progress} (ready : R
             rising : Ascends (keyAt table′ swapsFrom 2) (p .swaps + 1)
             rising =
                 let z : 2 * p .swaps + swapsFrom ≡ swapsFrom + 2 * p .swaps = omega arith in
-                ascends-more (keyAt table swapsFrom 2) (keyAt table′ swapsFrom 2) (p .swaps) v (li .ascends) last-below (λ j h. kept (2 * j + swapsFrom) (omega (arith, h))) (rw z variable-there)
+                ascends-more (keyAt table swapsFrom 2) (keyAt table′ swapsFrom 2) (p .swaps) v (li .lists .ascends) last-below (λ j h. kept (2 * j + swapsFrom) (omega (arith, h))) (rw z variable-there)
 
             inside : (k : ℕ) → k < p .swaps + 1 → getD table′ (swapsFrom + 2 * k + 1) 0 < count (l .desk)
             inside k h = go (decLt k (p .swaps))
               where
                 go : Dec (k < p .swaps) → getD table′ (swapsFrom + 2 * k + 1) 0 < count (l .desk)
-                go (yes y) = rw (kept (swapsFrom + 2 * k + 1) (omega (arith, y))) (li .named k y)
-                go (no g) = let z : k ≡ p .swaps = omega arith in rw (z, node-there) (li .nodes line operand)
+                go (yes y) = rw (kept (swapsFrom + 2 * k + 1) (omega (arith, y))) (li .lists .named k y)
+                go (no g) = let z : k ≡ p .swaps = omega arith in rw (z, node-there) (li .lists .nodes line operand)
 
 -- ---- any line
 

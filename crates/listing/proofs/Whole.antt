@@ -1,5 +1,5 @@
 -- The loop over the lines of a listing, and its answer. Assumes nothing.
-use mathlib.Core.Path.{_≡_, refl, sym, ap, _∙_}
+use mathlib.Core.Path.{_≡_, refl, sym, ap, _∙_, subst}
 use mathlib.Core.List.{List, [], _∷_, _++_}
 use mathlib.Core.Bool.{Bool}
 use Prim.Native.Nat.{ℕ, zero, suc, _+_, _-_, _≤_, _<_}
@@ -11,6 +11,7 @@ use Rattle.expression.specs.Trees.{Tree}
 use Rattle.store.specs.Memory.{room}
 use Rattle.store.specs.Storing.{State, fresh}
 use Rattle.store.specs.Held.{Lent, treeIn, stateIn, Sound, Begun}
+use Rattle.store.specs.Tracing.{Traced}
 use Rattle.memory.specs.Keys.{upTo}
 use Rattle.memory.proofs.Values.{upTo-snoc}
 use Rattle.text.specs.Lines as Lines
@@ -20,9 +21,9 @@ use Rattle.listing.specs.declared.Listing.{Listing}
 use Rattle.listing.specs.declared.Progress.{Progress}
 use Rattle.listing.specs.declared.Step.{Step}
 use Rattle.listing.specs.Listings as Spec
-use Rattle.listing.specs.Listings.{known, Swap, accepted, last, rooted, whole, listing, listingLine}
+use Rattle.listing.specs.Listings.{known, Swap, accepted, last, rooted, whole, listing, listingLine, linesOf, given}
 use Rattle.listing.proofs.Shortening.{listing-shortens}
-use Rattle.listing.specs.Tables.{lineTrees, swapTrees, knownAt, Lists, Ready, Takes, linesSeen, Ended, ReadsLines, listingSeen, ListsAfter, Reads, rootOf}
+use Rattle.listing.specs.Tables.{lineTrees, swapTrees, knownAt, Listed, Ready, Takes, linesSeen, Ended, ReadsLines, listingSeen, ListsAfter, TracedAfter, Reads, rootOf}
 
 -- after some lines
 pub record Going (substituting : Bool) (text : List ℕ) (l₀ l : Lent) (table : List ℕ) (p : Progress) (at : ℕ) : Type 0 where
@@ -30,20 +31,23 @@ pub record Going (substituting : Bool) (text : List ℕ) (l₀ l : Lent) (table 
   pub lines : p .lines ≤ 1024
   pub swaps : p .swaps ≤ 256
   pub long : tableWords ≤ length table
-  pub lists : Lists l table (p .lines) (p .swaps)
+  pub listed : Listed l table (p .lines) (p .swaps)
   pub left : Left (listingLine substituting) (knownAt l table p) text at (Lines.lines (listingLine substituting) (known [] [] (stateIn l₀)) text)
 
 abbrev pub atStart : Progress
 atStart = record { at = 0; lines = 0; swaps = 0 }
 
-pub going-begins : (substituting : Bool) (text : List ℕ) (l : Lent) (table : List ℕ) → tableWords ≤ length table → Sound l → Going substituting text l l table atStart 0
+pub going-begins : (substituting : Bool) (text : List ℕ) (l : Lent) (table : List ℕ) → tableWords ≤ length table → Sound l → Traced [] l → Going substituting text l l table atStart 0
 unfolding upTo
-going-begins substituting text l table o h = record {
+going-begins substituting text l table o h t = record {
   here = refl;
   lines = omega arith;
   swaps = omega arith;
   long = o;
-  lists = record { sound = h; nodes = λ k o. absurd (omega arith); named = λ k o. absurd (omega arith); ascends = record { each = λ j o. absurd (omega arith) } };
+  listed = record {
+    lists = record { sound = h; nodes = λ k o. absurd (omega arith); named = λ k o. absurd (omega arith); ascends = record { each = λ j o. absurd (omega arith) } };
+    traced = t;
+  };
   left = begins (listingLine substituting) (listing-shortens substituting) (known [] [] (stateIn l)) text;
 }
 
@@ -52,7 +56,7 @@ module _ {substituting : Bool} {text : List ℕ} {l₀ l : Lent} {table : List �
   is-ready h = record { inside = omega (arith, g .here, h); lines = g .lines; swaps = g .swaps; long = g .long }
 
   pub going-ends : length text ≤ at → ReadsLines substituting text (Step.Next p) l₀ l table
-  going-ends h = record { answer = ends (g .left) h; after = record { lists = g .lists; lines = g .lines; swaps = g .swaps } }
+  going-ends h = record { answer = ends (g .left) h; after = record { listed = g .listed; lines = g .lines; swaps = g .swaps } }
 
   module _ {r : Step} {l′ : Lent} {table′ : List ℕ} (inside : at < length text)
       (t : Takes (listingLine substituting (knownAt l table p) (getD text (p .at) 0) (drop (p .at + 1) text)) text p r l′ table′) where
@@ -74,7 +78,7 @@ module _ {substituting : Bool} {text : List ℕ} {l₀ l : Lent} {table : List �
           lines = f .lines;
           swaps = f .swaps;
           long = omega (arith, g .long, k);
-          lists = f .lists;
+          listed = f .listed;
           left = goes-on (g .left) inside (sym (a ∙ at-place));
         }
 
@@ -113,20 +117,34 @@ unfolding rootOf
 root-after l table p f zero e = rw e tt
 root-after l table p f (suc k) e =
     let z : suc k - 1 ≡ k = omega arith in
-    rw (e, z, ne-eqb (suc k) 0 (λ q. omega (arith, q))) (f .lists .nodes k (omega (arith, e)), f .swaps, record { sound = f .lists .sound; nodes = λ j h. absurd (omega arith); named = f .lists .named; ascends = f .lists .ascends })
+    rw (e, z, ne-eqb (suc k) 0 (λ q. omega (arith, q))) (f .listed .lists .nodes k (omega (arith, e)), f .swaps, record { sound = f .listed .lists .sound; nodes = λ j h. absurd (omega arith); named = f .listed .lists .named; ascends = f .listed .lists .ascends })
+
+root-traced : (l : Lent) (table : List ℕ) (p : Progress) (ts : List Tree) → Traced ts l → (lines : ℕ) → p .lines ≡ lines → TracedAfter ts l (rootOf table p)
+unfolding rootOf
+root-traced l table p ts t zero e = rw e tt
+root-traced l table p ts t (suc k) e = rw (e, ne-eqb (suc k) 0 (λ q. omega (arith, q))) t
 
 module _ {substituting : Bool} {text : List ℕ} {l₀ l l′ : Lent} {table : List ℕ} {r : Step} (b : Begun l₀ l) (t : ReadsLines substituting text r l l′ table) where
   from-fresh : whole (linesSeen l′ table r) ≡ listing substituting text (fresh (room (l₀ .rows)) 0)
   unfolding listing
   from-fresh = ap whole (t .answer) ∙ rw (b .begins)
 
+  given-is : linesOf (linesSeen l′ table r) ≡ given substituting text (fresh (room (l₀ .rows)) 0)
+  given-is = ap linesOf (t .answer) ∙ rw (b .begins)
+
   pub reads-refused : {why : Refusal} → r ≡ Step.Refused why → Reads substituting text (Listing.Refused why) l₀ l′ table
   unfolding whole
-  reads-refused e = record { answer = rw e at from-fresh; after = tt }
+  reads-refused e = record { answer = rw e at from-fresh; after = tt; traced = tt }
 
   pub reads-root : {p : Progress} {a : Listing} → r ≡ Step.Next p → a ≡ rootOf table p → Reads substituting text a l₀ l′ table
+  unfolding linesOf
   reads-root {p} {a} e q =
-      rw q (record { answer = root-seen l′ table p (p .lines) refl ∙ (rw e at from-fresh); after = root-after l′ table p (rw e at (t .after)) (p .lines) refl })
+      let f = rw e at (t .after) in
+      rw q (record {
+        answer = root-seen l′ table p (p .lines) refl ∙ (rw e at from-fresh);
+        after = root-after l′ table p f (p .lines) refl;
+        traced = root-traced l′ table p _ (subst (λ ts. Traced ts l′) (rw e at given-is) (f .listed .traced)) (p .lines) refl;
+      })
 
 -- ---- the rows and the table keep their lengths
 

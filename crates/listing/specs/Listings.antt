@@ -110,6 +110,14 @@ whole (Lines.refused why) = refused why
 unfoldable pub listing : (substituting : Bool) → List ℕ → State → Listing
 listing substituting bs store = whole (lines (listingLine substituting) (known [] [] store) bs)
 
+-- the trees of its node lines in order, line by line, of a listing that is not refused
+unfoldable pub linesOf : Whole Known Refusal → List Tree
+linesOf (Lines.read k) = k .nodes
+linesOf (Lines.refused why) = []
+
+abbrev pub given : (substituting : Bool) → List ℕ → State → List Tree
+given substituting bs store = linesOf (lines (listingLine substituting) (known [] [] store) bs)
+
 -- the tree that the s line of a variable names
 pub data Named : Type 0 where
   names : Tree → Named

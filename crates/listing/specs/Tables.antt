@@ -14,6 +14,7 @@ use Rattle.store.specs.Memory.{Memory, treeAt, room}
 use Rattle.store.specs.Storing.{fresh}
 use Rattle.store.specs.Desk.{count}
 use Rattle.store.specs.Held.{Lent, treeIn, stateIn, Sound}
+use Rattle.store.specs.Tracing.{Traced}
 use Rattle.memory.specs.Layout.{tableWords, swapsFrom}
 use Rattle.memory.specs.Keys.{upTo, keyAt, Ascends}
 use Rattle.text.specs.Reading.{Read, is, bad}
@@ -25,7 +26,7 @@ use Rattle.listing.specs.declared.Progress.{Progress}
 use Rattle.listing.specs.declared.Step.{Step}
 use Rattle.listing.specs.declared.SwapLine.{SwapLine}
 use Rattle.listing.specs.Listings as Spec
-use Rattle.listing.specs.Listings.{Known, known, accepted, swap, names, nothing, swapFor, aboveVariable, swapFields, swapLine, listingLine, listing}
+use Rattle.listing.specs.Listings.{Known, known, accepted, swap, names, nothing, swapFor, aboveVariable, swapFields, swapLine, listingLine, listing, given}
 
 -- a node with other numbers for its operands, those that stand for them in a list: the node of a line, or the line of a node
 unfoldable pub movedTo : List ℕ → Expression → Operands → Expression
@@ -55,6 +56,11 @@ pub record Lists (l : Lent) (table : List ℕ) (lines swaps : ℕ) : Type 0 wher
   pub named : (k : ℕ) → k < swaps → getD table (swapsFrom + 2 * k + 1) 0 < count (l .desk)
   pub ascends : Ascends (keyAt table swapsFrom 2) swaps
 
+-- and the origins of the nodes are the lines of the table
+pub record Listed (l : Lent) (table : List ℕ) (lines swaps : ℕ) : Type 0 where
+  pub lists : Lists l table lines swaps
+  pub traced : Traced (lineTrees (l .rows) table lines) l
+
 -- ---- one line
 
 -- there is a line at the place, and room for it in the table
@@ -70,7 +76,7 @@ stepSeen text l table (Step.Next q) = goes (knownAt l table q) (drop (q .at) tex
 stepSeen text l table (Step.Refused why) = stops why
 
 pub record Advanced (l : Lent) (table : List ℕ) (p q : Progress) : Type 0 where
-  pub lists : Lists l table (q .lines) (q .swaps)
+  pub listed : Listed l table (q .lines) (q .swaps)
   pub count : q .lines + q .swaps ≡ p .lines + p .swaps + 1
   pub lines : q .lines ≤ 1024
   pub swaps : q .swaps ≤ 256
@@ -85,7 +91,7 @@ pub record Takes (want : Lines.Line Known Refusal) (text : List ℕ) (p : Progre
 
 abbrev pub TakesLine : (want : Known → ℕ → List ℕ → Lines.Line Known Refusal) (text table : List ℕ) (p : Progress) (r : Step) (l l′ : Lent) (table′ : List ℕ) → Type 0
 TakesLine want text table p r l l′ table′ =
-    Lists l table (p .lines) (p .swaps) → Takes (want (knownAt l table p) (getD text (p .at) 0) (drop (p .at + 1) text)) text p r l′ table′
+    Listed l table (p .lines) (p .swaps) → Takes (want (knownAt l table p) (getD text (p .at) 0) (drop (p .at + 1) text)) text p r l′ table′
 
 -- an s line changes the table alone, whatever rows and desk are
 abbrev pub TakesSwap : (substituting : Bool) (text table : List ℕ) (p : Progress) (r : Step) (table′ : List ℕ) → Type 0
@@ -115,7 +121,7 @@ linesSeen l table (Step.Next q) = Lines.read (knownAt l table q)
 linesSeen l table (Step.Refused why) = Lines.refused why
 
 pub record Ended (l : Lent) (table : List ℕ) (q : Progress) : Type 0 where
-  pub lists : Lists l table (q .lines) (q .swaps)
+  pub listed : Listed l table (q .lines) (q .swaps)
   pub lines : q .lines ≤ 1024
   pub swaps : q .swaps ≤ 256
 
@@ -138,6 +144,10 @@ abbrev pub ListsAfter : (l : Lent) (table : List ℕ) → Listing → Type 0
 ListsAfter l table (Listing.Read root swaps) = (root < count (l .desk)) × (swaps ≤ 256) × Lists l table 0 swaps
 ListsAfter l table (Listing.Refused why) = Unit {0}
 
+abbrev pub TracedAfter : (given : List Tree) (l : Lent) → Listing → Type 0
+TracedAfter given l (Listing.Read root swaps) = Traced given l
+TracedAfter given l (Listing.Refused why) = Unit {0}
+
 -- the root's node is that of the last line
 unfoldable pub rootOf : (table : List ℕ) → Progress → Listing
 rootOf table p =
@@ -147,6 +157,7 @@ rootOf table p =
 pub record Reads (substituting : Bool) (text : List ℕ) (r : Listing) (l l′ : Lent) (table : List ℕ) : Type 0 where
   pub answer : listingSeen l′ table r ≡ listing substituting text (fresh (room (l .rows)) 0)
   pub after : ListsAfter l′ table r
+  pub traced : TracedAfter (given substituting text (fresh (room (l .rows)) 0)) l′ r
 
 -- the node that an s line names
 abbrev pub swapSeen : Memory → Swap → Spec.Named

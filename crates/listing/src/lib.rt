@@ -1,9 +1,11 @@
 // A listing, read line by line into a store.
 ghost use mathlib.Core.Path.{_≡_};
+ghost use mathlib.Core.List.{[]};
 ghost use Prim.Native.Nat.{_≤_, _<_};
 ghost use lib.ListN.{length};
 ghost use Rattle.memory.specs.Layout.{tableWords};
 ghost use Rattle.store.specs.Held.{lent, Sound};
+ghost use Rattle.store.specs.Tracing.{Traced};
 ghost use Rattle.listing.specs.Listings.{nodeLine, listingLine};
 ghost use Rattle.listing.specs.Tables.{moved, Reads, FindsSwap, Above, Ready, TakesSwap, TakesLine, ReadsLines, rootOf, LooksUp};
 use expression::node::Expression;
@@ -23,6 +25,7 @@ use node_lines::read_node;
 use store::add;
 use store::desk::REFUSED;
 use store::desk::refusal_of;
+use store::mark;
 use store::start;
 use text::reading::Number;
 use text::reading::byte_at;
@@ -168,6 +171,7 @@ fn take_node(
     if REFUSED <= node {
         return Step::Refused(refusal_of(desk, node));
     }
+    mark(store, node, lines);
     put(table, lines, node as u64);
     Step::Next(Progress {
         at: next,
@@ -204,7 +208,7 @@ fn read_lines(
     table: &mut [u64],
 ) -> Step
     requires { ⌜ tableWords ≤ length (now table) ⌝ }
-    requires { ⌜ Sound (lent (now store) (now desk)) ⌝ }
+    requires { ⌜ Sound (lent (now store) (now desk)) × Traced [] (lent (now store) (now desk)) ⌝ }
     ensures { λ r. ⌜ ReadsLines substituting (now (s .entry)) r (lent (now (store .entry)) (now (desk .entry))) (lent (now (store .exit)) (now (desk .exit))) (now (table .exit)) ⌝ }
 {
     let mut p = Progress {

@@ -1,3 +1,4 @@
--- The definitions that the contracts of `node_lines` cite. To believe: NodeLines; Seen only connects.
+-- The definitions that the contracts of `node_lines` cite. To believe: NodeLines, and Without, which only theorems cite; Seen only connects.
 pub mod NodeLines
+pub mod Without
 pub mod Seen

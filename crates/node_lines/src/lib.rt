@@ -1,7 +1,8 @@
 // A node line of a listing: its fields at a place of the text, as a node whose operands are numbers of earlier lines.
 ghost use Prim.Native.Nat.{_+_, _<_, _≤_};
 ghost use lib.ListN.{length, getD, drop};
-ghost use Rattle.node_lines.specs.NodeLines.{numberFields, variableFields, cellFields, functionFields, prefixFields, infixFields, fieldsOf, nodeFields};
+ghost use Rattle.origins.specs.Fields.{lineEnd};
+ghost use Rattle.node_lines.specs.NodeLines.{piLine, numberFields, variableFields, cellFields, functionFields, prefixFields, infixFields, fieldsOf, nodeFields};
 ghost use Rattle.node_lines.specs.Seen.{Finds, FindsLeaf};
 use complex::Complex;
 use complex::bits::from_bits;
@@ -9,6 +10,7 @@ use expression::ExpressionFunction;
 use expression::InfixOperator;
 use expression::PrefixOperator;
 use expression::node::Expression;
+use origins::fields::end_line;
 use spelling::function_at;
 use spelling::infix_at;
 use spelling::prefix_at;
@@ -17,6 +19,8 @@ use text::reading::byte_at;
 use text::reading::decimal_field;
 use text::reading::end_field;
 use text::reading::hex_field;
+use text::reading::read_decimal;
+use text::reading::read_hex;
 
 pub const TAB: u8 = 9;
 
@@ -30,13 +34,13 @@ pub enum Line {
 
 // `n·re·im`, after the tab, as the others below.
 fn read_number(s: &[u8], at: usize) -> Line
-    ensures { λ r. ⌜ FindsLeaf (numberFields (drop at (now (s .entry)))) (now (s .entry)) r ⌝ }
+    ensures { λ r. ⌜ FindsLeaf (numberFields lineEnd (drop at (now (s .entry)))) (now (s .entry)) r ⌝ }
 {
     let x = hex_field(s, at, TAB);
     let Number::Is(re, p) = x else {
         return Line::Bad;
     };
-    let y = hex_field(s, p, LF);
+    let y = end_line(s, read_hex(s, p));
     let Number::Is(im, q) = y else {
         return Line::Bad;
     };
@@ -50,9 +54,9 @@ fn read_number(s: &[u8], at: usize) -> Line
 }
 
 fn read_variable(s: &[u8], at: usize) -> Line
-    ensures { λ r. ⌜ FindsLeaf (variableFields (drop at (now (s .entry)))) (now (s .entry)) r ⌝ }
+    ensures { λ r. ⌜ FindsLeaf (variableFields lineEnd (drop at (now (s .entry)))) (now (s .entry)) r ⌝ }
 {
-    let x = decimal_field(s, at, LF, 65536);
+    let x = end_line(s, read_decimal(s, at, 65536));
     let Number::Is(number, next) = x else {
         return Line::Bad;
     };
@@ -60,13 +64,13 @@ fn read_variable(s: &[u8], at: usize) -> Line
 }
 
 fn read_cell(s: &[u8], at: usize) -> Line
-    ensures { λ r. ⌜ FindsLeaf (cellFields (drop at (now (s .entry)))) (now (s .entry)) r ⌝ }
+    ensures { λ r. ⌜ FindsLeaf (cellFields lineEnd (drop at (now (s .entry)))) (now (s .entry)) r ⌝ }
 {
     let x = decimal_field(s, at, TAB, 65536);
     let Number::Is(region, p) = x else {
         return Line::Bad;
     };
-    let y = decimal_field(s, p, LF, 4294967296);
+    let y = end_line(s, read_decimal(s, p, 4294967296));
     let Number::Is(index, q) = y else {
         return Line::Bad;
     };
@@ -75,13 +79,13 @@ fn read_cell(s: &[u8], at: usize) -> Line
 
 fn read_function(s: &[u8], at: usize, lines: usize) -> Line
     requires { ⌜ lines ≤ 1024 ⌝ }
-    ensures { λ r. ⌜ Finds (λ earlier. functionFields earlier (drop at (now (s .entry)))) (now (s .entry)) lines r ⌝ }
+    ensures { λ r. ⌜ Finds (λ earlier. functionFields lineEnd earlier (drop at (now (s .entry)))) (now (s .entry)) lines r ⌝ }
 {
     let x = end_field(s, function_at(s, at), TAB);
     let Number::Is(f, p) = x else {
         return Line::Bad;
     };
-    let y = decimal_field(s, p, LF, lines as u64);
+    let y = end_line(s, read_decimal(s, p, lines as u64));
     let Number::Is(child, q) = y else {
         return Line::Bad;
     };
@@ -93,13 +97,13 @@ fn read_function(s: &[u8], at: usize, lines: usize) -> Line
 
 fn read_prefix(s: &[u8], at: usize, lines: usize) -> Line
     requires { ⌜ lines ≤ 1024 ⌝ }
-    ensures { λ r. ⌜ Finds (λ earlier. prefixFields earlier (drop at (now (s .entry)))) (now (s .entry)) lines r ⌝ }
+    ensures { λ r. ⌜ Finds (λ earlier. prefixFields lineEnd earlier (drop at (now (s .entry)))) (now (s .entry)) lines r ⌝ }
 {
     let x = end_field(s, prefix_at(s, at), TAB);
     let Number::Is(o, p) = x else {
         return Line::Bad;
     };
-    let y = decimal_field(s, p, LF, lines as u64);
+    let y = end_line(s, read_decimal(s, p, lines as u64));
     let Number::Is(child, q) = y else {
         return Line::Bad;
     };
@@ -111,7 +115,7 @@ fn read_prefix(s: &[u8], at: usize, lines: usize) -> Line
 
 fn read_infix(s: &[u8], at: usize, lines: usize) -> Line
     requires { ⌜ lines ≤ 1024 ⌝ }
-    ensures { λ r. ⌜ Finds (λ earlier. infixFields earlier (drop at (now (s .entry)))) (now (s .entry)) lines r ⌝ }
+    ensures { λ r. ⌜ Finds (λ earlier. infixFields lineEnd earlier (drop at (now (s .entry)))) (now (s .entry)) lines r ⌝ }
 {
     let x = end_field(s, infix_at(s, at), TAB);
     let Number::Is(o, p) = x else {
@@ -121,7 +125,7 @@ fn read_infix(s: &[u8], at: usize, lines: usize) -> Line
     let Number::Is(left, q) = y else {
         return Line::Bad;
     };
-    let z = decimal_field(s, q, LF, lines as u64);
+    let z = end_line(s, read_decimal(s, q, lines as u64));
     let Number::Is(right, next) = z else {
         return Line::Bad;
     };
@@ -131,10 +135,21 @@ fn read_infix(s: &[u8], at: usize, lines: usize) -> Line
     )
 }
 
+// p has no fields of its own.
+fn read_pi(s: &[u8], at: usize) -> Line
+    ensures { λ r. ⌜ FindsLeaf (piLine lineEnd (drop at (now (s .entry)))) (now (s .entry)) r ⌝ }
+{
+    let x = end_line(s, Number::Is(0, at));
+    let Number::Is(_, next) = x else {
+        return Line::Bad;
+    };
+    Line::Node(Expression::PiConstant, next)
+}
+
 // The fields of any line but p's, by its first byte.
 fn read_fields(s: &[u8], first: u8, at: usize, lines: usize) -> Line
     requires { ⌜ lines ≤ 1024 ⌝ }
-    ensures { λ r. ⌜ Finds (λ earlier. fieldsOf earlier first (drop at (now (s .entry)))) (now (s .entry)) lines r ⌝ }
+    ensures { λ r. ⌜ Finds (λ earlier. fieldsOf lineEnd earlier first (drop at (now (s .entry)))) (now (s .entry)) lines r ⌝ }
 {
     if first == b'n' {
         return read_number(s, at);
@@ -165,10 +180,7 @@ pub fn read_node(s: &[u8], at: usize, lines: usize) -> Line
     let first = s[at];
     let second = byte_at(s, at + 1);
     if first == b'p' {
-        if second == LF {
-            return Line::Node(Expression::PiConstant, at + 2);
-        }
-        return Line::Bad;
+        return read_pi(s, at + 1);
     }
     if second == TAB {
         return read_fields(s, first, at + 2, lines);

@@ -21,6 +21,13 @@ Inside out (Outcome.Simplified n calls) = Counts n out
 Inside out (Outcome.Refused why detail) = Unit {0}
 Inside out Outcome.TooLong = Unit {0}
 
+-- so many bytes are printed as they stand there
+abbrev pub bytesOf : Outcome → ℕ
+bytesOf (Outcome.Printed n) = n
+bytesOf (Outcome.Simplified n calls) = n
+bytesOf (Outcome.Refused why detail) = 0
+bytesOf Outcome.TooLong = 0
+
 pub record Comes (want : Result) (r : Outcome) (out : List ℕ) : Type 0 where
   pub answer : seen out r ≡ want
   pub inside : Inside out r

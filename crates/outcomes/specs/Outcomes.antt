@@ -7,6 +7,7 @@ use Rattle.expression.specs.declared.refusal.Refusal.{Refusal}
 use Rattle.expression.specs.Refusals.{numberOf}
 use Rattle.text.specs.Letters.{bytes}
 use Rattle.marks.specs.Marking.{marksLine, usedLine}
+use Rattle.origins.specs.Standing.{standing}
 use Rattle.console.specs.Answers.{refusedLine, refusalLine}
 use Rattle.sentences.specs.declared.Detail.{Detail}
 use Rattle.sentences.specs.Sentences.{sentence, callsSentence, tooLongSentence}
@@ -40,6 +41,18 @@ said tooLong = tooLongSentence
 abbrev pub outputWith : (shown : Bool) (marks : List ℕ) → Result → List ℕ
 outputWith shown marks r = output r ++ cond shown (marksLine marks) []
 
--- after the sentence the rows, where there are any
-abbrev pub saidWith : (marks : List ℕ) → Result → List ℕ
-saidWith marks r = said r ++ usedLine marks
+-- ---- and where lines of the job stand in the listing that is printed
+
+-- a refusal prints none
+unfoldable pub listingOf : Result → List ℕ
+listingOf (printed text) = text
+listingOf (withCalls text calls) = text
+listingOf (refused why detail) = []
+listingOf tooLong = []
+
+abbrev pub standingWith : (traced : Bool) → Result → List ℕ
+standingWith traced r = cond traced (standing (listingOf r)) []
+
+-- after the sentence the rows, where there are any; then where the lines stand, where it is asked for
+abbrev pub saidWith : (traced : Bool) (marks : List ℕ) → Result → List ℕ
+saidWith traced marks r = (said r ++ usedLine marks) ++ standingWith traced r

@@ -3,18 +3,19 @@
 ghost use mathlib.Core.Path.{_≡_};
 ghost use mathlib.Core.Bool.{true};
 ghost use mathlib.Core.List.{_++_};
-ghost use Prim.Native.Nat.{_≤_};
+ghost use Prim.Native.Nat.{_+_, _≤_};
 ghost use lib.ListN.{length};
 ghost use Rattle.io.specs.Counts.{Counts};
 ghost use Rattle.text.specs.Put.{Put};
 ghost use Rattle.marks.specs.Marking.{usedLine};
-ghost use Rattle.outcomes.specs.Outcomes.{refusedText, outputWith};
-ghost use Rattle.outcomes.specs.Coming.{seen, Prints, saidOf, Inside, Short, Stands};
+ghost use Rattle.outcomes.specs.Outcomes.{refusedText, outputWith, standingWith, saidWith};
+ghost use Rattle.outcomes.specs.Coming.{seen, Prints, saidOf, bytesOf, Inside, Short, Stands};
 use console::line::write_refusal;
 use console::line::write_refused;
 use expression::refusal::Refusal;
 use marks::write_marks;
 use marks::write_used;
+use origins::standing::write_standing;
 use sentences::Detail;
 use sentences::write_calls;
 use sentences::write_sentence;
@@ -35,6 +36,9 @@ const BEFORE_MARKS: usize = 64_496;
 
 // The room for a sentence, after which the rows are said.
 const BEFORE_ROWS: usize = 81_920;
+
+// The room for both, after which it is said where lines of the job stand.
+const BEFORE_STANDING: usize = 82_960;
 
 fn print_refusal(out: &mut [u8], why: Refusal) -> usize
     requires { ⌜ 96 ≤ length (now out) ⌝ }
@@ -86,10 +90,49 @@ pub fn print_marked(out: &mut [u8], outcome: Outcome, marks: [u8; 256], shown: b
 }
 
 // The sentence, and the rows that were used.
-pub fn say_marked(said: &mut [u8], outcome: Outcome, marks: [u8; 256]) -> usize
+fn say_marked(said: &mut [u8], outcome: Outcome, marks: [u8; 256]) -> usize
     requires { ⌜ 82960 ≤ length (now said) ⌝ }
     ensures { λ r. ⌜ Stands (saidOf outcome ++ usedLine marks) r (now (said .exit)) ⌝ }
 {
     let n = say(&mut said[..BEFORE_ROWS], outcome);
     write_used(said, n, &marks)
+}
+
+// How many bytes of the output are printed as they stand there.
+fn bytes_of(outcome: Outcome) -> usize
+    ensures { λ r. ⌜ r ≡ bytesOf outcome ⌝ }
+{
+    match outcome {
+        Outcome::Printed(n) => n,
+        Outcome::Simplified(n, _) => n,
+        Outcome::Refused(_, _) => 0,
+        Outcome::TooLong => 0,
+    }
+}
+
+// Where lines of the job stand in the listing, if that is asked for; after what is said already.
+fn say_standing(said: &mut [u8], at: usize, out: &[u8], outcome: Outcome, traced: bool) -> usize
+    requires { ⌜ (at + 56320 ≤ length (now said)) × Inside (now out) outcome ⌝ }
+    ensures { λ r. ⌜ Put (now (said .entry)) at (standingWith traced (seen (now (out .entry)) outcome)) r (now (said .exit)) × (r ≤ at + 56320) ⌝ }
+{
+    if traced {
+        let n = bytes_of(outcome);
+        return write_standing(said, at, &out[..n]);
+    }
+    at
+}
+
+// All that is said of an outcome whose bytes stand at the start of the output.
+pub fn say_traced(
+    said: &mut [u8],
+    out: &[u8],
+    outcome: Outcome,
+    marks: [u8; 256],
+    traced: bool,
+) -> usize
+    requires { ⌜ (139280 ≤ length (now said)) × Inside (now out) outcome ⌝ }
+    ensures { λ r. ⌜ Stands (saidWith traced marks (seen (now (out .entry)) outcome)) r (now (said .exit)) ⌝ }
+{
+    let n = say_marked(&mut said[..BEFORE_STANDING], outcome, marks);
+    say_standing(said, n, out, outcome, traced)
 }

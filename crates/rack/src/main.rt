@@ -22,11 +22,11 @@ fn input_room() -> [u8; 262_145]
     [0; 262_145]
 }
 
-// Room for a sentence that names a word, or for one and the rows that were used.
-fn saying_room() -> [u8; 92_160]
-    ensures { λ r. ⌜ 92160 ≡ length r ⌝ }
+// Room for a sentence that names a word; or for one, the rows that were used, and where lines of the job stand.
+fn saying_room() -> [u8; 148_480]
+    ensures { λ r. ⌜ 148480 ≡ length r ⌝ }
 {
-    [0; 92_160]
+    [0; 148_480]
 }
 
 // The first bytes of the two outputs.

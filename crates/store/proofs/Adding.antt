@@ -16,7 +16,7 @@ use Rattle.store.specs.Words.{tagOf}
 use Rattle.store.specs.Nodes.{fieldsOf}
 use Rattle.expression.specs.Nodes.{measureFrom, Within, Sound}
 use Rattle.store.specs.Storing.{intern}
-use Rattle.store.specs.Memory.{Memory, room, sizeAt, depthAt, classAt, treeAt, treeOf, stateOf}
+use Rattle.store.specs.Memory.{Memory, room, sizeAt, depthAt, originAt, classAt, treeAt, treeOf, stateOf}
 use Rattle.store.specs.Index.{keyOf, bucketOf, headFor, entered}
 use Rattle.store.specs.Desk.{count, callsOn, marksOn, tallyOn, withCount, refusalOn, refusedFrom}
 use Rattle.store.specs.Held as Held
@@ -24,7 +24,7 @@ use Rattle.store.specs.Held.{Holds, Lent, stateIn, Built, judged}
 use Rattle.store.specs.Walk.{Walked, Finds}
 use Rattle.expression.proofs.Sizes.{size-is as size-measure, depth-is as depth-measure}
 use Rattle.store.proofs.Trees.{measure-grown, room-each}
-use Rattle.store.proofs.Growing.{Limits, allowed-limits, found-answer, refused-answer, new-answer, holds-new, tree-old}
+use Rattle.store.proofs.Growing.{Limits, allowed-limits, found-answer, refused-answer, new-answer, holds-new, tree-old, origin-old, origin-new}
 use Rattle.store.proofs.Noting.{marks-below}
 use Rattle.store.proofs.Building.{seen-node, small, stays, refuses}
 
@@ -151,6 +151,10 @@ module _ {m : Memory} {desk : List ℕ} {n : ℕ} (en : n ≡ count desk) {e : E
               sound = sound-new;
               grew = rw (count-new, ← en) (omega arith);
               stays = λ i q. tree-old h e (k .sound) w walked (tallyOn desk) o not-big not-deep has-room bucket bucket-is-e z y size-is depth-is i (rw en q);
+              traced = λ i q. origin-old h e (k .sound) w walked (tallyOn desk) o not-big not-deep has-room bucket bucket-is-e z y size-is depth-is i (rw en q);
+              untraced = λ i a q.
+                  let only : i ≡ n = omega (arith, en, a, q, count-new) in
+                  ap (originAt m′) only ∙ origin-new h e (k .sound) w walked (tallyOn desk) o not-big not-deep has-room bucket bucket-is-e z y size-is depth-is;
             };
           }
 

@@ -5,6 +5,7 @@ use mathlib.Core.Path.{_≡_, refl, sym, ap, _∙_, subst}
 use mathlib.Core.List.{List, _++_}
 use Prim.Native.Nat.{ℕ, _+_, _-_, _≤_, _<_}
 use native.Mathlib.Omega.{arith}
+use native.Mathlib.Decide.{decLt}
 use borrow.Author.Tests.{lt-ltb, le-ltb}
 use lib.ListN.{length}
 use Rattle.memory.specs.Layout.{numbered}
@@ -13,7 +14,7 @@ use Rattle.expression.specs.declared.refusal.Operation.{Operation}
 use Rattle.expression.specs.declared.refusal.Refusal.{Refusal}
 use Rattle.expression.specs.Trees.{Tree}
 use Rattle.store.specs.Storing.{State, Answer, gives, refused, andThen, noting}
-use Rattle.store.specs.Memory.{Memory, stateOf}
+use Rattle.store.specs.Memory.{Memory, originAt, stateOf}
 use Rattle.store.specs.Desk.{count, refusalOn, refusedFrom, Alike, Asks, Notes}
 use Rattle.store.specs.Held.{Holds, Lent, treeIn, stateIn, Sound, Step, seen, Built}
 use Rattle.store.proofs.Trees.{room-each}
@@ -43,14 +44,20 @@ pub older : {l l′ : Lent} {x : ℕ} → Got l x l′ → {k : ℕ} → k < cou
 older p o = omega (arith, p .grew, o)
 
 pub both : {l l₁ l₂ : Lent} → Step l l₁ → Step l₁ l₂ → Step l l₂
-both p q = record {
+both {l} {l₁} {l₂} p q = record {
   sound = q .sound;
   grew = omega (arith, p .grew, q .grew);
   stays = λ k o. q .stays k (omega (arith, p .grew, o)) ∙ p .stays k o;
+  traced = λ k o. q .traced k (omega (arith, p .grew, o)) ∙ p .traced k o;
+  untraced = λ k a o. new k a o (decLt k (count (l₁ .desk)));
 }
+  where
+    new : (k : ℕ) → count (l .desk) ≤ k → k < count (l₂ .desk) → Dec (k < count (l₁ .desk)) → originAt (l₂ .rows) k ≡ 0
+    new k a o (yes x) = q .traced k x ∙ p .untraced k a x
+    new k a o (no x) = q .untraced k (omega (arith, x)) o
 
 pub idle : {l : Lent} → Sound l → Step l l
-idle h = record { sound = h; grew = omega arith; stays = λ k o. refl }
+idle h = record { sound = h; grew = omega arith; stays = λ k o. refl; traced = λ k o. refl; untraced = λ k a o. absurd (omega (arith, a, o)) }
 
 pub named : {want want′ : Answer} {r : ℕ} {l l′ : Lent} → want ≡ want′ → Built want r l l′ → Built want′ r l l′
 named e b = record { answer = b .answer ∙ e; inside = b .inside; step = b .step }
@@ -94,7 +101,13 @@ module _ (m : Memory) {desk desk′ : List ℕ} where
   on-desk e b = record {
     answer = b .answer;
     inside = b .inside;
-    step = record { sound = b .step .sound; grew = omega (arith, e, b .step .grew); stays = λ k o. b .step .stays k (omega (arith, e, o)) };
+    step = record {
+      sound = b .step .sound;
+      grew = omega (arith, e, b .step .grew);
+      stays = λ k o. b .step .stays k (omega (arith, e, o));
+      traced = λ k o. b .step .traced k (omega (arith, e, o));
+      untraced = λ k a o. b .step .untraced k (omega (arith, e, a)) o;
+    };
   }
 
   state-on : Alike desk desk′ → stateIn (of m desk′) ≡ stateIn (of m desk)

@@ -18,12 +18,13 @@ use Rattle.expression.specs.Alike.{equal}
 use Rattle.expression.specs.Limits.{largest, deepest}
 use Rattle.expression.proofs.Likeness.{equal-refl}
 use Rattle.expression.specs.declared.node.Expression.{Expression}
+use Rattle.origins.specs.Words.{originIn}
 use Rattle.store.specs.declared.node.Fields.{Fields}
 use Rattle.store.specs.Words.{codeIn, sizeIn, depthIn, homeIn, tagOf}
 use Rattle.store.specs.Nodes.{fields, fieldsOf, expressionOf}
 use Rattle.expression.specs.Nodes.{Within, Sound}
 use Rattle.store.specs.Storing.{Tally, State, Answer, gives, among, intern, result, refused, place}
-use Rattle.store.specs.Memory.{Memory, columns, room, fieldsOn, sizeOn, depthOn, fieldsAt, sizeAt, depthAt, homeOn, homeAt, headAt, classAt, keptAt, expressionAt, trees, treeAt, treeOf, linked, keptFor, stateOf}
+use Rattle.store.specs.Memory.{Memory, columns, room, fieldsOn, sizeOn, depthOn, fieldsAt, sizeAt, depthAt, homeOn, homeAt, originOn, originAt, headAt, classAt, keptAt, expressionAt, trees, treeAt, treeOf, linked, keptFor, stateOf}
 use Rattle.store.specs.Index.{keyOf, bucketOf, keyAt, bucketAt, headFor, latest, joined}
 use Rattle.store.specs.Held.{Right, Holds, judged}
 use Rattle.store.specs.Desk.{refusalOn}
@@ -34,7 +35,7 @@ use Rattle.store.proofs.Trees.{length-trees, grown-alike, tree-own, tre
 use Rattle.store.proofs.Keys.{key-alike}
 use Rattle.store.proofs.Hashing.{bucket-below}
 use Rattle.store.proofs.Walks.{head-within, no-head, past-head, head-home, head-elsewhere}
-use Rattle.store.proofs.Packing.{Tagged, tagged}
+use Rattle.store.proofs.Packing.{Tagged, tagged, no-origin}
 use Rattle.store.proofs.Seeking.{class-inside, found-tree, found-place, no-place, nowhere, found-class}
 use Rattle.store.proofs.Links.{Rest, length-joined, rest-old, class-new, kept-new, next-new, head-old, head-new}
 
@@ -200,6 +201,15 @@ module _ {m : Memory} {n : ℕ} (h : Holds m n) (e : Expression) (s : Sound e) (
         home-new : homeAt m′ n ≡ bucket
         unfolding homeOn
         home-new = ap homeIn (getD-set-same (m .tag) n (tagOf (f .code) z y bucket) 0 (omega (arith, there .tags))) ∙ word .home
+
+        -- the origins
+        pub origin-old : (k : ℕ) → k < n → originAt m′ k ≡ originAt m k
+        unfolding originOn
+        origin-old k l = ap originIn (getD-set-other (m .tag) n k (tagOf (f .code) z y bucket) 0 λ x. omega arith)
+
+        pub origin-new : originAt m′ n ≡ 0
+        unfolding originOn
+        origin-new = ap originIn (getD-set-same (m .tag) n (tagOf (f .code) z y bucket) 0 (omega (arith, there .tags))) ∙ no-origin (f .code) z y bucket
 
         -- the trees
         expression-old : (k : ℕ) → k < n → expressionAt m′ k ≡ expressionAt m k

@@ -166,7 +166,13 @@ keeps m e r {m′} x desk h le lr =
     (record {
       answer = seen-node r (record { rows = keptBy m e r; desk = desk }) (number-small h lr) ∙ kept-answer (m .tag) (m .first) (m .second) (m .link) n (h .holds) e r le lr (tallyOn desk);
       inside = λ _. lr;
-      step = record { sound = s; grew = omega arith; stays = λ i o. tree-same (m .tag) (m .first) (m .second) (m .link) n (h .holds) e r le lr i };
+      step = record {
+        sound = s;
+        grew = omega arith;
+        stays = λ i o. tree-same (m .tag) (m .first) (m .second) (m .link) n (h .holds) e r le lr i;
+        traced = λ i o. refl;
+        untraced = λ i a o. absurd (omega (arith, a, o));
+      };
     })
 
 -- ---- the start of a store

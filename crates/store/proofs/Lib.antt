@@ -18,3 +18,4 @@ mod Keeping
 pub mod Stored
 pub mod OneAnswer
 pub mod Settling
+pub mod Tracing

@@ -6,6 +6,7 @@ use Prim.Native.Nat.{ℕ, _+_, _*_, _%_, _/_, _≤_, _<_}
 use native.Mathlib.Nat.{div-div-eq-div-mul}
 use native.Mathlib.Omega.{arith}
 use lib.Dec.{T, eqb, eqb→eq, eqb-refl}
+use Rattle.origins.specs.Words.{originIn}
 use Rattle.store.specs.Words.{codeIn, sizeIn, depthIn, homeIn, tagOf, classIn, keptIn, nextIn, withNode, withKept}
 use Rattle.store.specs.Memory.{sizeOn, depthOn}
 
@@ -29,6 +30,10 @@ pub record Tagged (w c s d h : ℕ) : Type 0 where
 
 pub tagged : (c s d h : ℕ) → c < 64 → s ≤ 1000000 → d ≤ 64 → h < 8192 → Tagged (tagOf c s d h) c s d h
 tagged c s d h l m o p = record { code = omega arith; size = omega arith; depth = omega arith; home = omega arith }
+
+-- a word of these fields alone has no origin
+pub no-origin : (c s d h : ℕ) → originIn (tagOf c s d h) ≡ 0
+no-origin c s d h = omega arith
 
 -- ---- a link: its fields, with the heads of an even and of an odd bucket
 

@@ -6,7 +6,7 @@ use Prim.Native.Nat.{ℕ, zero, suc, _≤_, min}
 use native.Mathlib.Omega.{arith}
 use lib.ListN.{length, getD, set, length-map, List·getD-map, List·getD-eq-default}
 use lib.Seq.{set-getD, set-out}
-use Rattle.store.specs.Memory.{Memory, column, memory, withRow, withLink, room}
+use Rattle.store.specs.Memory.{Memory, columns, column, memory, withRow, withLink, room}
 
 map-set : {A B : Type 0} (f : A → B) (l : List A) (i : ℕ) (a : A) → map f (set l i a) ≡ set (map f l) i (f a)
 map-set f [] i a = refl
@@ -76,6 +76,10 @@ module _ (s : List (List ℕ)) (i v a b l : ℕ) where
 -- a row written with three of the words that it has
 pub relinked : (m : Memory) (i l : ℕ) → withRow m i (getD (m .tag) i 0) (getD (m .first) i 0) (getD (m .second) i 0) l ≡ withLink m i l
 relinked m i l = rw (set-getD (m .tag) i 0, set-getD (m .first) i 0, set-getD (m .second) i 0) refl
+
+pub retagged : (m : Memory) (i t : ℕ)
+    → withRow m i t (getD (m .first) i 0) (getD (m .second) i 0) (getD (m .link) i 0) ≡ columns (set (m .tag) i t) (m .first) (m .second) (m .link)
+retagged m i t = rw (set-getD (m .first) i 0, set-getD (m .second) i 0, set-getD (m .link) i 0) refl
 
 -- "The store's capacity is the shortest work slice, at most 4096"
 pub room-is : (s : List (List ℕ)) → min (length s) 4096 ≡ room (memory s)

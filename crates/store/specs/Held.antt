@@ -13,7 +13,7 @@ use Rattle.expression.specs.declared.node.Expression.{Expression}
 use Rattle.store.specs.Nodes.{fieldsOf}
 use Rattle.expression.specs.Nodes.{Within}
 use Rattle.store.specs.Storing.{Tally, State, Answer, gives, refused, intern, keep, recall, fresh, place}
-use Rattle.store.specs.Memory.{Memory, memory, room, fieldsAt, sizeAt, depthAt, homeAt, classAt, keptAt, nextAt, expressionAt, trees, treeAt, treeOf, linked, stateOf}
+use Rattle.store.specs.Memory.{Memory, memory, room, fieldsAt, sizeAt, depthAt, homeAt, originAt, classAt, keptAt, nextAt, expressionAt, trees, treeAt, treeOf, linked, stateOf}
 use Rattle.store.specs.Index.{bucketAt, headFor, latest}
 use Rattle.store.specs.Desk.{count, tallyOn, refusalOn, refusedFrom}
 
@@ -55,11 +55,13 @@ pub record Sound (l : Lent) : Type 0 where
   pub holds : Holds (l .rows) (count (l .desk))
   pub long : length (l .desk) ≡ deskWords
 
--- the nodes that stood have the trees that they had
+-- the nodes that stood have the trees and the origins that they had; the others have no origin
 pub record Step (l l′ : Lent) : Type 0 where
   pub sound : Sound l′
   pub grew : count (l .desk) ≤ count (l′ .desk)
   pub stays : (k : ℕ) → k < count (l .desk) → treeIn l′ k ≡ treeIn l k
+  pub traced : (k : ℕ) → k < count (l .desk) → originAt (l′ .rows) k ≡ originAt (l .rows) k
+  pub untraced : (k : ℕ) → count (l .desk) ≤ k → k < count (l′ .desk) → originAt (l′ .rows) k ≡ 0
 
 -- an answer of the code, one word, as one on trees
 unfoldable pub seen : ℕ → Lent → Answer

@@ -5,6 +5,7 @@ use mathlib.Core.Bool.{Bool, cond}
 use lib.ListN.{length, getD, set}
 use lib.Dec.{ltb}
 use Rattle.expression.specs.Trees.{Tree, leaf, pi}
+use Rattle.origins.specs.Words.{originIn}
 use Rattle.expression.specs.Alike.{equal}
 use Rattle.expression.specs.declared.node.Expression.{Expression}
 use Rattle.store.specs.declared.node.Fields.{Fields}
@@ -51,6 +52,10 @@ depthOn tag k = depthIn (getD tag k 0)
 unfoldable pub homeOn : (tag : List ℕ) → ℕ → ℕ
 homeOn tag k = homeIn (getD tag k 0)
 
+-- the number of the line that a node came from, plus one; 0 says none
+unfoldable pub originOn : (tag : List ℕ) → ℕ → ℕ
+originOn tag k = originIn (getD tag k 0)
+
 unfoldable pub headOn : (link : List ℕ) → ℕ → ℕ
 headOn link b = headIn b (getD link (b / 2) 0)
 
@@ -79,6 +84,9 @@ module _ (m : Memory) where
 
   abbrev pub homeAt : ℕ → ℕ
   homeAt = homeOn (m .tag)
+
+  abbrev pub originAt : ℕ → ℕ
+  originAt = originOn (m .tag)
 
   abbrev pub headAt : ℕ → ℕ
   headAt = headOn (m .link)

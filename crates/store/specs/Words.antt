@@ -7,7 +7,7 @@ use lib.Dec.{eqb}
 abbrev pub codeOf : (kind operator : ℕ) → ℕ
 codeOf kind operator = kind % 8 + 8 * (operator % 8)
 
--- tag: code, size, depth, and the bucket that is the node's home
+-- tag: code, size, depth, and the bucket that is the node's home; above them, from the 46th bit on, its origin, which `origins` has
 abbrev pub codeIn : ℕ → ℕ
 codeIn w = w % 64
 

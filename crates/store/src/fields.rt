@@ -1,5 +1,5 @@
-// The fields of the two packed words of a node. `tag` has the code, size and depth, and the bucket that is the node's home; its
-// upper 18 bits are free.
+// The fields of the two packed words of a node. `tag` has the code, size and depth, and the bucket that is the node's home; above
+// them, from the 46th bit on, the node's origin, which `origins::words` has; its upper 7 bits are free.
 // `link` has the heads of the two buckets 2k and 2k + 1, for node k, and the node's class, kept result and next
 // in its bucket. Heads, results and nexts are numbers of nodes plus one, so that 0 says none.
 ghost use mathlib.Core.Path.{_≡_};

@@ -5,6 +5,7 @@ ghost use mathlib.Core.List.{List};
 ghost use Prim.Native.Nat.{ℕ, _+_, max};
 ghost use Rattle.expression.specs.Nodes.{measureFrom};
 ghost use Rattle.store.specs.Memory.{memory, sizeAt, depthAt};
+ghost use Rattle.store.specs.Tracing.{withMark};
 ghost use Rattle.store.specs.Held.{lent, Adds, judged, Keeps, Recalls, Compares, Begun};
 use desk::REFUSED;
 use desk::stand;
@@ -20,12 +21,17 @@ use index::head_of;
 use index::key_of;
 use memory::layout::DESK_WORDS;
 use node::fields_of;
+use origins::words::first_kept;
 use reading::class_at;
 use reading::depth_at;
 use reading::size_at;
 use room::capacity;
+use words::first_at;
 use words::link_at;
 use words::put_link;
+use words::put_row;
+use words::second_at;
+use words::tag_at;
 
 pub mod desk;
 mod fields;
@@ -145,6 +151,17 @@ pub fn equal_at(store: &[[u64; 4]], a: usize, b: usize) -> bool
     ensures { λ r. ⌜ Compares (memory (now (store .entry))) a b r ⌝ }
 {
     class_at(store, a) == class_at(store, b)
+}
+
+// Node i came from this line of the listing, unless it came from an earlier one; past the end nothing does.
+pub fn mark(store: &mut [[u64; 4]], i: usize, line: usize)
+    ensures { λ _. ⌜ memory (now (store .exit)) ≡ withMark (memory (now (store .entry))) i line ⌝ }
+{
+    let tag = first_kept(tag_at(store, i), line as u64);
+    let first = first_at(store, i);
+    let second = second_at(store, i);
+    let link = link_at(store, i);
+    put_row(store, i, tag, first, second, link);
 }
 
 // A store with no node, whatever rows and desk held: the rows stay as they are.

@@ -2,7 +2,7 @@
 ghost use mathlib.Core.Path.{_≡_};
 ghost use Rattle.expression.specs.Nodes.{operandsOf};
 ghost use Rattle.store.specs.Nodes.{expressionOf};
-ghost use Rattle.store.specs.Memory.{memory, fieldsAt, sizeAt, depthAt, classAt, expressionAt};
+ghost use Rattle.store.specs.Memory.{memory, fieldsAt, sizeAt, depthAt, originAt, classAt, expressionAt};
 use super::fields::class_in;
 use super::fields::code_in;
 use super::fields::depth_in;
@@ -15,6 +15,7 @@ use super::words::second_at;
 use super::words::tag_at;
 use expression::node::Expression;
 use expression::node::Operands;
+use origins::words::origin_in;
 
 pub fn fields_at(store: &[[u64; 4]], i: usize) -> Fields
     ensures { λ r. ⌜ r ≡ fieldsAt (memory (now (store .entry))) i ⌝ }
@@ -67,6 +68,13 @@ pub fn depth_at(store: &[[u64; 4]], i: usize) -> u64
     ensures { λ r. ⌜ r ≡ depthAt (memory (now (store .entry))) i ⌝ }
 {
     depth_in(tag_at(store, i))
+}
+
+// The number of the line that a node came from, plus one; 0 says none.
+pub fn origin_at(store: &[[u64; 4]], i: usize) -> u64
+    ensures { λ r. ⌜ r ≡ originAt (memory (now (store .entry))) i ⌝ }
+{
+    origin_in(tag_at(store, i))
 }
 
 // Equal trees have one class: the number of the first of them.

@@ -1,5 +1,5 @@
--- A stored tree's written listing fits into the store it was in: `order-room`; so what the code wrote reads back with as much work memory, `written-reads-back`.
--- Assumes nothing.
+-- A stored tree's written listing fits into the store it was in: `order-room`; so what the code wrote reads back with as much work memory,
+-- `written-reads-back`, and with origins `traced-reads-back`. Assumes nothing.
 use mathlib.Core.Path.{_≡_, refl, sym, _∙_, subst}
 use mathlib.Core.List.{List, [], _∷_, _++_}
 use mathlib.Core.Logic.{⊎-elim}
@@ -24,10 +24,11 @@ use Rattle.store.proofs.Places.{place-within, place-hit, place-first, among-no,
 use Rattle.store.proofs.Stored.{as-many, stored, proper, limited, read-node}
 use Rattle.listing.specs.Listings.{accepted, listing}
 use Rattle.writing.specs.Order.{once, finished, order, textOf}
+use Rattle.writing.specs.Origins.{tracedTextOf}
 use Rattle.writing.specs.Ordering.{AllIn, Laid, empty, more}
 use Rattle.writing.proofs.Orders.{true-not-false, finished-laid}
 use Rattle.writing.proofs.Visiting.{pigeon}
-use Rattle.writing.proofs.ReadBack.{storeOf, reads-back}
+use Rattle.writing.proofs.ReadBack.{storeOf, reads-back, reads-back-traced}
 
 -- ---- all below a stored tree is stored
 
@@ -138,3 +139,9 @@ module _ {m : Memory} {n root : ℕ} (h : Holds m n) (inside : root < n) where
       → listing substituting (textOf (treeAt m root)) (fresh room′ 0) ≡ accepted (treeAt m root) [] (storeOf room′ (order (treeAt m root)))
   written-reads-back few substituting room′ as-much =
       reads-back (treeAt m root) (proper h root) (limited h root inside) substituting room′ few (omega (arith, order-room, h .fits, as-much))
+
+  -- and so does what was written with origins
+  pub traced-reads-back : (given : List Tree) → length given ≤ 1024 → length (order (treeAt m root)) ≤ 1024 → (substituting : Bool) (room′ : ℕ) → room m ≤ room′
+      → listing substituting (tracedTextOf given (treeAt m root)) (fresh room′ 0) ≡ accepted (treeAt m root) [] (storeOf room′ (order (treeAt m root)))
+  traced-reads-back given lately few substituting room′ as-much =
+      reads-back-traced given lately (treeAt m root) (proper h root) (limited h root inside) substituting room′ few (omega (arith, order-room, h .fits, as-much))

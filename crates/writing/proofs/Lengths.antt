@@ -1,4 +1,4 @@
--- How long a written listing is: at most 36 bytes a line. Assumes nothing.
+-- How long a written listing is: at most 36 bytes a line, and with origins 42. Assumes nothing.
 use mathlib.Core.Bool.{Bool, true, false, cond}
 use mathlib.Core.List.{List, [], _∷_, _++_}
 use Prim.Native.Nat.{_*_, _≤_}
@@ -7,12 +7,17 @@ use lib.ListN.{length, length-append}
 use Rattle.expression.specs.Trees.{Tree, number, pi, variable, cell, leaf, functionCall, prefixed, infixed}
 use Rattle.expression.specs.Alike.{identical}
 use Rattle.expression.specs.Limits.{Proper}
+use Rattle.origins.proofs.Lengths as Origins
+use Rattle.store.specs.Origins.{originOf}
 use Rattle.store.specs.Storing.{among, place}
 use Rattle.store.proofs.Places.{place-within}
 use Rattle.text.specs.Writing.{line}
 use Rattle.text.proofs.Putting.{few-digits}
 use Rattle.writing.specs.Order.{once, finished, order, numbered, lineFields, text, textOf}
+use Rattle.writing.specs.Origins.{tracedLine, tracedText, tracedTextOf}
 use Rattle.writing.specs.Ordering.{textFields, lineText}
+use Rattle.writing.proofs.FirstLine.{origin-few}
+use Rattle.writing.proofs.LineParts.{traced-longer}
 use Rattle.writing.proofs.LineTexts.{number-length, pi-length, variable-length, cell-length, call-length, name-short, prefix-length, infix-length}
 
 -- ---- the trees of a listing
@@ -70,3 +75,38 @@ module _ (lines : List Tree) (few : length lines ≤ 1024) where
 pub listing-length : (t : Tree) → Proper t → length (order t) ≤ 1024 → length (textOf t) ≤ 36 * length (order t)
 unfolding AllProper
 listing-length t p few = text-short (order t) few (order t) (proper-finished t [] p tt)
+
+-- ---- with origins
+
+module _ (given lines : List Tree) (lately : length given ≤ 1024) (few : length lines ≤ 1024) where
+  traced-short : (ts : List Tree) → AllProper ts → length (tracedText given lines ts) ≤ 42 * length ts
+  unfolding tracedText AllProper
+  traced-short [] a = omega arith
+  traced-short (t ∷ ts) a = omega (
+    arith,
+    length-append (tracedLine given lines t) (tracedText given lines ts),
+    traced-longer given lines t,
+    Origins.text-short (originOf given t) (omega (arith, lately, origin-few given t)),
+    line-short lines few t (a .0),
+    traced-short ts (a .1),
+  )
+
+-- with origins of at most 1024 lines: at most 42 n bytes
+pub traced-listing-length : (given : List Tree) → length given ≤ 1024 → (t : Tree) → Proper t → length (order t) ≤ 1024 → length (tracedTextOf given t) ≤ 42 * length (order t)
+unfolding AllProper
+traced-listing-length given lately t p few = traced-short given (order t) lately few (order t) (proper-finished t [] p tt)
+
+-- and never fewer than without
+text-shorter : (given lines ts : List Tree) → length (text lines ts) ≤ length (tracedText given lines ts)
+unfolding text tracedText
+text-shorter given lines [] = omega arith
+text-shorter given lines (t ∷ ts) = omega (
+  arith,
+  length-append (line (lineFields lines t)) (text lines ts),
+  length-append (tracedLine given lines t) (tracedText given lines ts),
+  traced-longer given lines t,
+  text-shorter given lines ts,
+)
+
+pub listing-shorter : (given : List Tree) (t : Tree) → length (textOf t) ≤ length (tracedTextOf given t)
+listing-shorter given t = text-shorter given (order t) (order t)

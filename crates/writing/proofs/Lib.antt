@@ -3,8 +3,14 @@ pub mod Orders
 pub mod Visiting
 pub mod LineTexts
 pub mod Texts
+pub mod TracedLines
+pub mod TracedTexts
+pub mod LineParts
+pub mod FirstLine
 pub mod ReadBack
 pub mod Fits
 pub mod Lengths
+pub mod Stripping
+pub mod Standing
 mod Examples
 pub mod OneAnswer

@@ -1,22 +1,29 @@
--- Two answers with their output bytes that the contract of `write_listing` allows are equal, and so are the rows but for the links; and two orders
--- that the contract of `visit` allows. Assumes nothing.
+-- Two answers with their output bytes that the contract of `write_listing` allows are equal, and so are the rows but for the links; two that
+-- the contract of `write_origins` allows; and two orders that the contract of `visit` allows. Assumes nothing.
 use mathlib.Core.Path.{_≡_, sym, ap, _∙_}
 use mathlib.Core.List.{List, []}
 use Prim.Native.Nat.{ℕ, _<_}
 use native.Mathlib.Omega.{arith}
 use lib.ListN.{length, getD}
-use Rattle.expression.specs.Trees.{leaf, pi}
+use Rattle.expression.specs.Trees.{Tree, leaf, pi}
 use Rattle.store.specs.Memory.{Memory, columns, treeAt}
-use Rattle.store.specs.Held.{Holds}
+use Rattle.store.specs.Desk.{count}
+use Rattle.store.specs.Held.{Holds, Sound}
+use Rattle.store.specs.Tracing.{Traced}
 use Rattle.store.proofs.Stored.{one-node}
 use Rattle.memory.proofs.Values.{length-upTo, at-upTo}
 use Rattle.listing.specs.Tables.{lineTrees}
 use Rattle.writing.specs.declared.Written.{Written}
-use Rattle.writing.specs.Ordering.{Writes, KeepsRows, Listed, Visited, Visits}
+use Rattle.writing.specs.Ordering.{Writes, KeepsRows, WritesTraced, Listed, Visited, Visits}
 
 pub one-written : {m : Memory} {n root : ℕ} {r r′ : Written} (out : List ℕ) {out₁ out₂ : List ℕ} → Holds m n → root < n
     → Writes m root r out out₁ → Writes m root r′ out out₂ → _≡_ {A = Written × List ℕ} (r, out₁) (r′, out₂)
 one-written {n = n} out h o p q = p n h o ∙ sym (q n h o)
+
+pub one-traced : {m : Memory} {root : ℕ} {r r′ : Written} (given : List Tree) (desk out : List ℕ) {out₁ out₂ : List ℕ} → Sound (record { rows = m; desk = desk })
+    → Traced given (record { rows = m; desk = desk }) → root < count desk → WritesTraced m root r out out₁ → WritesTraced m root r′ out out₂
+    → _≡_ {A = Written × List ℕ} (r, out₁) (r′, out₂)
+one-traced given desk out s t o p q = p given desk s t o ∙ sym (q given desk s t o)
 
 -- tags, firsts and seconds of all rows
 unlinked : Memory → Memory

@@ -1,13 +1,13 @@
--- What is written reads back: `reads-back`, and that writing again gives the same bytes, `writes-again`. Assumes nothing.
+-- What is written reads back, without origins and with them: `reads-back`, `reads-back-traced`; and writing again gives the same bytes,
+-- `writes-again`. Assumes nothing.
 use mathlib.Core.Path.{_≡_, refl, sym, ap, _∙_}
 use mathlib.Core.List.{List, [], _∷_, _++_, append-assoc, append-nil}
 use mathlib.Core.Logic.{⊎-elim}
 use mathlib.Core.Bool.{Bool, true, false}
-use Prim.Native.Nat.{ℕ, zero, suc, _≤_, _<_}
+use Prim.Native.Nat.{ℕ, zero, suc, _^_, _≤_, _<_}
 use native.Mathlib.Nat.{eq-or-lt-of-le}
 use native.Mathlib.Omega.{arith}
 use native.Mathlib.Decide.{decLt}
-use lib.Dec.{eqb}
 use lib.ListN.{length, getD, length-append, List·getD-append}
 use lib.Seq.{getD-at}
 use borrow.Author.Tests.{lt-ltb, le-ltb}
@@ -26,18 +26,24 @@ use Rattle.memory.specs.Marks.{noMarks}
 use Rattle.store.specs.Storing as Storing
 use Rattle.store.specs.Storing.{State, state, fresh, among, place, intern, nothing}
 use Rattle.store.proofs.Places.{place-within, place-hit, place-old, among-no}
-use Rattle.text.specs.Reading.{is, then, tab, ended, digitOf, nameField, nameFrom, starts}
+use Rattle.origins.specs.Fields.{lineEnd, originText}
+use Rattle.origins.proofs.Ending.{end-lf, end-field}
+use Rattle.store.specs.Origins.{originOf}
+use Rattle.text.specs.Reading.{Read, is, then, tab, ended, digitOf, decimal, hex, nameField, nameFrom, starts}
 use Rattle.text.specs.Writing.{inDecimal, inHex, line}
 use Rattle.text.specs.Lines as Lines
 use Rattle.text.specs.Lines.{goes, lines, afterLine, none}
 use Rattle.text.proofs.Lining.{no-line, next-line}
 use Rattle.listing.proofs.Shortening.{listing-shortens}
-use Rattle.text.proofs.RoundTrip.{decimal-field, hex-field}
+use Rattle.text.proofs.RoundTrip.{decimal-reads, decimal-field, hex-reads, hex-field}
 use Rattle.listing.specs.Listings.{Swap, Known, known, stored, formed, nodeLine, listingLine, accepted, rooted, last, whole, listing}
 use Rattle.spelling.specs.Names.{functionNames, prefixNames, infixNames, named}
-use Rattle.node_lines.specs.NodeLines.{childField, numberFields, variableFields, cellFields, functionFields, prefixFields, infixFields, fieldsOf, nodeFields}
-use Rattle.writing.specs.Order.{finished, order, leafFields, lineFields, text, textOf}
+use Rattle.node_lines.specs.NodeLines.{childBy, childField, numberFields, variableFields, cellFields, functionFields, prefixFields, infixFields, fieldsOf, piLine, lineBy, nodeFields}
+use Rattle.writing.specs.Order.{finished, order, lineFields, text, textOf}
+use Rattle.writing.specs.Origins.{tracedLine, tracedText, tracedTextOf}
 use Rattle.writing.specs.Ordering.{KidsIn, Laid, empty, more}
+use Rattle.writing.proofs.LineParts.{headOf, childText, tailOf, head-no-s, plain-splits, traced-splits}
+use Rattle.writing.proofs.FirstLine.{origin-few}
 use Rattle.writing.proofs.Orders.{all-is, true-not-false, once-new, finished-laid, not-yet}
 
 -- ---- names
@@ -63,94 +69,81 @@ infix-named InfixOperator.Star rest = refl
 infix-named InfixOperator.Slash rest = refl
 infix-named InfixOperator.Caret rest = refl
 
--- ---- the bytes of a line
-
--- the first byte of a line, and what comes after it
-abbrev headOf : Tree → ℕ
-headOf (leaf (number z)) = 110
-headOf (leaf pi) = 112
-headOf (leaf (variable v)) = 118
-headOf (leaf (cell r i)) = 109
-headOf (functionCall f t) = 102
-headOf (prefixed o t) = 117
-headOf (infixed o l r) = 98
-
-abbrev childText : (all : List Tree) → Tree → List ℕ
-childText all c = inDecimal (place (identical c) all)
-
-abbrev tailOf : (all : List Tree) → Tree → List ℕ → List ℕ
-tailOf all (leaf (number z)) rest = 9 ∷ (inHex (bitsOf (z .re)) ++ 9 ∷ (inHex (bitsOf (z .im)) ++ 10 ∷ rest))
-tailOf all (leaf pi) rest = 10 ∷ rest
-tailOf all (leaf (variable v)) rest = 9 ∷ (inDecimal v ++ 10 ∷ rest)
-tailOf all (leaf (cell r i)) rest = 9 ∷ (inDecimal r ++ 9 ∷ (inDecimal i ++ 10 ∷ rest))
-tailOf all (functionCall f t) rest = 9 ∷ (named functionNames (functionCode f) ++ 9 ∷ (childText all t ++ 10 ∷ rest))
-tailOf all (prefixed o t) rest = 9 ∷ (named prefixNames (prefixCode o) ++ 9 ∷ (childText all t ++ 10 ∷ rest))
-tailOf all (infixed o l r) rest = 9 ∷ (named infixNames (infixCode o) ++ 9 ∷ (childText all l ++ 9 ∷ (childText all r ++ 10 ∷ rest)))
-
-head-no-s : (t : Tree) → eqb (headOf t) 115 ≡ false
-head-no-s (leaf (number z)) = refl
-head-no-s (leaf pi) = refl
-head-no-s (leaf (variable v)) = refl
-head-no-s (leaf (cell r i)) = refl
-head-no-s (functionCall f t) = refl
-head-no-s (prefixed o t) = refl
-head-no-s (infixed o l r) = refl
-
 -- ---- operands
 
 abbrev pub Propers : List Tree → Type 0
 Propers ts = (k : ℕ) → k < length ts → Proper (getD ts k (leaf pi))
 
+-- what ends a line after its last field: a byte that is no digit, and all up to the next line
+pub record Closes (after rest : List ℕ) : Type 0 where
+  pub stop : ℕ
+  pub behind : List ℕ
+  pub starts-so : after ≡ stop ∷ behind
+  pub no-digit : 10 ≤ digitOf stop
+  pub closes : (x : ℕ) → lineEnd (is x after) ≡ is x rest
+
+no-tab : 10 ≤ digitOf 9
+unfolding digitOf
+no-tab = omega arith
+
+no-lf : 10 ≤ digitOf 10
+unfolding digitOf
+no-lf = omega arith
+
+plain-closes : (rest : List ℕ) → Closes (10 ∷ rest) rest
+plain-closes rest = record { stop = 10; behind = rest; starts-so = refl; no-digit = no-lf; closes = λ x. end-lf x rest }
+
+traced-closes : (o : ℕ) (rest : List ℕ) → o ≤ 1024 → Closes (9 ∷ (originText o ++ (10 ∷ rest))) rest
+traced-closes o rest h = record { stop = 9; behind = originText o ++ (10 ∷ rest); starts-so = refl; no-digit = no-tab; closes = λ x. end-field x o rest h }
+
+module _ {after rest : List ℕ} (c : Closes after rest) where
+  last-decimal : (limit n : ℕ) → n < limit → lineEnd (decimal limit (inDecimal n ++ after)) ≡ is n rest
+  last-decimal limit n h =
+      let d = decimal-reads limit n (c .stop) (c .behind) h (c .no-digit) in
+      ap lineEnd (rw (← c .starts-so) at d) ∙ c .closes n
+
+  last-hex : (n : ℕ) → n < 2 ^ 64 → lineEnd (hex (inHex n ++ after)) ≡ is n rest
+  last-hex n h = ap lineEnd (hex-reads n after h) ∙ c .closes n
+
 module _ (done later : List Tree) (propers : Propers done) where
-  child-reads : (stop : ℕ) (c : Tree) (rest : List ℕ) → 10 ≤ digitOf stop → among done c ≡ true → Proper c
-      → childField stop done (inDecimal (place (identical c) (done ++ later)) ++ stop ∷ rest) ≡ is c rest
-  unfolding childField then
-  child-reads stop c rest d a p =
+  -- an operand's number reads as its tree, where numbers read at all
+  child-reads : (end : Read ℕ → Read ℕ) (c : Tree) (after rest : List ℕ) → ((i : ℕ) → i < length done → end (decimal (length done) (inDecimal i ++ after)) ≡ is i rest)
+      → among done c ≡ true → Proper c → childBy end done (childText (done ++ later) c ++ after) ≡ is c rest
+  unfolding childBy then
+  child-reads end c after rest f a p =
       ⊎-elim (λ z. true-not-false (sym a ∙ among-no done c z))
       (λ o. let e = place-old (identical c) done later o in
       let t = identical-same c (getD done (place (identical c) done) (leaf pi)) p (propers (place (identical c) done) o) (place-hit (identical c) done o) in
-      rw (e, decimal-field stop (length done) (place (identical c) done) rest o d, ← t))
+      rw (e, f (place (identical c) done) o, ← t))
       (eq-or-lt-of-le (place-within (identical c) done))
 
-  line-splits : (t : Tree) (rest : List ℕ) → line (lineFields (done ++ later) t) ++ rest ≡ headOf t ∷ tailOf (done ++ later) t rest
-  unfolding line lineFields leafFields
-  line-splits (leaf (number z)) rest = simp append-assoc
-  line-splits (leaf pi) rest = refl
-  line-splits (leaf (variable v)) rest = simp append-assoc
-  line-splits (leaf (cell r i)) rest = simp append-assoc
-  line-splits (functionCall f t) rest = simp append-assoc
-  line-splits (prefixed o t) rest = simp append-assoc
-  line-splits (infixed o l r) rest = simp append-assoc
+  first-child : (c : Tree) (rest : List ℕ) → among done c ≡ true → Proper c → childField 9 done (childText (done ++ later) c ++ 9 ∷ rest) ≡ is c rest
+  first-child c rest = child-reads (ended 9) c (9 ∷ rest) rest λ i o. decimal-field 9 (length done) i rest o no-tab
 
-  no-tab : 10 ≤ digitOf 9
-  unfolding digitOf
-  no-tab = omega arith
+  last-child : (c : Tree) {after rest : List ℕ} → Closes after rest → among done c ≡ true → Proper c → childBy lineEnd done (childText (done ++ later) c ++ after) ≡ is c rest
+  last-child c {after} {rest} e = child-reads lineEnd c after rest λ i o. last-decimal e (length done) i o
 
-  no-lf : 10 ≤ digitOf 10
-  unfolding digitOf
-  no-lf = omega arith
-
-  line-reads : (t : Tree) (rest : List ℕ) → KidsIn done t → Proper t → nodeFields done (headOf t) (tailOf (done ++ later) t rest) ≡ is t rest
-  unfolding nodeFields fieldsOf numberFields variableFields cellFields functionFields prefixFields infixFields then ended
-  line-reads (leaf (number z)) rest k p =
+  line-reads : (t : Tree) {after rest : List ℕ} → Closes after rest → KidsIn done t → Proper t → nodeFields done (headOf t) (tailOf (done ++ later) t after) ≡ is t rest
+  unfolding lineBy piLine fieldsOf numberFields variableFields cellFields functionFields prefixFields infixFields then ended
+  line-reads (leaf (number z)) {after} {rest} e k p =
       rw (
-        hex-field 9 (bitsOf (z .re)) (inHex (bitsOf (z .im)) ++ 10 ∷ rest) (bits-below (z .re) (p .re)),
-        hex-field 10 (bitsOf (z .im)) rest (bits-below (z .im) (p .im)),
+        hex-field 9 (bitsOf (z .re)) (inHex (bitsOf (z .im)) ++ after) (bits-below (z .re) (p .re)),
+        last-hex e (bitsOf (z .im)) (bits-below (z .im) (p .im)),
         double-back (z .re) (p .re),
         double-back (z .im) (p .im),
       )
-  line-reads (leaf pi) rest k p = refl
-  line-reads (leaf (variable v)) rest k p = rw (decimal-field 10 65536 v rest p no-lf)
-  line-reads (leaf (cell r i)) rest k p = rw (decimal-field 9 65536 r (inDecimal i ++ 10 ∷ rest) (p .0) no-tab, decimal-field 10 4294967296 i rest (p .1) no-lf)
-  line-reads (functionCall f t) rest k p =
-      rw (function-named f (childText (done ++ later) t ++ 10 ∷ rest), child-reads 10 t rest no-lf (all-is done t k) p, function-back f)
-  line-reads (prefixed o t) rest k p =
-      rw (prefix-named o (childText (done ++ later) t ++ 10 ∷ rest), child-reads 10 t rest no-lf (all-is done t k) p, prefix-back o)
-  line-reads (infixed o l r) rest k p =
+  line-reads (leaf pi) e k p = rw (e .closes 0)
+  line-reads (leaf (variable v)) e k p = rw (last-decimal e 65536 v p)
+  line-reads (leaf (cell r i)) {after} e k p = rw (decimal-field 9 65536 r (inDecimal i ++ after) (p .0) no-tab, last-decimal e 4294967296 i (p .1))
+  line-reads (functionCall f t) {after} e k p =
+      rw (function-named f (childText (done ++ later) t ++ after), last-child t e (all-is done t k) p, function-back f)
+  line-reads (prefixed o t) {after} e k p =
+      rw (prefix-named o (childText (done ++ later) t ++ after), last-child t e (all-is done t k) p, prefix-back o)
+  line-reads (infixed o l r) {after} e k p =
       rw (
-        infix-named o (childText (done ++ later) l ++ 9 ∷ (childText (done ++ later) r ++ 10 ∷ rest)),
-        child-reads 9 l (childText (done ++ later) r ++ 10 ∷ rest) no-tab (all-is done l (k .0)) (p .0),
-        child-reads 10 r rest no-lf (all-is done r (k .1)) (p .1),
+        infix-named o (childText (done ++ later) l ++ 9 ∷ (childText (done ++ later) r ++ after)),
+        first-child l (childText (done ++ later) r ++ after) (all-is done l (k .0)) (p .0),
+        last-child r e (all-is done r (k .1)) (p .1),
         infix-back o,
       )
 
@@ -175,11 +168,11 @@ unfolding intern
 stores room done t n h =
     rw (n .new, le-ltb largest (size t) (n .isLimited .sized), le-ltb deepest (depth t) (n .isLimited .shallow), lt-ltb (length done) room h)
 
-takes : (substituting : Bool) (room : ℕ) (done later : List Tree) (t : Tree) (rest : List ℕ) → Propers done → Next done t → length done < 1024 → length done < room
-    → listingLine substituting (knownOf room done) (headOf t) (tailOf (done ++ later) t rest) ≡ goes (knownOf room (done ++ (t ∷ []))) rest
+takes : (substituting : Bool) (room : ℕ) (done later : List Tree) (t : Tree) {after rest : List ℕ} → Closes after rest → Propers done → Next done t → length done < 1024 → length done < room
+    → listingLine substituting (knownOf room done) (headOf t) (tailOf (done ++ later) t after) ≡ goes (knownOf room (done ++ (t ∷ []))) rest
 unfolding listingLine nodeLine none formed stored
-takes substituting room done later t rest p n few room-left =
-    rw (head-no-s t, lt-ltb (length done) 1024 few, line-reads done later p t rest (n .kids) (n .isProper), stores room done t n room-left)
+takes substituting room done later t e p n few room-left =
+    rw (head-no-s t, lt-ltb (length done) 1024 few, line-reads done later p t e (n .kids) (n .isProper), stores room done t n room-left)
 
 -- ---- all lines
 
@@ -202,19 +195,54 @@ propers-snoc ts t ps p k h = go (decLt k (length ts))
     go (yes y) = rw (List·getD-append ts (t ∷ []) (leaf pi) k y) (ps k y)
     go (no n) = let z : k ≡ length ts = omega (arith, length-append ts (t ∷ [])) in rw (z, getD-at ts t [] (leaf pi) (length ts) refl) p
 
-all-read : (substituting : Bool) (room : ℕ) (later done : List Tree) → Propers done → Follow done later → length (done ++ later) ≤ 1024 → length (done ++ later) ≤ room
-    → lines (listingLine substituting) (knownOf room done) (text (done ++ later) later) ≡ Lines.read (knownOf room (done ++ later))
-unfolding afterLine text
-all-read substituting room [] done ps f few r = rw (append-nil done) (no-line (listingLine substituting) (listing-shortens substituting) (knownOf room done))
-all-read substituting room (t ∷ later) done ps f few r =
-    let l = length-append done (t ∷ later) in
-    let a : (done ++ (t ∷ [])) ++ later ≡ done ++ (t ∷ later) = append-assoc done (t ∷ []) later in
-    rw (
-      line-splits done (t ∷ later) ps t (text (done ++ (t ∷ later)) later),
-      next-line (listingLine substituting) (listing-shortens substituting) (knownOf room done) (headOf t) (tailOf (done ++ (t ∷ later)) t (text (done ++ (t ∷ later)) later)),
-      takes substituting room done (t ∷ later) t (text (done ++ (t ∷ later)) later) ps (f .0) (omega (arith, l, few)) (omega (arith, l, r)),
-    )
-    (rw a at (all-read substituting room later (done ++ (t ∷ [])) (propers-snoc done t ps (f .0 .isProper)) (f .1) (rw a (omega (arith, few))) (rw a (omega (arith, r)))))
+-- a line's bytes and the next lines, as the first byte, the fields and what ends the line
+record Split (all : List Tree) (each : Tree → List ℕ) (t : Tree) (rest : List ℕ) : Type 0 where
+  pub after : List ℕ
+  pub splits : each t ++ rest ≡ headOf t ∷ tailOf all t after
+  pub ends : Closes after rest
+
+unfoldable joined : (each : Tree → List ℕ) → List Tree → List ℕ
+joined each [] = []
+joined each (t ∷ ts) = each t ++ joined each ts
+
+module _ (substituting : Bool) (room : ℕ) (all : List Tree) (each : Tree → List ℕ) (split : (t : Tree) (rest : List ℕ) → Split all each t rest) (few : length all ≤ 1024) (r : length all ≤ room) where
+  all-read : (later done : List Tree) → done ++ later ≡ all → Propers done → Follow done later
+      → lines (listingLine substituting) (knownOf room done) (joined each later) ≡ Lines.read (knownOf room all)
+  unfolding afterLine joined
+  all-read [] done e ps f = rw (← e, append-nil done) (no-line (listingLine substituting) (listing-shortens substituting) (knownOf room done))
+  all-read (t ∷ later) done e ps f =
+      let l = ap length (sym e) ∙ length-append done (t ∷ later) in
+      let a : (done ++ (t ∷ [])) ++ later ≡ all = append-assoc done (t ∷ []) later ∙ e in
+      let s = split t (joined each later) in
+      let here = takes substituting room done (t ∷ later) t (s .ends) ps (f .0) (omega (arith, l, few)) (omega (arith, l, r)) in
+      rw (
+        s .splits,
+        next-line (listingLine substituting) (listing-shortens substituting) (knownOf room done) (headOf t) (tailOf all t (s .after)),
+        rw e at here,
+      )
+      (all-read later (done ++ (t ∷ [])) a (propers-snoc done t ps (f .0 .isProper)) (f .1))
+
+-- a listing without origins, and one with them
+
+plain-split : (all : List Tree) (t : Tree) (rest : List ℕ) → Split all (λ t. line (lineFields all t)) t rest
+plain-split all t rest = record { after = 10 ∷ rest; splits = plain-splits all t rest; ends = plain-closes rest }
+
+traced-split : (given : List Tree) → length given ≤ 1024 → (all : List Tree) (t : Tree) (rest : List ℕ) → Split all (tracedLine given all) t rest
+traced-split given h all t rest = record {
+  after = 9 ∷ (originText (originOf given t) ++ (10 ∷ rest));
+  splits = traced-splits given all t rest;
+  ends = traced-closes (originOf given t) rest (omega (arith, h, origin-few given t));
+}
+
+text-joined : (all ts : List Tree) → text all ts ≡ joined (λ t. line (lineFields all t)) ts
+unfolding text joined
+text-joined all [] = refl
+text-joined all (t ∷ ts) = ap (λ (l : List ℕ). line (lineFields all t) ++ l) (text-joined all ts)
+
+traced-joined : (given all ts : List Tree) → tracedText given all ts ≡ joined (tracedLine given all) ts
+unfolding tracedText joined
+traced-joined given all [] = refl
+traced-joined given all (t ∷ ts) = ap (λ (l : List ℕ). tracedLine given all t ++ l) (traced-joined given all ts)
 
 -- ---- the root is the last line
 
@@ -244,16 +272,28 @@ rooted-last (u ∷ ts) t σ = rw (last-is t u ts)
 
 -- ---- the theorem
 
+module _ (t : Tree) (p : Proper t) (l : Limited t) (substituting : Bool) (room : ℕ) (few : length (order t) ≤ 1024) (r : length (order t) ≤ room) where
+  reads : (each : Tree → List ℕ) → ((u : Tree) (rest : List ℕ) → Split (order t) each u rest)
+      → listing substituting (joined each (order t)) (fresh room 0) ≡ accepted t [] (storeOf room (order t))
+  unfolding listing whole
+  reads each split =
+      let f = laid-follow (finished-laid t [] empty p l .0) in
+      let e = all-read substituting room (order t) each split few r (order t) [] refl (λ k h. absurd (omega arith)) f in
+      let o = order-ends t p in
+      ap whole e ∙ ap (λ ts. rooted ts [] (storeOf room (order t))) (o .is-order) ∙ rooted-last (o .before) t (storeOf room (order t))
+
 -- "A listing written out reads back to the same expression, given as much work memory": where the written listing has at most 1024 lines, and there is
 -- room for its trees, reading it is accepted; the root is the tree, and the store holds its subtrees in the written order.
 pub reads-back : (t : Tree) → Proper t → Limited t → (substituting : Bool) (room : ℕ) → length (order t) ≤ 1024 → length (order t) ≤ room
     → listing substituting (textOf t) (fresh room 0) ≡ accepted t [] (storeOf room (order t))
-unfolding listing whole
 reads-back t p l substituting room few r =
-    let f = laid-follow (finished-laid t [] empty p l .0) in
-    let e = all-read substituting room (order t) [] (λ k h. absurd (omega arith)) f few r in
-    let o = order-ends t p in
-    ap whole e ∙ ap (λ ts. rooted ts [] (storeOf room (order t))) (o .is-order) ∙ rooted-last (o .before) t (storeOf room (order t))
+    rw (text-joined (order t) (order t)) (reads t p l substituting room few r (λ u. line (lineFields (order t) u)) (plain-split (order t)))
+
+-- so does one with origins, whatever lines they name
+pub reads-back-traced : (given : List Tree) → length given ≤ 1024 → (t : Tree) → Proper t → Limited t → (substituting : Bool) (room : ℕ) → length (order t) ≤ 1024 → length (order t) ≤ room
+    → listing substituting (tracedTextOf given t) (fresh room 0) ≡ accepted t [] (storeOf room (order t))
+reads-back-traced given h t p l substituting room few r =
+    rw (traced-joined given (order t) (order t)) (reads t p l substituting room few r (tracedLine given (order t)) (traced-split given h (order t)))
 
 -- so whatever is read of it is written as the same bytes
 pub writes-again : (t : Tree) → Proper t → Limited t → (substituting : Bool) (room : ℕ) → length (order t) ≤ 1024 → length (order t) ≤ room

@@ -106,14 +106,18 @@ module _ {m : Memory} {n : ℕ} (h : Holds m n) {rows : Memory} {table : List �
   fields-are (Expression.Prefix o c) w a = rw (mark-of c w (all-is _ (treeAt m c) (a .1)))
   fields-are (Expression.Infix o c d) w a = rw (mark-of c (w .0) (all-is _ (treeAt m c) (a .1 .0)), mark-of d (w .1) (all-is _ (treeAt m d) (a .1 .1)))
 
-  line-is : (i : ℕ) → i < count → lineText (lineAt rows table i) ≡ line (lineFields (lineTrees m table count) (treeAt m (getD table i 0)))
-  unfolding lineAt lineText
-  line-is i o =
+  pub line-fields : (i : ℕ) → i < count → textFields (lineAt rows table i) ≡ lineFields (lineTrees m table count) (treeAt m (getD table i 0))
+  unfolding lineAt
+  line-fields i o =
       let node = getD table i 0 in
       let p = read-node h {r = expressionAt m node} node (l .nodes i o) refl in
       let a = subst (AllIn (lineTrees m table count)) (at-upTo count (λ k. treeAt m (getD table k 0)) (leaf pi) i o) (laid-all (l .laid) i (rw lines-long o)) in
       let w = within-more node n (expressionAt m node) (omega (arith, l .nodes i o)) (p .0) in
-      rw (expression-kept m rows (l .same) node) (ap line (sym (fields-are (expressionAt m node) w (subst (AllIn (lineTrees m table count)) (sym (p .1)) a)) ∙ ap (lineFields (lineTrees m table count)) (p .1)))
+      rw (expression-kept m rows (l .same) node) (sym (fields-are (expressionAt m node) w (subst (AllIn (lineTrees m table count)) (sym (p .1)) a)) ∙ ap (lineFields (lineTrees m table count)) (p .1))
+
+  line-is : (i : ℕ) → i < count → lineText (lineAt rows table i) ≡ line (lineFields (lineTrees m table count) (treeAt m (getD table i 0)))
+  unfolding lineText
+  line-is i o = ap line (line-fields i o)
 
   first-lines : (i : ℕ) → i ≤ count → linesText rows table i ≡ text (lineTrees m table count) (lineTrees m table i)
   unfolding linesText text upTo
@@ -138,7 +142,7 @@ none-listed m n table h o = record {
 }
 
 module _ {m : Memory} {n : ℕ} (h : Holds m n) {root count : ℕ} {rows : Memory} {table₀ table : List ℕ} (inside : root < n) (v : Visited m n table₀ root noChild 0 count rows table) where
-  order-is : lineTrees m table count ≡ order (treeAt m root)
+  pub order-is : lineTrees m table count ≡ order (treeAt m root)
   unfolding visited upTo
   order-is = v .done ∙ rw (lt-ltb root noChild (omega (arith, inside, room-small h)))
 

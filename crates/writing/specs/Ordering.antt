@@ -9,15 +9,20 @@ use Rattle.expression.specs.Trees.{Tree, leaf, number, pi, variable, cell, func
 use Rattle.expression.specs.Limits.{Limited, Proper}
 use Rattle.store.specs.Storing.{among}
 use Rattle.expression.specs.declared.node.Expression.{Expression}
-use Rattle.store.specs.Memory.{Memory, columns, withLink, expressionAt, treeAt}
-use Rattle.store.specs.Held.{Holds}
+use Rattle.origins.specs.Fields.{originText}
+use Rattle.store.specs.Memory.{Memory, columns, withLink, expressionAt, originAt, treeAt}
+use Rattle.store.specs.Desk.{count}
+use Rattle.store.specs.Held.{Holds, Sound}
+use Rattle.store.specs.Tracing.{Traced}
 use Rattle.expression.specs.declared.node.Operands.{Operands}
 use Rattle.expression.specs.Nodes.{operandsOf}
 use Rattle.memory.specs.Layout.{tableWords}
 use Rattle.writing.specs.declared.order.Children.{Children}
 use Rattle.writing.specs.declared.Written.{Written}
 use Rattle.writing.specs.Order.{finished, leafFields, written}
+use Rattle.writing.specs.Origins.{writtenTraced}
 use Rattle.spelling.specs.Names.{functionName, prefixName, infixName}
+use Rattle.text.specs.Reading.{tab, lf}
 use Rattle.text.specs.Writing.{inDecimal, line}
 use Rattle.listing.specs.Tables.{lineTrees, moved}
 
@@ -128,3 +133,21 @@ Writes m root r out out′ = (n : ℕ) → Holds m n → root < n → (r, out′
 -- and leaves the rows as they were, but for the links
 abbrev pub KeepsRows : (m : Memory) (root : ℕ) (m′ : Memory) → Type 0
 KeepsRows m root m′ = (n : ℕ) → Holds m n → root < n → m′ ≡ columns (m .tag) (m .first) (m .second) (m′ .link)
+
+-- ---- the same with origins, which stand in the tags
+
+-- what stands in place of a line's LF
+abbrev pub originEnd : ℕ → List ℕ
+originEnd origin = tab ∷ (originText origin ++ (lf ∷ []))
+
+unfoldable pub tracedText : (origin : ℕ) → Expression → List ℕ
+tracedText origin e = line (textFields e ++ (originText origin ∷ []))
+
+unfoldable pub tracedLinesText : (rows : Memory) (table : List ℕ) → ℕ → List ℕ
+tracedLinesText rows table zero = []
+tracedLinesText rows table (suc i) = tracedLinesText rows table i ++ tracedText (originAt rows (getD table i 0)) (lineAt rows table i)
+
+abbrev pub WritesTraced : (m : Memory) (root : ℕ) (r : Written) (out out′ : List ℕ) → Type 0
+WritesTraced m root r out out′ =
+    (given : List Tree) (desk : List ℕ) → Sound (record { rows = m; desk = desk }) → Traced given (record { rows = m; desk = desk }) → root < count desk
+    → (r, out′) ≡ writtenTraced given (treeAt m root) out

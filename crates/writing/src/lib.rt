@@ -6,7 +6,7 @@ ghost use Rattle.memory.specs.Layout.{tableWords};
 ghost use Rattle.store.specs.Memory.{memory};
 ghost use Rattle.listing.specs.Tables.{moved};
 ghost use Rattle.text.specs.Put.{Put};
-ghost use Rattle.writing.specs.Ordering.{lineAt, linesText, Writes, KeepsRows};
+ghost use Rattle.writing.specs.Ordering.{lineAt, linesText, Writes, KeepsRows, WritesTraced};
 use expression::node::Expression;
 use expression::node::Operands;
 use expression::node::operands_of;
@@ -21,9 +21,12 @@ use order::visit;
 use store::reading::expression_at;
 use store::reading::fields_at;
 use store::words::link_at;
+use traced::traced_length;
+use traced::write_traced_lines;
 
 pub mod line;
 mod order;
+mod traced;
 
 // What writing answers: how many bytes stand at the start of the output, or a refusal.
 pub enum Written {
@@ -121,4 +124,25 @@ pub fn write_listing(
         return Written::Refused(Refusal::OutRoom);
     }
     Written::Bytes(write_lines(store, table, count, out))
+}
+
+// The same with the origins of the nodes as a last field of each line.
+pub fn write_origins(
+    store: &mut [[u64; 4]],
+    root: usize,
+    table: &mut [u64],
+    out: &mut [u8],
+) -> Written
+    requires { ⌜ tableWords ≤ length (now table) ⌝ }
+    ensures { λ r. ⌜ WritesTraced (memory (now (store .entry))) root r (now (out .entry)) (now (out .exit)) ⌝ }
+{
+    let lines = visit(store, table, root, NONE, 0);
+    if 1024 < lines {
+        return Written::Refused(Refusal::LongList(0));
+    }
+    let needed = traced_length(store, table, lines);
+    if out.len() < needed {
+        return Written::Refused(Refusal::OutRoom);
+    }
+    Written::Bytes(write_traced_lines(store, table, lines, out))
 }

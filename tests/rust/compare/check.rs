@@ -2,6 +2,7 @@
 use crate::cases;
 use crate::drawing::{ROWS, among_others, out_length, question, rearranged, rows_before, rows_text};
 use crate::model::{Hits, add_hits, all_hit, print_hits};
+use crate::origins::origins;
 use crate::port;
 use crate::question::{Answer, Kind, Question};
 use crate::random::Random;
@@ -26,6 +27,8 @@ pub struct Tally {
     zeros: u64,
     marked: u64,   // rows that had to be marked
     unmarked: u64, // and those that had not, beside them
+    traced: u64,   // lines that had to have a line as their origin
+    made: u64,     // and those that had to have none
     differ: u64,
     hits: Hits, // of the simplifier's arms
 }
@@ -74,6 +77,7 @@ impl Tally {
         }
         self.compare_played(q, &got);
         self.count_marks(q, &got);
+        self.count_origins(q, &got);
         got.bytes
     }
 
@@ -82,6 +86,15 @@ impl Tally {
         if marked > 0 {
             self.marked += marked as u64;
             self.unmarked += (Rows::read(&q.sheet).count - marked) as u64;
+        }
+    }
+
+    fn count_origins(&mut self, q: &Question, got: &Answer) {
+        if q.traces() && got.number == 0 {
+            let all = origins(&q.listing, &String::from_utf8_lossy(&got.bytes));
+            let from_lines = all.iter().flatten().count();
+            self.traced += from_lines as u64;
+            self.made += (all.len() - from_lines) as u64;
         }
     }
 
@@ -235,6 +248,7 @@ impl Tally {
         let corner: u64 = self.cases.iter().filter(|((_, o), _)| o.starts_with("not")).map(|(_, n)| n).sum();
         println!("{:>10}  calls compared, {} of them with a zero of the other sign", self.compared, self.zeros);
         println!("{:>10}  rows marked, beside {} that were not", self.marked, self.unmarked);
+        println!("{:>10}  lines of results that a line gave, beside {} that were made", self.traced, self.made);
         println!("{cases:>10}  cases, {} compared to the end, {corner} not", cases - corner);
         println!("{:>10}  differ", self.differ);
     }

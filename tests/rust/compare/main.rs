@@ -9,6 +9,7 @@ mod drawing;
 mod expected;
 mod forest;
 mod model;
+mod origins;
 mod port;
 mod question;
 mod random;

@@ -1,5 +1,6 @@
 // The proved port, called as C calls it. Around each lent slice stand words that have to stay as they are.
-use crate::question::{Answer, Kind, NEED, Question};
+use crate::origins::{traced, with_fields};
+use crate::question::{Answer, Kind, NEED, OUT_ROOM, Question};
 use std::collections::BTreeSet;
 
 pub mod tape;
@@ -29,6 +30,16 @@ unsafe extern "C" {
         store: *mut [u64; 4], rows: usize, desk: *mut u64, table: *mut u64, answer: *mut u64, marks: *mut u8,
     ) -> u64;
     fn findavoreb_simplify_marked(
+        listing: *const u8, listing_length: usize, sheet: *const u8, sheet_length: usize, limit: u64,
+        store: *mut [u64; 4], rows: usize, desk: *mut u64, table: *mut u64,
+        out: *mut u8, out_length: usize, answer: *mut u64, marks: *mut u8,
+    ) -> u64;
+    fn findavoreb_substitute_origins(
+        listing: *const u8, listing_length: usize,
+        store: *mut [u64; 4], rows: usize, desk: *mut u64, table: *mut u64,
+        out: *mut u8, out_length: usize, answer: *mut u64,
+    ) -> u64;
+    fn findavoreb_simplify_origins(
         listing: *const u8, listing_length: usize, sheet: *const u8, sheet_length: usize, limit: u64,
         store: *mut [u64; 4], rows: usize, desk: *mut u64, table: *mut u64,
         out: *mut u8, out_length: usize, answer: *mut u64, marks: *mut u8,
@@ -129,28 +140,41 @@ impl Work {
     }
 }
 
-// Rust's empty slices have no address of their own; all the same it is not null. With marks where some are lent.
+// How a question is asked: as it is, with marks, or with origins and, where there can be any, marks.
+enum Way<'a> {
+    Plain,
+    Marked(&'a mut Marks),
+    Traced(&'a mut Marks),
+}
+
+// Rust's empty slices have no address of their own; all the same it is not null.
 #[rustfmt::skip]
-fn call(q: &Question, work: &mut Work, paper: &mut Paper, answer: &mut Words, marks: Option<&mut Marks>) -> u64 {
+fn call(q: &Question, work: &mut Work, paper: &mut Paper, answer: &mut Words, way: Way) -> u64 {
     let (text, length) = (q.listing.as_ptr(), q.listing.len());
     let (store, rows) = (work.store.lent().as_mut_ptr().cast(), q.rows);
     let (desk, table) = (work.desk.lent().as_mut_ptr(), work.table.lent().as_mut_ptr());
     let (sheet, sheet_length) = (q.sheet.as_ptr(), q.sheet.len());
     let (out, out_length, answer) = (paper.lent().as_mut_ptr(), q.out, answer.lent().as_mut_ptr());
     unsafe {
-        match (q.kind, marks) {
-            (Kind::Evaluate, None) => {
+        match (q.kind, way) {
+            (Kind::Evaluate, Way::Plain) => {
                 findavoreb_evaluate(text, length, sheet, sheet_length, store, rows, desk, table, answer)
             }
-            (Kind::Evaluate, Some(marks)) => findavoreb_evaluate_marked(
+            (Kind::Evaluate, Way::Marked(marks) | Way::Traced(marks)) => findavoreb_evaluate_marked(
                 text, length, sheet, sheet_length, store, rows, desk, table, answer, marks.lent(),
             ),
-            (Kind::Simplify(limit), None) => findavoreb_simplify(
+            (Kind::Simplify(limit), Way::Plain) => findavoreb_simplify(
                 text, length, sheet, sheet_length, limit, store, rows, desk, table, out, out_length, answer,
             ),
-            (Kind::Simplify(limit), Some(marks)) => findavoreb_simplify_marked(
+            (Kind::Simplify(limit), Way::Marked(marks)) => findavoreb_simplify_marked(
                 text, length, sheet, sheet_length, limit, store, rows, desk, table, out, out_length, answer, marks.lent(),
             ),
+            (Kind::Simplify(limit), Way::Traced(marks)) => findavoreb_simplify_origins(
+                text, length, sheet, sheet_length, limit, store, rows, desk, table, out, out_length, answer, marks.lent(),
+            ),
+            (Kind::Substitute, Way::Traced(_)) => {
+                findavoreb_substitute_origins(text, length, store, rows, desk, table, out, out_length, answer)
+            }
             (Kind::Substitute, _) => {
                 findavoreb_substitute(text, length, store, rows, desk, table, out, out_length, answer)
             }
@@ -178,23 +202,62 @@ fn answered(number: u64, answer: &mut Words) -> Result<Answer, &'static str> {
     Ok(Answer { number, place, words, ..Answer::default() })
 }
 
-// The answer, or what was wrong about the memory after the call. What can be asked with marks is asked with them too.
+// The answer, or what was wrong about the memory after the call. What can be asked with marks is asked with them too, and what
+// writes a listing with origins. Some are asked again with origins in the listing that is given.
 pub fn ask(q: &Question) -> Result<Answer, &'static str> {
-    let got = ask_once(q, None)?;
+    let got = ask_with_marks(q)?;
+    if let Some(listing) = with_fields(q) {
+        let q = Question { listing, ..q.clone() };
+        if ask_with_marks(&q)? != got {
+            return Err("with origins in the given listing the answer or the output is another one");
+        }
+        look_at_origins(&q, &got)?;
+    } else {
+        look_at_origins(q, &got)?;
+    }
+    Ok(got)
+}
+
+fn ask_with_marks(q: &Question) -> Result<Answer, &'static str> {
+    let got = ask_once(q, Way::Plain)?;
     if !q.marks() {
         return Ok(got);
     }
     let mut marks = Marks::new();
-    if ask_once(q, Some(&mut marks))? != got {
+    if ask_once(q, Way::Marked(&mut marks))? != got {
         return Err("with marks the answer or the output is another one");
     }
     Ok(Answer { marks: marks.rows()?, ..got })
 }
 
-fn ask_once(q: &Question, marks: Option<&mut Marks>) -> Result<Answer, &'static str> {
+fn ask_for_origins(q: &Question) -> Result<Answer, &'static str> {
+    let mut marks = Marks::new();
+    let got = ask_once(q, Way::Traced(&mut marks))?;
+    if q.marks() { Ok(Answer { marks: marks.rows()?, ..got }) } else { Ok(got) }
+}
+
+// With origins the answer is this one, but for the bytes: those of the result with the first line of each tree. With a byte less
+// than they need it is 13, and there are no marks. What is refused without them is refused likewise.
+fn look_at_origins(q: &Question, got: &Answer) -> Result<(), &'static str> {
+    if !q.traces() {
+        return Ok(());
+    }
+    let bytes = if got.number == 0 { traced(&q.listing, &got.bytes) } else { vec![] };
+    let out = if got.number == 0 { bytes.len() } else { q.out };
+    let wanted = Answer { bytes, ..got.clone() };
+    if ask_for_origins(&Question { out, ..q.clone() })? != wanted {
+        return Err("with origins the answer, the marks or the output is another one");
+    }
+    if got.number == 0 && ask_for_origins(&Question { out: out - 1, ..q.clone() })? != Answer::refusal(OUT_ROOM) {
+        return Err("with origins and an output too short the answer is another one");
+    }
+    Ok(())
+}
+
+fn ask_once(q: &Question, way: Way) -> Result<Answer, &'static str> {
     let (mut work, mut answer) = (Work::new(q.rows, q.junk), Words::new(ANSWER, !q.junk));
     let mut paper = Paper::new(if q.writes() { q.out } else { 0 });
-    let number = call(q, &mut work, &mut paper, &mut answer, marks);
+    let number = call(q, &mut work, &mut paper, &mut answer, way);
     if !work.store.is_zero() {
         return Err("the rows are not zero");
     }

@@ -38,6 +38,11 @@ impl Question {
         matches!(self.kind, Kind::Evaluate | Kind::Simplify(_))
     }
 
+    // Whether a listing is written.
+    pub fn traces(&self) -> bool {
+        matches!(self.kind, Kind::Substitute | Kind::Simplify(_))
+    }
+
     pub fn capacity(&self) -> usize {
         self.rows.min(MOST)
     }

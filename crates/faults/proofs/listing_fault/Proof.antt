@@ -12,7 +12,7 @@ listing-fault-spec =
     tie.close
     (tie.spec
     (λ c κs. search needs)
-    (λ c. no-line (λ first _. listingForm first) (c .before .before .before .args .text .now) _ (c .if1 .taken) ∙ rw (c .before .line-start .ensures .1))
+    (λ c. no-line listingForm (c .before .before .before .args .text .now) _ (c .if1 .taken) ∙ rw (c .before .line-start .ensures .1))
     (λ c. search needs)
     (λ c κs. search needs)
-    (λ c. c .listing-line .ensures ∙ a-line (λ first _. listingForm first) (c .before .before .before .before .before .args .text .now) _ (c .before .before .if1 .left) ∙ rw (c .before .before .before .line-start .ensures .1)))
+    (λ c. c .listing-line .ensures ∙ a-line listingForm (c .before .before .before .before .before .args .text .now) _ (c .before .before .if1 .left) ∙ rw (c .before .before .before .line-start .ensures .1)))

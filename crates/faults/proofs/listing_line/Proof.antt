@@ -1,40 +1,26 @@
--- `listing_line` meets its contract: the tests on the first byte pick the form. Assumes nothing.
+-- `listing_line` meets its contract: an s line has a form of its own. Assumes nothing.
 use mathlib.Core.Path.{sym, _∙_}
 use borrow.Author.Tests.{ne-eqb}
-use Rattle.faults.specs.Faulting.{listingForm}
 use borrow.Author.Needs.{needs}
+use Rattle.faults.specs.Faulting.{formWith, listingForm}
 use Rattle.faults.proofs.listing_line.Statement.{statement}
 use Rattle.faults.proofs.listing_line.Tie as tie
 
-pub listing-line-spec : {M : Type 1} → statement M
+returns : tie.Need-returns
+unfolding formWith listingForm
+returns c = c .fields-fault .ensures ∙ sym (rw (c .before .before .if1 .taken))
+
+returns-2 : tie.Need-returns-2
 unfolding listingForm
+returns-2 c = c .node-line .ensures ∙ sym (rw (ne-eqb _ _ (c .before .before .if1 .left), c .before .has-at .ensures))
+
+pub listing-line-spec : {M : Type 1} → statement M
 listing-line-spec =
     tie.close
     (tie.spec
     (λ c. search needs)
     (λ c κs. search needs)
-    (λ c. c .fields-fault .ensures ∙ sym (rw (c .before .before .if1 .taken)))
-    (λ c. search needs)
+    returns
     (λ c κs. search needs)
-    (λ c. c .fields-fault2 .ensures ∙ sym (rw (c .before .before .if2 .taken)))
-    (λ c. search needs)
     (λ c κs. search needs)
-    (λ c. c .fields-fault3 .ensures ∙ sym (rw (c .before .before .if3 .taken)))
-    (λ c. search needs)
-    (λ c κs. search needs)
-    (λ c. c .fields-fault4 .ensures ∙ sym (rw (c .before .before .if4 .taken)))
-    (λ c. search needs)
-    (λ c κs. search needs)
-    (λ c. c .fields-fault5 .ensures ∙ sym (rw (c .before .before .if5 .taken)))
-    (λ c. search needs)
-    (λ c κs. search needs)
-    (λ c. c .fields-fault6 .ensures ∙ sym (rw (c .before .before .if6 .taken)))
-    (λ c. search needs)
-    (λ c κs. search needs)
-    (λ c. c .fields-fault7 .ensures ∙ sym (rw (c .before .before .if7 .taken)))
-    (λ c. search needs)
-    (λ c κs. search needs)
-    (λ c. c .fields-fault8 .ensures ∙ sym (rw (c .before .before .if8 .taken)))
-    (λ c. search needs)
-    (λ c κs. search needs)
-    (λ c. c .fields-fault9 .ensures ∙ sym (rw (ne-eqb _ _ (c .before .before .before .before .before .before .before .before .before .if1 .left), ne-eqb _ _ (c .before .before .before .before .before .before .before .before .if2 .left), ne-eqb _ _ (c .before .before .before .before .before .before .before .if3 .left), ne-eqb _ _ (c .before .before .before .before .before .before .if4 .left), ne-eqb _ _ (c .before .before .before .before .before .if5 .left), ne-eqb _ _ (c .before .before .before .before .if6 .left), ne-eqb _ _ (c .before .before .before .if7 .left), ne-eqb _ _ (c .before .before .if8 .left)))))
+    returns-2)

@@ -1,13 +1,13 @@
 -- `sheet_line` meets its contract: the tests on the first byte and the name pick the form. Assumes nothing.
 use mathlib.Core.Path.{sym, _∙_}
 use borrow.Author.Tests.{ne-eqb}
-use Rattle.faults.specs.Faulting.{sheetForm}
+use Rattle.faults.specs.Faulting.{formWith, sheetForm}
 use borrow.Author.Needs.{needs}
 use Rattle.faults.proofs.sheet_line.Statement.{statement}
 use Rattle.faults.proofs.sheet_line.Tie as tie
 
 pub sheet-line-spec : {M : Type 1} → statement M
-unfolding sheetForm
+unfolding formWith sheetForm
 sheet-line-spec =
     tie.close
     (tie.spec

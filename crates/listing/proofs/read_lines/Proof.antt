@@ -19,15 +19,15 @@ read-lines-spec =
     (tie.spec
     Inv-loop
     μ-loop
-    (λ c. (going-begins _ _ (lent (c .before .before .args .store .now) (c .before .before .args .desk .now)) (c .before .before .args .table .now) (c .before .before .pre .0) (c .before .before .pre .1), same-begins _ _))
+    (λ c. (going-begins _ _ (lent (c .before .before .args .store .now) (c .before .before .args .desk .now)) (c .before .before .args .table .now) (c .before .before .pre .0) (c .before .before .pre .1 .0) (c .before .before .pre .1 .1), same-begins _ _))
     (λ c κs. is-ready (c .before .before .before .before .loop .inv .0) (c .before .before .before .loop-test .taken))
     (λ c. search needs)
     (λ c. search needs)
     (λ c. c .before .before .before .before .before .take-line .kept .1 .1 .0 ∙ c .before .before .before .before .before .before .before .before .before .before .loop .inv .1 .rows)
     (λ c. c .before .before .before .before .before .take-line .kept .1 .1 .1 .1 .0 ∙ c .before .before .before .before .before .before .before .before .before .before .loop .inv .1 .table)
-    (λ c. going-stops (c .before .before .before .before .before .before .before .before .before .before .loop .inv .0) (c .before .before .before .before .before .before .before .before .before .loop-test .taken) (c .before .before .before .before .before .take-line .ensures (c .before .before .before .before .before .before .before .before .before .before .loop .inv .0 .lists)) (c .enum-told .given .1))
-    (λ c. less (c .before .before .before .before .before .before .before .before .before .before .before .loop .inv .0) (c .before .before .before .before .before .before .before .before .before .before .loop-test .taken) (c .before .before .before .before .before .before .take-line .ensures (c .before .before .before .before .before .before .before .before .before .before .before .loop .inv .0 .lists)) (c .before .step .given .1))
-    (λ c. (going-on (c .before .before .before .before .before .before .before .before .before .before .before .loop .inv .0) (c .before .before .before .before .before .before .before .before .before .before .loop-test .taken) (c .before .before .before .before .before .before .take-line .ensures (c .before .before .before .before .before .before .before .before .before .before .before .loop .inv .0 .lists)) (c .before .step .given .1) (c .before .before .before .before .before .before .take-line .kept .1 .1 .1 .1 .0), same-on (c .before .before .before .before .before .before .before .before .before .before .before .loop .inv .1) (c .before .before .before .before .before .before .take-line .kept .1 .1 .0) (c .before .before .before .before .before .before .take-line .kept .1 .1 .1 .1 .0)))
+    (λ c. going-stops (c .before .before .before .before .before .before .before .before .before .before .loop .inv .0) (c .before .before .before .before .before .before .before .before .before .loop-test .taken) (c .before .before .before .before .before .take-line .ensures (c .before .before .before .before .before .before .before .before .before .before .loop .inv .0 .listed)) (c .enum-told .given .1))
+    (λ c. less (c .before .before .before .before .before .before .before .before .before .before .before .loop .inv .0) (c .before .before .before .before .before .before .before .before .before .before .loop-test .taken) (c .before .before .before .before .before .before .take-line .ensures (c .before .before .before .before .before .before .before .before .before .before .before .loop .inv .0 .listed)) (c .before .step .given .1))
+    (λ c. (going-on (c .before .before .before .before .before .before .before .before .before .before .before .loop .inv .0) (c .before .before .before .before .before .before .before .before .before .before .loop-test .taken) (c .before .before .before .before .before .before .take-line .ensures (c .before .before .before .before .before .before .before .before .before .before .before .loop .inv .0 .listed)) (c .before .step .given .1) (c .before .before .before .before .before .before .take-line .kept .1 .1 .1 .1 .0), same-on (c .before .before .before .before .before .before .before .before .before .before .before .loop .inv .1) (c .before .before .before .before .before .before .take-line .kept .1 .1 .0) (c .before .before .before .before .before .before .take-line .kept .1 .1 .1 .1 .0)))
     (λ c. c .before .loop .inv .1 .rows)
     (λ c. c .before .loop .inv .1 .table)
     (λ c. going-ends (c .before .loop .inv .0) (c .loop-test .left)))

@@ -1,4 +1,5 @@
 -- `read_listing` meets its contract. Assumes nothing.
+use Rattle.store.proofs.Tracing.{begun-traced}
 use Rattle.listing.proofs.Whole.{reads-root, reads-refused}
 use borrow.Author.Needs.{needs}
 use Rattle.listing.proofs.read_listing.Statement.{statement}
@@ -9,7 +10,7 @@ read-listing-spec =
     tie.close
     (tie.spec
     (λ c κs. search needs)
-    (λ c κs. (c .before .before .before .before .before .before .before .pre, c .before .before .before .start .ensures _ .sound))
+    (λ c κs. (c .before .before .before .before .before .before .before .pre, (c .before .before .before .start .ensures _ .sound, begun-traced (c .before .before .before .start .ensures _))))
     (λ c. search needs)
     (λ c κs. search needs)
     (λ c. search needs)

@@ -7,14 +7,14 @@ use Rattle.text.specs.Reading.{then}
 use Rattle.text.proofs.Running.{inside, ended-is, ended-other}
 use Rattle.text.proofs.Fields.{told, told-bad, told-below}
 use Rattle.listing.specs.Listings.{swapFields}
-use Rattle.node_lines.specs.NodeLines.{childField}
+use Rattle.node_lines.specs.NodeLines.{childBy}
 use Rattle.node_lines.proofs.Numbers.{next-two}
 use borrow.Author.Needs.{needs}
 use Rattle.listing.proofs.read_swap.Statement.{statement}
 use Rattle.listing.proofs.read_swap.Tie as tie
 
 pub read-swap-spec : {M : Type 1} → statement M
-unfolding swapFields childField then
+unfolding swapFields childBy then
 read-swap-spec =
     tie.close
     (tie.spec

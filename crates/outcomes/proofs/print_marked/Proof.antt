@@ -10,10 +10,10 @@ print-marked-spec =
     tie.close
     (tie.spec
     (λ c. search needs)
-    (λ c. part-length 64496 (c .before .before .before .args .out .now) (c .before .before .before .pre .0))
-    (λ c κs. (omega (arith, part-length 64496 (c .before .before .before .args .out .now) (c .before .before .before .pre .0)), inside-part (c .before .before .before .args .out .now) (c .before .before .before .pre .0) (c .before .before .before .args .outcome) (c .before .before .before .pre .2 (c .before .if1 .taken))))
+    (λ c. part-length 1040 64496 (c .before .before .before .args .out .now) (c .before .before .before .pre .0))
+    (λ c κs. (omega (arith, part-length 1040 64496 (c .before .before .before .args .out .now) (c .before .before .before .pre .0)), inside-part (c .before .before .before .args .out .now) (c .before .before .before .pre .0) (c .before .before .before .args .outcome) (c .before .before .before .pre .2 (c .before .if1 .taken))))
     (λ c. search needs)
-    (λ c κs. (search needs, room-after 64496 (c .before .before .before .before .before .before .before .before .args .out .now) (c .before .before .before .before .before .before .before .before .pre .0) (c .before .before .before .before .print .last .0) (c .before .before .before .before .print .kept .0) (c .before .before .before .before .print .ensures .within .0)))
+    (λ c κs. (search needs, room-after 1040 64496 (c .before .before .before .before .before .before .before .before .args .out .now) (c .before .before .before .before .before .before .before .before .pre .0) (c .before .before .before .before .print .last .0) (c .before .before .before .before .print .kept .0) (c .before .before .before .before .print .ensures .within .0)))
     (λ c. search needs)
     (λ c. with-marks _ (c .before .before .before .before .before .before .before .before .before .before .before .args .out .now) (c .before .before .before .before .before .before .before .before .before .before .before .args .outcome) (c .before .before .before .before .before .before .before .before .before .before .before .pre .0) (c .before .before .before .before .before .before .before .before .before .if1 .taken) (c .before .before .before .before .before .before .before .before .before .before .before .pre .2 (c .before .before .before .before .before .before .before .before .before .if1 .taken)) (c .before .before .before .before .before .before .before .print .kept .0) (c .before .before .before .before .before .before .before .print .ensures) (c .before .before .write-marks .ensures))
     (λ c κs. search needs)

@@ -11,9 +11,9 @@ say-marked-spec =
     tie.close
     (tie.spec
     (λ c. search needs)
-    (λ c. part-length 81920 (c .before .before .args .said .now) (c .before .before .pre))
-    (λ c κs. omega (arith, part-length 81920 (c .before .before .args .said .now) (c .before .before .pre)))
+    (λ c. part-length 1040 81920 (c .before .before .args .said .now) (c .before .before .pre))
+    (λ c κs. omega (arith, part-length 1040 81920 (c .before .before .args .said .now) (c .before .before .pre)))
     (λ c. search needs)
-    (λ c κs. (search needs, room-after 81920 (c .before .before .before .before .before .before .before .args .said .now) (c .before .before .before .before .before .before .before .pre) (c .before .before .before .before .say .last .0) (put-length (c .before .before .before .before .say .ensures .0)) (c .before .before .before .before .say .ensures .1 .0)))
+    (λ c κs. (search needs, room-after 1040 81920 (c .before .before .before .before .before .before .before .args .said .now) (c .before .before .before .before .before .before .before .pre) (c .before .before .before .before .say .last .0) (put-length (c .before .before .before .before .say .ensures .0)) (c .before .before .before .before .say .ensures .1 .0)))
     (λ c. search needs)
-    (λ c. says-rows 81920 (c .before .before .before .before .before .before .before .before .before .before .args .said .now) (c .before .before .before .before .before .before .before .before .before .before .pre) (c .before .before .before .before .before .before .before .say .last .0) (put-length (c .before .before .before .before .before .before .before .say .ensures .0)) (c .before .before .before .before .before .before .before .say .ensures) (c .before .before .write-used .ensures)))
+    (λ c. says-rows 1040 81920 (c .before .before .before .before .before .before .before .before .before .before .args .said .now) (c .before .before .before .before .before .before .before .before .before .before .pre) (c .before .before .before .before .before .before .before .say .last .0) (put-length (c .before .before .before .before .before .before .before .say .ensures .0)) (c .before .before .before .before .before .before .before .say .ensures) (c .before .before .write-used .ensures)))

@@ -1,5 +1,5 @@
 -- `is_shown` meets its contract. Assumes nothing.
-use Rattle.calls.specs.Frame.{isShown}
+use Rattle.calls.specs.Marks.{isShown}
 use borrow.Author.Needs.{needs}
 use Rattle.calls.proofs.marks.is_shown.Statement.{statement}
 use Rattle.calls.proofs.marks.is_shown.Tie as tie

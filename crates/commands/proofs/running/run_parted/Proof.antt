@@ -12,7 +12,7 @@ returns c = parted-is _ (c .before .before .before .before .before .before .befo
 
 returns-2 : tie.Need-returns-2
 unfolding parted partedMarks
-returns-2 c = parted-is _ (c .before .before .before .before .before .before .before .before .before .before .before .before .before .before .before .args .list .now) (c .before .before .before .before .before .before .before .before .before .before .before .before .before .before .before .args .values .now) (c .before .before .before .before .before .before .before .before .before .before .before .before .before .before .before .args .out .now) (Parted.Simplify _ _) (c .before .before .before .before .before .before .before .before .before .before .command .given .1) (c .before .before .before .simplify .ensures)
+returns-2 c = parted-is _ (c .before .before .before .before .before .before .before .before .before .before .before .before .before .before .before .args .list .now) (c .before .before .before .before .before .before .before .before .before .before .before .before .before .before .before .args .values .now) (c .before .before .before .before .before .before .before .before .before .before .before .before .before .before .before .args .out .now) (Parted.Simplify _ _ _) (c .before .before .before .before .before .before .before .before .before .before .command .given .1) (c .before .before .before .run-simplify .ensures)
 
 returns-3 : tie.Need-returns-3
 unfolding parted partedMarks

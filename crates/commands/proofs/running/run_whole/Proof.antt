@@ -8,23 +8,23 @@ use Rattle.commands.proofs.running.run_whole.Tie as tie
 
 returns : tie.Need-returns
 unfolding whole
-returns c = whole-is _ (c .before .before .before .before .before .before .before .before .before .before .before .before .args .text .now) (c .before .before .before .before .before .before .before .before .before .before .before .before .args .out .now) Whole.Substitute (c .before .before .before .before .before .before .before .before .enum-told .given .1) (c .before .before .before .substitute .ensures)
+returns c = whole-is _ (c .before .before .before .before .before .before .before .before .before .before .before .before .before .args .text .now) (c .before .before .before .before .before .before .before .before .before .before .before .before .before .args .out .now) (Whole.Substitute _) (c .before .before .before .before .before .before .before .before .before .command .given .1) (c .before .before .before .run-substitute .ensures)
 
 returns-2 : tie.Need-returns-2
 unfolding whole
-returns-2 c = whole-is _ (c .before .before .before .before .before .before .before .before .before .before .before .before .args .text .now) (c .before .before .before .before .before .before .before .before .before .before .before .before .args .out .now) Whole.Real (c .before .before .before .before .before .before .before .before .enum-told2 .given .1) (c .before .before .before .real .ensures)
+returns-2 c = whole-is _ (c .before .before .before .before .before .before .before .before .before .before .before .before .args .text .now) (c .before .before .before .before .before .before .before .before .before .before .before .before .args .out .now) Whole.Real (c .before .before .before .before .before .before .before .before .enum-told .given .1) (c .before .before .before .real .ensures)
 
 returns-3 : tie.Need-returns-3
 unfolding whole
-returns-3 c = whole-is _ (c .before .before .before .before .before .before .before .before .before .before .before .before .args .text .now) (c .before .before .before .before .before .before .before .before .before .before .before .before .args .out .now) Whole.Compile (c .before .before .before .before .before .before .before .before .enum-told3 .given .1) (c .before .before .before .compile .ensures)
+returns-3 c = whole-is _ (c .before .before .before .before .before .before .before .before .before .before .before .before .args .text .now) (c .before .before .before .before .before .before .before .before .before .before .before .before .args .out .now) Whole.Compile (c .before .before .before .before .before .before .before .before .enum-told2 .given .1) (c .before .before .before .compile .ensures)
 
 returns-4 : tie.Need-returns-4
 unfolding whole
-returns-4 c = whole-is _ (c .before .before .before .before .before .before .before .before .args .text .now) (c .before .before .before .before .before .before .before .before .args .out .now) Whole.Show (c .before .before .before .before .enum-told4 .given .1) (c .before .before .show .ensures)
+returns-4 c = whole-is _ (c .before .before .before .before .before .before .before .before .args .text .now) (c .before .before .before .before .before .before .before .before .args .out .now) Whole.Show (c .before .before .before .before .enum-told3 .given .1) (c .before .before .show .ensures)
 
 returns-5 : tie.Need-returns-5
 unfolding whole
-returns-5 c = whole-is _ (c .before .before .before .before .before .before .before .before .args .text .now) (c .before .before .before .before .before .before .before .before .args .out .now) Whole.Check (c .before .before .before .before .enum-told5 .given .1) (c .before .before .check .ensures)
+returns-5 c = whole-is _ (c .before .before .before .before .before .before .before .before .args .text .now) (c .before .before .before .before .before .before .before .before .args .out .now) Whole.Check (c .before .before .before .before .enum-told4 .given .1) (c .before .before .check .ensures)
 
 pub run-whole-spec : {M : Type 1} → statement M
 run-whole-spec =

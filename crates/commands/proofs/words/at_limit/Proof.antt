@@ -1,8 +1,7 @@
 -- `at_limit` meets its contract. Assumes nothing.
 use mathlib.Core.Path.{_∙_}
 use lib.ListN.{drop}
-use Rattle.commands.specs.declared.words.Parted.{Parted}
-use Rattle.commands.proofs.Requests.{takes-marks, limit-given, no-limit}
+use Rattle.commands.proofs.Requests.{limit-given, no-limit}
 use borrow.Author.Needs.{needs}
 use Rattle.commands.proofs.words.at_limit.Statement.{statement}
 use Rattle.commands.proofs.words.at_limit.Tie as tie
@@ -16,5 +15,5 @@ at-limit-spec =
     (λ c κs. search needs)
     (λ c. search needs)
     (λ c κs. search needs)
-    (λ c. takes-marks (c .before .before .before .before .before .before .args .words .now) (c .before .before .limit .given .0 .1 .0) (Parted.Simplify (c .before .before .limit .given .0 .0)) (c .marks-at .result) (c .marks-at .ensures) ∙ limit-given (c .before .before .before .before .before .before .args .words .now) (drop (c .before .before .before .before .before .before .args .at) (c .before .before .before .before .before .before .args .words .now)) (c .before .before .before .before .decimal-field .ensures .answer) (c .before .before .limit .given .1))
-    (λ c. takes-marks (c .before .before .before .before .before .args .words .now) (c .before .before .before .before .before .args .at) (Parted.Simplify 10) (c .marks-at2 .result) (c .marks-at2 .ensures) ∙ no-limit (c .before .before .before .before .before .args .words .now) (drop (c .before .before .before .before .before .args .at) (c .before .before .before .before .before .args .words .now)) (c .before .before .before .decimal-field .ensures .answer) (c .before .enum-told .given .1)))
+    (λ c. c .simplify-at .ensures ∙ limit-given (c .before .before .before .before .before .before .args .words .now) (drop (c .before .before .before .before .before .before .args .at) (c .before .before .before .before .before .before .args .words .now)) (c .before .before .before .before .decimal-field .ensures .answer) (c .before .before .limit .given .1))
+    (λ c. c .simplify-at2 .ensures ∙ no-limit (c .before .before .before .before .before .args .words .now) (drop (c .before .before .before .before .before .args .at) (c .before .before .before .before .before .args .words .now)) (c .before .before .before .decimal-field .ensures .answer) (c .before .enum-told .given .1)))

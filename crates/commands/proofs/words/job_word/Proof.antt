@@ -1,7 +1,9 @@
 -- `job_word` meets its contract. Assumes nothing.
 use mathlib.Core.Path.{_∙_}
+use Rattle.commands.specs.declared.words.Command.{Command}
 use Rattle.commands.specs.declared.words.Parted.{Parted}
-use Rattle.commands.proofs.Requests.{takes-marks}
+use Rattle.commands.specs.declared.words.Whole.{Whole}
+use Rattle.commands.proofs.Requests.{takes-marks, takes-origins}
 use Rattle.commands.proofs.Choosing.{chosen, passed}
 use Rattle.commands.specs.Words.{jobWord}
 use borrow.Author.Needs.{needs}
@@ -10,11 +12,11 @@ use Rattle.commands.proofs.words.job_word.Tie as tie
 
 returns : tie.Need-returns
 unfolding jobWord
-returns c = takes-marks (c .before .before .before .before .before .args .words .now) 9 Parted.Evaluate (c .marks-at .result) (c .marks-at .ensures) ∙ chosen (c .before .before .word-at .ensures) (c .before .if1 .taken) _ _
+returns c = takes-marks (c .before .before .before .before .before .before .args .words .now) 9 Parted.Evaluate (c .find-at .result) (c .find-at .ensures) ∙ chosen (c .before .before .before .word-at .ensures) (c .before .before .if1 .taken) _ _
 
 returns-2 : tie.Need-returns-2
 unfolding jobWord
-returns-2 c = passed (c .before .before .before .before .word-at .ensures) (c .before .before .before .if1 .left) _ _ (chosen (c .before .word-at2 .ensures) (c .if2 .taken) _ _)
+returns-2 c = passed (c .before .before .before .before .before .before .word-at .ensures) (c .before .before .before .before .before .if1 .left) _ _ (takes-origins (c .before .before .before .before .before .before .before .before .before .args .words .now) 11 (λ traced. Command.Whole (Whole.Substitute traced)) (c .find-at2 .result) (c .find-at2 .ensures) ∙ chosen (c .before .before .before .word-at2 .ensures) (c .before .before .if2 .taken) _ _)
 
 returns-3 : tie.Need-returns-3
 unfolding jobWord
@@ -38,8 +40,11 @@ job-word-spec =
     (tie.spec
     (λ c. search needs)
     (λ c κs. search needs)
+    (λ c. search needs)
     (λ c κs. search needs)
     returns
+    (λ c. search needs)
+    (λ c κs. search needs)
     (λ c. search needs)
     (λ c κs. search needs)
     returns-2

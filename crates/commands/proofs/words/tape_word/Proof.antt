@@ -14,7 +14,7 @@ returns c = chosen (c .before .word-at .ensures) (c .if1 .taken) _ _
 
 returns-2 : tie.Need-returns-2
 unfolding tapeWord
-returns-2 c = passed (c .before .before .before .before .before .word-at .ensures) (c .before .before .before .before .if1 .left) _ _ (takes-marks (c .before .before .before .before .before .before .before .before .args .words .now) 5 Parted.Play (c .marks-at .result) (c .marks-at .ensures) ∙ chosen (c .before .before .word-at2 .ensures) (c .before .if2 .taken) _ _)
+returns-2 c = passed (c .before .before .before .before .before .before .word-at .ensures) (c .before .before .before .before .before .if1 .left) _ _ (takes-marks (c .before .before .before .before .before .before .before .before .before .args .words .now) 5 Parted.Play (c .find-at .result) (c .find-at .ensures) ∙ chosen (c .before .before .before .word-at2 .ensures) (c .before .before .if2 .taken) _ _)
 
 returns-3 : tie.Need-returns-3
 unfolding tapeWord
@@ -37,6 +37,7 @@ tape-word-spec =
     returns
     (λ c. search needs)
     (λ c κs. search needs)
+    (λ c. search needs)
     (λ c κs. search needs)
     returns-2
     (λ c. search needs)
