@@ -1,5 +1,8 @@
 // Which arm of the rule book applies to an operation whose operands are simplified: `choose_infix`, `choose_function`
 // and `choose_prefix` look at the nodes and answer a shape with its operands; nothing is built or simplified here.
+
+#![tactic(auto)]
+
 ghost use Rattle.std.specs.Prelude.{◌≡◌};
 ghost use Rattle.store.specs.Memory.{memory};
 ghost use Rattle.arms.specs.Arms.{smaller as smallerTree, function_plan, prefix_plan};
@@ -26,7 +29,7 @@ mod quotients;
 mod sums;
 
 // What is made around the result of an inner S call, `it`.
-#[derive(Drop)]
+#[derive(Clone, Copy)]
 pub enum Outer {
     // -it
     Negated,
@@ -37,7 +40,7 @@ pub enum Outer {
 }
 
 // What an arm wants, with the numbers of the nodes that it is about.
-#[derive(Drop)]
+#[derive(Clone, Copy)]
 pub enum Arm {
     // this node
     Use(usize),

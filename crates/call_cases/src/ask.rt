@@ -15,7 +15,7 @@ use replay::slices::{is_zero, part, part_of_bytes};
 
 // An answer's six words, the paper of the output, the marks, which a call without marks leaves blank, and whether all the
 // memory that was lent is zero.
-#[derive(Drop)]
+#[derive(Clone, Copy)]
 pub struct Told {
     pub words: [u64; 6],
     pub paper: [u8; 32768],

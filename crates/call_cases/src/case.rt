@@ -10,7 +10,7 @@ const LINE: usize = 190;
 // `junk` is what all memory holds before a call, `rows` how many rows are lent, `first` and `second` how long the texts or
 // tapes are that follow the line, `room` how much of the output is lent, and `written` how long what has to be written there
 // is. `wanted` has the six words of the right answer, as `exports` gives them.
-#[derive(Drop)]
+#[derive(Clone, Copy)]
 pub struct Case {
     pub kind: u8,
     pub junk: u64,

@@ -1,6 +1,9 @@
 // Replays cases of the public calls, and the examples of rack. Its arguments name lists: the Rust's answers, which
 // tests/rust/run stores; tapes, listings and plays, which tests/call_cases.py makes with the right answers; and the jobs of the
 // folder examples/. Says which answers of the port differ, and how many there were.
+
+#![tactic(auto)]
+
 use case::{Case, next_case};
 use outcome::{Outcome, Tapes};
 use replay::lists::MOST;

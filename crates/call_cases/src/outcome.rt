@@ -8,7 +8,7 @@ use replay::say::{decimal, word};
 
 // Wrong, or right: of an evaluation it says whether the listing was compiled and its tape played, was too long for a
 // tape, or was refused before.
-#[derive(Drop)]
+#[derive(Clone, Copy)]
 pub enum Outcome {
     Wrong,
     Right,
@@ -38,7 +38,7 @@ impl Outcome {
     }
 }
 
-#[derive(Drop)]
+#[derive(Clone, Copy)]
 pub struct Tapes {
     pub played: u64,
     pub long: u64,

@@ -1,6 +1,9 @@
 // The public calls: bytes in, an answer out, the output slice for a result that is written, and work memory that the
 // caller lends. They ask nothing of the caller: whatever the bytes and the memory hold, the answer, the output and the
 // memory at return are what specs/Promises says.
+
+#![tactic(auto)]
+
 ghost use Rattle.std.specs.Prelude.{◌≡◌, ◌≤◌, length};
 ghost use Rattle.memory.specs.Layout.{table_words};
 ghost use Rattle.calls.specs.Lent.{work, capacity};
@@ -27,20 +30,20 @@ mod marks;
 pub mod tapes;
 
 // A listing and a sheet that were read: the node of the root, and the rows of the sheet.
-#[derive(Drop)]
+#[derive(Clone, Copy)]
 pub enum Job {
     Ready { root: usize, counts: Counts },
     Refused(Refusal),
 }
 
-#[derive(Drop)]
+#[derive(Clone, Copy)]
 pub enum Evaluated {
     Value(Complex),
     Refused(Refusal),
 }
 
 // How many bytes of the output are the result, and how many simplify calls were made.
-#[derive(Drop)]
+#[derive(Clone, Copy)]
 pub enum Simplified {
     Bytes { bytes: usize, calls: u64 },
     Refused(Refusal),

@@ -1,5 +1,8 @@
 // The commands of rack, on slices: what is printed on standard output and said on standard error for all words of the
 // command line and every input.
+
+#![tactic(auto)]
+
 ghost use Rattle.std.specs.Prelude.{◌≡◌, ◌+◌, ◌≤◌, length};
 ghost use Rattle.memory.specs.Marks.{no_marks};
 ghost use Rattle.commands.specs.Printing.{Answers};
@@ -19,7 +22,7 @@ mod tapes;
 pub mod words;
 
 // How many bytes of the two outputs are to be written.
-#[derive(Drop)]
+#[derive(Clone, Copy)]
 pub struct Printed {
     pub out: usize,
     pub said: usize,

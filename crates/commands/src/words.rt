@@ -16,7 +16,7 @@ const LIMIT: u64 = 10;
 const LIMITS: u64 = 4_294_967_296;
 
 // The commands whose input is one text; the first by whether origins are asked for.
-#[derive(Drop)]
+#[derive(Clone, Copy)]
 pub enum Whole {
     Substitute(bool),
     Real,
@@ -27,7 +27,7 @@ pub enum Whole {
 
 // Those whose input parts at the first empty line; three of them by whether the marks are asked for, and simplify by its limit
 // and by whether origins are asked for besides.
-#[derive(Drop)]
+#[derive(Clone, Copy)]
 pub enum Parted {
     Evaluate(bool),
     Simplify(u64, bool, bool),
@@ -35,14 +35,14 @@ pub enum Parted {
     Play(bool),
 }
 
-#[derive(Drop)]
+#[derive(Clone, Copy)]
 pub enum Command {
     Whole(Whole),
     Parted(Parted),
 }
 
 // A command, and where the words after it begin; or what else is asked.
-#[derive(Drop)]
+#[derive(Clone, Copy)]
 pub enum Asked {
     Job(Command, usize),
     Help,
@@ -53,7 +53,7 @@ pub enum Asked {
 }
 
 // Whether a word stands at a place, and where the words after it begin.
-#[derive(Drop)]
+#[derive(Clone, Copy)]
 struct Found {
     stands: bool,
     next: usize,

@@ -1,5 +1,8 @@
 // Complex numbers as pairs of doubles, by value, with num_complex's arithmetic as 01 writes it out.
 // Each operation on floats rounds once; operands stand in 01's order.
+
+#![tactic(auto)]
+
 ghost use Rattle.std.specs.Prelude.{◌≡◌};
 ghost use Rattle.complex.specs.Arithmetic.{plus, minus, times, over, negated};
 
@@ -11,7 +14,7 @@ mod squares;
 mod wide;
 pub mod zero;
 
-#[derive(Drop)]
+#[derive(Clone, Copy)]
 pub struct Complex {
     pub re: f64,
     pub im: f64,

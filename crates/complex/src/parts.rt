@@ -10,7 +10,7 @@ const SIGN: u64 = 0x8000_0000_0000_0000;
 const HIDDEN: u64 = 0x10_0000_0000_0000;
 
 // The magnitude significand * 2^scale / 2^53. Unless it is 0, bit 52 of the significand is set.
-#[derive(Drop)]
+#[derive(Clone, Copy)]
 pub struct Part {
     pub significand: u64,
     pub scale: u64,

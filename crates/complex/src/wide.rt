@@ -4,7 +4,7 @@ ghost use Rattle.complex.specs.Wide.{value, wide};
 
 use std::num::wrapping_add_u64;
 
-#[derive(Drop)]
+#[derive(Clone, Copy)]
 pub struct Wide {
     pub hi: u64,
     pub lo: u64,

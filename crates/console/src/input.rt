@@ -8,7 +8,7 @@ use libc::STDERR_FILENO;
 
 const LF: u8 = b'\n';
 
-#[derive(Drop)]
+#[derive(Clone, Copy)]
 pub enum Input {
     Whole(usize),
     TooLong,

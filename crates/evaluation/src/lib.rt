@@ -1,5 +1,8 @@
 // Evaluating an expression under a sheet's values, and reading it as a real number: `evaluate` and `to_real` of the Rust, over
 // the nodes of a store.
+
+#![tactic(auto)]
+
 ghost use Rattle.std.specs.Prelude.{◌≡◌};
 ghost use Rattle.store.specs.Memory.{memory};
 ghost use Rattle.sheet.specs.Table.{seen_found, used_in};
@@ -24,7 +27,7 @@ pub mod real;
 mod settling;
 
 // "Evaluation answers a value, Incomplete, or the function value it lacks."
-#[derive(Drop)]
+#[derive(Clone, Copy)]
 pub enum Evaluation {
     Value(Complex),
     Incomplete,
@@ -32,7 +35,7 @@ pub enum Evaluation {
 }
 
 // What an operation gives, and the rows of the sheet that it used.
-#[derive(Drop)]
+#[derive(Clone, Copy)]
 pub struct Asked {
     pub value: Evaluation,
     pub used: Used,

@@ -10,7 +10,7 @@ use expression::node::Expression;
 use expression::refusal::Refusal;
 use store::reading::expression_at;
 
-#[derive(Drop)]
+#[derive(Clone, Copy)]
 pub enum Real {
     Number(f64),
     Refused(Refusal),

@@ -1,5 +1,8 @@
 // The public calls for C, Rust and others, over numbers and slices alone; include/findavoreb.h says what each
 // parameter and each answer word is.
+
+#![tactic(auto)]
+
 ghost use Rattle.std.specs.Prelude.{◌≡◌};
 ghost use Rattle.calls.specs.Lent.{work};
 ghost use Rattle.exports.specs.Words.{Evaluates, EvaluatesMarked, Substitutes, SubstitutesOrigins, ReadsReal, Simplifies, SimplifiesMarked, SimplifiesOrigins, Compiles, Plays, PlaysMarked, Checks, Picks};

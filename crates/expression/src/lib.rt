@@ -1,12 +1,15 @@
 // The vocabulary of the Rust: the operators and functions of an expression by their names, and the small
 // numbers by which the store, the tape and the texts know them; nodes, and the refusals.
+
+#![tactic(auto)]
+
 ghost use Rattle.std.specs.Prelude.{◌≡◌};
 ghost use Rattle.expression.specs.Codes.{infix_code, infix_of, prefix_code, prefix_of, function_code, function_of};
 
 pub mod node;
 pub mod refusal;
 
-#[derive(Drop)]
+#[derive(Clone, Copy)]
 pub enum InfixOperator {
     Caret,
     Plus,
@@ -15,13 +18,13 @@ pub enum InfixOperator {
     Star,
 }
 
-#[derive(Drop)]
+#[derive(Clone, Copy)]
 pub enum PrefixOperator {
     Plus,
     Minus,
 }
 
-#[derive(Drop)]
+#[derive(Clone, Copy)]
 pub enum ExpressionFunction {
     Cis,
     Cosine,

@@ -5,7 +5,7 @@ ghost use Rattle.expression.specs.Nodes as Nodes;
 use super::{ExpressionFunction, InfixOperator, PrefixOperator};
 use complex::Complex;
 
-#[derive(Drop)]
+#[derive(Clone, Copy)]
 pub enum Expression {
     Address(u16, u32),
     FunctionCall(ExpressionFunction, usize),
@@ -17,7 +17,7 @@ pub enum Expression {
 }
 
 // The nodes under a node.
-#[derive(Drop)]
+#[derive(Clone, Copy)]
 pub enum Operands {
     Nothing,
     One(usize),

@@ -7,7 +7,7 @@ ghost use Rattle.expression.specs.Refusals.{number_of, place_of, is_lack};
 use complex::Complex;
 
 // What a row of the sheet gives a value of: the names sin, cos, exp, sqrt and pow.
-#[derive(Drop)]
+#[derive(Clone, Copy)]
 pub enum Operation {
     Sine,
     Cosine,
@@ -16,7 +16,7 @@ pub enum Operation {
     Power,
 }
 
-#[derive(Drop)]
+#[derive(Clone, Copy)]
 pub enum Refusal {
     BadList(u64),
     LongList(u64),

@@ -1,4 +1,7 @@
 // Which fault a refused line of a listing or of a sheet has, so that it can be said in a sentence.
+
+#![tactic(auto)]
+
 ghost use Rattle.std.specs.Prelude.{◌≡◌, ◌≤◌, length, drop};
 ghost use Rattle.faults.specs.Faulting.{fault_in, node_form, has_at, form_with, listing_form, sheet_form, from_line, listing_fault, sheet_fault};
 
@@ -12,7 +15,7 @@ const LF: u8 = 10;
 // What is wrong with a line: a byte that may not stand there, a letter that begins no line, an unknown name and a number out of
 // its range included; a field that is missing or cut short; a hex digit in lower case; a carriage return; nothing but its
 // place among the lines; nothing but its line feed; or there is no line.
-#[derive(Drop)]
+#[derive(Clone, Copy)]
 pub enum Fault {
     WrongByte,
     FieldMissing,

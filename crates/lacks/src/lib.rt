@@ -1,4 +1,7 @@
 // The first variable or memory cell that a sheet does not bind, in the order of evaluation: what explains a refusal 10.
+
+#![tactic(auto)]
+
 ghost use Rattle.std.specs.Prelude.{◌≡◌, ◌≤◌, length};
 ghost use Rattle.memory.specs.Layout.{table_words};
 ghost use Rattle.store.specs.Memory.{memory};
@@ -19,7 +22,7 @@ use store::reading::{expression_at, operands_at};
 
 pub mod tapes;
 
-#[derive(Drop)]
+#[derive(Clone, Copy)]
 pub enum Missing {
     Nothing,
     Variable(u16),

@@ -1,4 +1,7 @@
 // A listing, read line by line into a store.
+
+#![tactic(auto)]
+
 ghost use Rattle.std.specs.Prelude.{◌≡◌, [], ◌≤◌, ◌<◌, length};
 ghost use Rattle.memory.specs.Layout.{table_words};
 ghost use Rattle.store.specs.Held.{lent, Sound};
@@ -22,14 +25,14 @@ const MOST_NODE_LINES: usize = 1024;
 const MOST_SWAPS: usize = 256;
 
 // What reading a listing answers: the node of the root, and how many s lines the table has.
-#[derive(Drop)]
+#[derive(Clone, Copy)]
 pub enum Listing {
     Read { root: usize, swaps: usize },
     Refused(Refusal),
 }
 
 // The node that an s line names, if there is one for a variable.
-#[derive(Drop)]
+#[derive(Clone, Copy)]
 pub enum Swap {
     Node(usize),
     Nothing,
@@ -50,7 +53,7 @@ fn moved_by(table: &[u64], e: Expression) -> Expression
 }
 
 // How far reading is: the place in the text, and how many node lines and s lines are read.
-#[derive(Drop)]
+#[derive(Clone, Copy)]
 struct Progress {
     at: usize,
     lines: usize,
@@ -58,14 +61,14 @@ struct Progress {
 }
 
 // A line was read, or refused.
-#[derive(Drop)]
+#[derive(Clone, Copy)]
 enum Step {
     Next(Progress),
     Refused(Refusal),
 }
 
 // An s line: its variable, the line of its node, and the place after it.
-#[derive(Drop)]
+#[derive(Clone, Copy)]
 enum SwapLine {
     Swap(u64, usize, usize),
     Bad,

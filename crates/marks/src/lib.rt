@@ -1,4 +1,7 @@
 // The numbers of the rows that are marked, written as a line at a place of an output that has room for it.
+
+#![tactic(auto)]
+
 ghost use Rattle.std.specs.Prelude.{◌≡◌, cond, [], ◌∷◌, ◌+◌, ◌*◌, ◌<◌, ◌≤◌, eqb, length};
 ghost use Rattle.text.specs.Lines.{none};
 ghost use Rattle.text.specs.Writing.{in_decimal};

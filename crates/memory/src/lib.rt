@@ -1,5 +1,8 @@
 // Lent memory: words that are read and written at any place, cleared, and sought by halving, marks that are set, and where things
 // stand in what a call lends.
+
+#![tactic(auto)]
+
 ghost use Rattle.std.specs.Prelude.{◌≡◌, get_or, set, length, replicate};
 ghost use Rattle.memory.specs.Layout.{numbered};
 ghost use Rattle.memory.specs.Marks.{noted};

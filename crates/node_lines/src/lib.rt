@@ -1,4 +1,7 @@
 // A node line of a listing: its fields at a place of the text, as a node whose operands are numbers of earlier lines.
+
+#![tactic(auto)]
+
 ghost use Rattle.std.specs.Prelude.{◌+◌, ◌<◌, ◌≤◌, length, get_or, drop};
 ghost use Rattle.origins.specs.Fields.{line_end};
 ghost use Rattle.node_lines.specs.NodeLines.{pi_line, number_fields, variable_fields, cell_fields, function_fields, prefix_fields, infix_fields, fields_of, node_fields};
@@ -17,7 +20,7 @@ pub const TAB: u8 = 9;
 pub const LF: u8 = 10;
 
 // A node and the place after its line.
-#[derive(Drop)]
+#[derive(Clone, Copy)]
 pub enum Line {
     Node(Expression, usize),
     Bad,

@@ -1,5 +1,8 @@
 // What a command has come to, what is printed of it and what is said of it: bytes that stand at the start of the output
 // already, or a refusal.
+
+#![tactic(auto)]
+
 ghost use Rattle.std.specs.Prelude.{◌≡◌, true, ◌++◌, ◌+◌, ◌≤◌, length};
 ghost use Rattle.io.specs.Counts.{IsPrefixLen};
 ghost use Rattle.text.specs.Put.{Put};
@@ -16,7 +19,7 @@ use text::writing::write_bytes;
 
 // So many bytes of the output, alone or with the number of simplify calls; a refusal and what is known of it besides; or an
 // input that is too long.
-#[derive(Drop)]
+#[derive(Clone, Copy)]
 pub enum Outcome {
     Printed(usize),
     Simplified(usize, u64),

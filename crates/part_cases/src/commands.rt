@@ -43,7 +43,7 @@ fn node_of(line: Line) -> Expression {
 
 // What a command gives. Of a node that was to be added all is said at once; what is recalled is the number of a node plus
 // one, or 0.
-#[derive(Drop)]
+#[derive(Clone, Copy)]
 enum Given {
     Nothing,
     Added,

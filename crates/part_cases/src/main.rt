@@ -1,5 +1,8 @@
 // Replays cases of the parts below the public calls. Its arguments name three lists, which tests/part_cases.py makes with the
 // right answers: vectors for complex numbers, commands for a store, and listings and sheets as texts.
+
+#![tactic(auto)]
+
 use replay::lists;
 
 mod commands;

@@ -1,5 +1,8 @@
 // One tool for the bench: its words say what is to be done with the job in a file or on standard input. What is printed is
 // made by `commands::answer`; here it is read and written.
+
+#![tactic(auto)]
+
 ghost use Rattle.std.specs.Prelude.{◌≡◌, ◌≤◌, length};
 
 use commands::answer;

@@ -1,5 +1,8 @@
 // The reducer: reads a listing and, after an empty line if any, a sheet; prints the simplified listing, or why there is
 // none.
+
+#![tactic(auto)]
+
 use console::input::Input;
 use console::{input, output};
 use libc::STDIN_FILENO;

@@ -7,7 +7,7 @@ ghost use Rattle.io.specs.Counts.{IsPrefixLen};
 use super::slices::part_of_bytes;
 
 // The first two bytes, and the fields by their numbers from 1 on; a field that the line does not have is 0.
-#[derive(Drop)]
+#[derive(Clone, Copy)]
 pub struct Line {
     pub kind: u8,
     pub mark: u8,

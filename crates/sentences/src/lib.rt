@@ -1,5 +1,8 @@
 // Which sentence is said on standard error of a job that has no answer. The sentences are the lines of a table, in which %
 // stands for a first number and & for a second. Lines and steps count from 1 in them.
+
+#![tactic(auto)]
+
 ghost use Rattle.std.specs.Prelude.{◌≡◌, ◌+◌, ◌*◌, ◌≤◌, length, drop};
 ghost use Rattle.io.specs.Counts.{IsPrefixLen};
 ghost use Rattle.expression.specs.Refusals.{number_of, carries};
@@ -15,7 +18,7 @@ use text::writing::{write_byte, write_decimal};
 const LF: u8 = b'\n';
 
 // What is known of a refusal beside its number and its place.
-#[derive(Drop)]
+#[derive(Clone, Copy)]
 pub enum Detail {
     Plain,
     Fault(Fault),
@@ -24,7 +27,7 @@ pub enum Detail {
 }
 
 // A line of the table, and its numbers.
-#[derive(Drop)]
+#[derive(Clone, Copy)]
 struct Entry {
     line: u64,
     first: u64,

@@ -15,32 +15,32 @@ const LF: u8 = 10;
 const POWER: u64 = 5;
 
 // The bits of a complex number.
-#[derive(Drop)]
+#[derive(Clone, Copy)]
 pub struct Words {
     pub re: u64,
     pub im: u64,
 }
 
-#[derive(Drop)]
+#[derive(Clone, Copy)]
 pub enum Pair {
     Are(Words, usize),
     Bad,
 }
 
 // Each kind's values, and the place after the line.
-#[derive(Drop)]
+#[derive(Clone, Copy)]
 pub enum VariableFields {
     Are(u64, Words, usize),
     Bad,
 }
 
-#[derive(Drop)]
+#[derive(Clone, Copy)]
 pub enum CellFields {
     Are(u64, u64, u64, usize),
     Bad,
 }
 
-#[derive(Drop)]
+#[derive(Clone, Copy)]
 pub enum RowFields {
     Are(u64, Words, Words, Words, usize),
     Bad,

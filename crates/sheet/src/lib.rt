@@ -1,5 +1,8 @@
 // The value sheet: lines of variables, cells and function values, read from bytes into a lent table, and looked
 // up there.
+
+#![tactic(auto)]
+
 ghost use Rattle.std.specs.Prelude.{◌≡◌, ◌≤◌, length};
 ghost use Rattle.memory.specs.Layout.{table_words};
 ghost use Rattle.sheet.specs.Rows.{value_of, cell_value, function_row, sheet};
@@ -21,34 +24,34 @@ mod lines;
 mod search;
 
 // How many rows of each kind the table holds.
-#[derive(Drop)]
+#[derive(Clone, Copy)]
 pub struct Counts {
     pub variables: usize,
     pub cells: usize,
     pub functions: usize,
 }
 
-#[derive(Drop)]
+#[derive(Clone, Copy)]
 pub enum Sheet {
     Read(Counts),
     Refused(Refusal),
 }
 
-#[derive(Drop)]
+#[derive(Clone, Copy)]
 pub enum Found {
     Value(Complex),
     Nothing,
 }
 
 // A function value, with the number of its row: from 0, among the t rows.
-#[derive(Drop)]
+#[derive(Clone, Copy)]
 pub enum FoundRow {
     At(usize, Complex),
     Nothing,
 }
 
 // The rows that an operation used: up to two, each by its number plus one; 0 says none.
-#[derive(Drop)]
+#[derive(Clone, Copy)]
 pub struct Used {
     pub first: usize,
     pub second: usize,

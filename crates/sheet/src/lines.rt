@@ -17,7 +17,7 @@ const MOST_CELLS: usize = 1024;
 const MOST_FUNCTIONS: usize = 256;
 
 // After a line: the rows with the place of the next line, or why it is refused.
-#[derive(Drop)]
+#[derive(Clone, Copy)]
 pub enum Step {
     Next(Counts, usize),
     Stop(Refusal),

@@ -1,5 +1,8 @@
 // The steps of a tape in words, written at the start of an output: a line a step, its number from 0, what it is, and its
 // operands.
+
+#![tactic(auto)]
+
 ghost use Rattle.std.specs.Prelude.{[], ◌∷◌, ◌++◌, ◌+◌, ◌*◌, ◌≤◌, length};
 ghost use Rattle.io.specs.Counts.{IsPrefixLen};
 ghost use Rattle.text.specs.Put.{Put};

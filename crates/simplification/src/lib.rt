@@ -1,5 +1,8 @@
 // The cycle of simplifying: `simplify` and what it calls, with the limit falling, and the carriers of the arms' shapes,
 // each of which stores and simplifies in the Rust's order. Each answers one word: a node, or REFUSED and the number of a refusal.
+
+#![tactic(auto)]
+
 ghost use Rattle.store.specs.Memory.{memory};
 ghost use Rattle.store.specs.Held.{lent};
 ghost use Rattle.arms.specs.declared.Arm.{Arm as Arms};

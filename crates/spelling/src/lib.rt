@@ -1,4 +1,7 @@
 // The names of functions, operations and operators in the texts: read at a place, which gives a name's number, and written.
+
+#![tactic(auto)]
+
 ghost use Rattle.std.specs.Prelude.{◌≡◌, [], ◌∷◌, ◌+◌, ◌<◌, ◌≤◌, length, drop};
 ghost use Rattle.text.specs.Reading.{name_from};
 ghost use Rattle.text.specs.Seen.{Reads};

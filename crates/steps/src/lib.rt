@@ -1,4 +1,7 @@
 // One step of a tape: what it is, its six fields, and which fields are a step's.
+
+#![tactic(auto)]
+
 ghost use Rattle.std.specs.Prelude.{◌≡◌, ◌<◌};
 ghost use Rattle.steps.specs.Steps.{fields, fields_of, step_of, known};
 ghost use Rattle.steps.specs.Same.{same};
@@ -9,7 +12,7 @@ use expression::{ExpressionFunction, InfixOperator, PrefixOperator};
 
 pub mod bytes;
 
-#[derive(Drop)]
+#[derive(Clone, Copy)]
 pub enum Step {
     Number(Complex),
     Pi,
@@ -21,7 +24,7 @@ pub enum Step {
 }
 
 // "Opcode, sub, u16, u32, real bits, imaginary bits."
-#[derive(Drop)]
+#[derive(Clone, Copy)]
 pub struct Fields {
     pub opcode: u8,
     pub sub: u8,

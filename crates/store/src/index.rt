@@ -22,7 +22,7 @@ const SECOND_OPERANDS: u64 = 7;
 const LONGEST: usize = 16;
 
 // How a node meets what is sought: it is it, it has the same key, or neither.
-#[derive(Drop)]
+#[derive(Clone, Copy)]
 pub enum Meeting {
     Own,
     Kin,
@@ -31,7 +31,7 @@ pub enum Meeting {
 
 // The node that was sought. Where there is none: the count of nodes, with the class of its equals or again the
 // count.
-#[derive(Drop)]
+#[derive(Clone, Copy)]
 pub struct Found {
     pub node: usize,
     pub class: usize,

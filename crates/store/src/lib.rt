@@ -1,5 +1,8 @@
 // The store: expressions as numbered nodes in lent rows, each tree once, with a desk beside them. Whatever rows and desk hold,
 // every function here is safe; where they hold a store (`Sound`), it does what its definition on trees says.
+
+#![tactic(auto)]
+
 ghost use Rattle.std.specs.Prelude.{◌≡◌, List, ℕ, ◌+◌, max};
 ghost use Rattle.expression.specs.Nodes.{measure_from};
 ghost use Rattle.store.specs.Memory.{memory, size_at, depth_at};

@@ -10,7 +10,7 @@ use expression::node::Expression;
 use expression::{ExpressionFunction, InfixOperator, PrefixOperator};
 
 // `code` is the kind by the tape's opcodes, and eight times the operator's or function's number.
-#[derive(Drop)]
+#[derive(Clone, Copy)]
 pub struct Fields {
     pub code: u64,
     pub first: u64,

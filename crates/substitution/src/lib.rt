@@ -1,5 +1,8 @@
 // Substituting for the variables of an expression, all at once: `substitute_variables` of the Rust, over the nodes of a store. What a
 // node became is remembered, so a node that is shared is substituted once.
+
+#![tactic(auto)]
+
 ghost use Rattle.store.specs.Held.{lent};
 ghost use Rattle.substitution.specs.Run.{PutsIn, Rebuilds, Replaces, Substitutes};
 

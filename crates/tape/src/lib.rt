@@ -1,4 +1,7 @@
 // The tape of an expression: compiled from the store, checked, played on a stack of 64 values, and picked from two.
+
+#![tactic(auto)]
+
 ghost use Rattle.std.specs.Prelude.{◌≡◌, ◌*◌, ◌≤◌, length};
 ghost use Rattle.steps.specs.Steps.{step_of};
 ghost use Rattle.tape.specs.Tapes as Tapes;
@@ -16,13 +19,13 @@ const MOST_STEPS: usize = 512;
 const MOST_VALUES: usize = 64;
 
 // Sound, or the first bad step.
-#[derive(Drop)]
+#[derive(Clone, Copy)]
 pub enum Checked {
     Sound,
     Bad(u64),
 }
 
-#[derive(Drop)]
+#[derive(Clone, Copy)]
 pub enum Picked {
     First,
     Second,

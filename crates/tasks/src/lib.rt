@@ -1,5 +1,8 @@
 // What is done at a node for which nothing is kept, and how calls are counted: rules of simplifying that are decided by the
 // node and the limit alone. Nothing is built or simplified here.
+
+#![tactic(auto)]
+
 ghost use Rattle.std.specs.Prelude.{◌≡◌};
 ghost use Rattle.store.specs.Desk.{calls_on, with_calls};
 ghost use Rattle.tasks.specs.Deciding.{one_more, node_task};
@@ -13,7 +16,7 @@ use store::desk::{calls_made, set_calls};
 pub mod limit;
 
 // What is done at a node, with the numbers of the nodes that it is about.
-#[derive(Drop)]
+#[derive(Clone, Copy)]
 pub enum Task {
     // pi's number is stored
     NumberOfPi,

@@ -3,7 +3,7 @@ ghost use Rattle.std.specs.Prelude.{◌≡◌, ◌-◌, eqb};
 ghost use Rattle.tasks.specs.Tasks.{is_allowed};
 
 // Never to be confused with numbers or sizes of nodes.
-#[derive(Drop)]
+#[derive(Clone, Copy)]
 pub struct Limit(pub u64);
 
 impl Limit {

@@ -6,7 +6,7 @@ ghost use Rattle.text.specs.Seen.{seen, Reads, low_digit, high_digit};
 use std::num::wrapping_sub_u8;
 
 // What is read at a place: a number and the place after it, or none such.
-#[derive(Drop)]
+#[derive(Clone, Copy)]
 pub enum Number {
     Is(u64, usize),
     Bad,

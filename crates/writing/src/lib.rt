@@ -1,4 +1,7 @@
 // A tree written as a listing: its lines in order, at the start of an output.
+
+#![tactic(auto)]
+
 ghost use Rattle.std.specs.Prelude.{◌≡◌, ◌*◌, ◌≤◌, length};
 ghost use Rattle.memory.specs.Layout.{table_words};
 ghost use Rattle.store.specs.Memory.{memory};
@@ -20,7 +23,7 @@ mod order;
 mod traced;
 
 // What writing answers: how many bytes stand at the start of the output, or a refusal.
-#[derive(Drop)]
+#[derive(Clone, Copy)]
 pub enum Written {
     Bytes(usize),
     Refused(Refusal),

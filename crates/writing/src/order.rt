@@ -15,7 +15,7 @@ const MOST: usize = 4096;
 // Above all nodes: where there is no child.
 pub const NONE: usize = 0xFFFF_FFFF_FFFF_FFFF;
 
-#[derive(Drop)]
+#[derive(Clone, Copy)]
 pub struct Children {
     pub left: usize,
     pub right: usize,
