@@ -1,0 +1,5 @@
+-- `play` meets its contract: the marks are left out. Assumes nothing.
+use Rattle.calls.proofs.tapes.play.Goals as goal
+
+pub returns : goal.returns
+returns c = let p = c.play_marked.ensures in λ i. ((p i).0.0, (p i).1)

@@ -1,0 +1,7 @@
+-- `write_too_many` meets its contract. Assumes nothing.
+use native.Mathlib.Omega.{arith}
+use Rattle.console.proofs.Lines.{put_counts}
+use Rattle.commands.proofs.help.write_too_many.Goals as goal
+
+pub returns : goal.returns
+returns c = (c.write_bytes.ensures, put_counts c.write_bytes.ensures (omega (arith, c.requires)))

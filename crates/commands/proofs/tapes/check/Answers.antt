@@ -1,0 +1,14 @@
+-- `check` meets its contract. Assumes nothing.
+use native.Mathlib.Omega.{arith}
+use Rattle.text.specs.Letters.{bytes}
+use Rattle.tape.specs.Tapes.{check}
+use Rattle.console.proofs.Lines.{put_counts}
+use Rattle.commands.specs.Results.{of_checked}
+use Rattle.commands.proofs.Resulting.{of_text, sound_comes, unsound_comes}
+use Rattle.commands.proofs.tapes.check.Goals as goal
+
+pub returns-in-Sound : goal.returns-in-Sound
+returns-in-Sound c = of_text (λ tape. of_checked (bytes "sound\n") (check tape)) _ c.read_tape-n.ensures (sound_comes _ _ c.check-answer.ensures c.in-Sound.is (c.write_bytes.ensures, put_counts c.write_bytes.ensures (omega (arith, c.requires))))
+
+pub returns-in-Bad : goal.returns-in-Bad
+returns-in-Bad c = of_text (λ tape. of_checked (bytes "sound\n") (check tape)) _ c.read_tape-n.ensures (unsound_comes _ _ c.check-answer.ensures c.in-Bad.is)

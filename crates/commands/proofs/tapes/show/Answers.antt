@@ -1,0 +1,10 @@
+-- `show` meets its contract. Assumes nothing.
+use Rattle.commands.specs.Results.{shown_tape}
+use Rattle.commands.proofs.Resulting.{of_text, sound_comes, unsound_comes}
+use Rattle.commands.proofs.tapes.show.Goals as goal
+
+pub returns-in-Sound : goal.returns-in-Sound
+returns-in-Sound c = of_text shown_tape _ c.read_tape-n.ensures (sound_comes _ _ c.check-answer.ensures c.in-Sound.is c.write_steps.ensures)
+
+pub returns-in-Bad : goal.returns-in-Bad
+returns-in-Bad c = of_text shown_tape _ c.read_tape-n.ensures (unsound_comes _ _ c.check-answer.ensures c.in-Bad.is)

@@ -1,0 +1,40 @@
+-- `listing_length` meets its contract. The invariant: `before` is the byte before this place, and no empty line stands
+-- at a place that was passed. Assumes nothing.
+use Prim.Native.Nat.{◌-◌}
+use mathlib.Core.Path.{refl, sym, ◌∙◌}
+use mathlib.Core.Logic.{⊎_elim}
+use native.Mathlib.Omega.{arith}
+use native.Mathlib.Numerals.{add-one}
+use lib.Seq.{length-take-le}
+use borrow.Author.Count.{below_more}
+use borrow.Author.Rules.{rules}
+use Rattle.console.proofs.input.listing_length.Goals as goal
+
+)
+
+pub loop-at-init : goal.loop-at-init
+loop-at-init c = (search rules, refl, λ k h e. omega arith)
+
+pub returns-then-before-eq-LF : goal.returns-then-before-eq-LF
+returns-then-before-eq-LF c =
+    record {
+      counts = (search rules, sym (length-take-le _ _ (search rules)));
+      without = c.loop-at.invariant.2;
+      followed = λ h. (sym c.loop-at.invariant.1 ∙ c.if-before-eq-LF.true, c.if-byte-eq-LF.true);
+    }
+
+pub loop-at-preserved : goal.loop-at-preserved
+loop-at-preserved c = (
+  search rules,
+  simp add-one,
+  below_more _ _ c.loop-at.invariant.2
+      (λ e.
+      ⊎_elim (λ w. w.1.left (c.loop-at.invariant.1 ∙ e.0)) (λ w. w.left e.1) c.if-byte-eq-LF.branch),
+
+pub returns : goal.returns
+returns c =
+    record {
+      counts = (search rules, sym (length-take-le _ _ (search rules)));
+      without = c.loop-at.invariant.2;
+      followed = λ h. omega arith;
+    }

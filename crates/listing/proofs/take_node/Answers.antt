@@ -1,0 +1,28 @@
+-- `take_node` meets its contract: each return is a law of proofs/Taking. Assumes nothing.
+use native.Mathlib.Omega.{arith}
+use Rattle.listing.proofs.Taking.{node_long, node_late, node_bad, node_next, node_refused}
+use Rattle.listing.proofs.take_node.Goals as goal
+
+pub overflow_add-here : goal.overflow_add-here
+overflow_add-here c = omega (arith, c.requires.lines, c.requires.swaps)
+
+pub returns-then-lines-ge-MOST_NODE_LINES : goal.returns-then-lines-ge-MOST_NODE_LINES
+returns-then-lines-ge-MOST_NODE_LINES c = λ li. node_long c.requires li c.if-lines-ge-MOST_NODE_LINES.true
+
+pub returns-then-swaps-gt0 : goal.returns-then-swaps-gt0
+returns-then-swaps-gt0 c = λ li. node_late c.requires li c.if-lines-ge-MOST_NODE_LINES.false c.if-swaps-gt0.true
+
+pub read_node-found-requires : goal.read_node-found-requires
+read_node-found-requires c = (c.requires.inside, c.requires.lines)
+
+pub returns-in_default : goal.returns-in_default
+returns-in_default c = λ li. node_bad c.requires li c.if-lines-ge-MOST_NODE_LINES.false c.if-swaps-gt0.false c.read_node-found.ensures c.in_default.is
+
+pub returns-then-node-ge-REFUSED : goal.returns-then-node-ge-REFUSED
+returns-then-node-ge-REFUSED c = λ li. node_refused c.requires li c.if-lines-ge-MOST_NODE_LINES.false c.if-swaps-gt0.false c.read_node-found.ensures c.in-Node.is (rw c.moved_by.ensures at c.add-node.ensures) c.if-node-ge-REFUSED.true c.refusal_of.ensures
+
+pub overflow_add-result : goal.overflow_add-result
+overflow_add-result c = omega (arith, c.requires.lines)
+
+pub returns : goal.returns
+returns c = λ li. node_next c.requires li c.if-lines-ge-MOST_NODE_LINES.false c.if-swaps-gt0.false c.read_node-found.ensures c.in-Node.is (rw c.moved_by.ensures at c.add-node.ensures) c.if-node-ge-REFUSED.false c.mark.ensures c.put.ensures

@@ -1,0 +1,15 @@
+-- `print` meets its contract. Assumes nothing.
+use Rattle.outcomes.proofs.Telling.{prints_bytes, prints_listing, prints_refusal, prints_too_long}
+use Rattle.outcomes.proofs.print.Goals as goal
+
+pub returns-in-Printed : goal.returns-in-Printed
+returns-in-Printed c = prints_bytes c.in-Printed.is c.requires.1
+
+pub returns-in-Simplified : goal.returns-in-Simplified
+returns-in-Simplified c = prints_listing c.in-Simplified.is c.requires.1
+
+pub returns-in-Refused : goal.returns-in-Refused
+returns-in-Refused c = prints_refusal c.in-Refused.is c.print_refusal.ensures
+
+pub returns-in-TooLong : goal.returns-in-TooLong
+returns-in-TooLong c = prints_too_long c.in-TooLong.is c.write_refused.ensures

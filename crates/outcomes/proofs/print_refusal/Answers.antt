@@ -1,0 +1,11 @@
+-- `print_refusal` meets its contract. Assumes nothing.
+use native.Mathlib.Omega.{arith}
+use Rattle.console.proofs.Lines.{put_counts}
+use Rattle.outcomes.proofs.Telling.{incomplete, other_refusal}
+use Rattle.outcomes.proofs.print_refusal.Goals as goal
+
+pub returns-then-number-eq10 : goal.returns-then-number-eq10
+returns-then-number-eq10 c = incomplete c.args.why c.number.ensures c.if-number-eq10.true (c.write_bytes.ensures, put_counts c.write_bytes.ensures (omega (arith, c.requires)))
+
+pub returns : goal.returns
+returns c = other_refusal c.args.why c.number.ensures c.if-number-eq10.false c.write_refusal.ensures

@@ -1,0 +1,16 @@
+-- `say` meets its contract. Assumes nothing.
+use Rattle.outcomes.specs.declared.Outcome.{Outcome}
+use Rattle.outcomes.proofs.Telling.{nothing_said, says_of}
+use Rattle.outcomes.proofs.say.Goals as goal
+
+pub returns-in-Printed : goal.returns-in-Printed
+returns-in-Printed c = says_of (Outcome.Printed _) c.in-Printed.is (nothing_said _)
+
+pub returns-in-Simplified : goal.returns-in-Simplified
+returns-in-Simplified c = says_of (Outcome.Simplified _ _) c.in-Simplified.is c.write_calls.ensures
+
+pub returns-in-Refused : goal.returns-in-Refused
+returns-in-Refused c = says_of (Outcome.Refused _ _) c.in-Refused.is c.write_sentence.ensures
+
+pub returns-in-TooLong : goal.returns-in-TooLong
+returns-in-TooLong c = says_of Outcome.TooLong c.in-TooLong.is c.write_too_long.ensures

@@ -1,0 +1,12 @@
+-- `replay::say::is_same_answer` meets its contract: the words before the place are the same. Assumes nothing.
+use Prim.Native.Nat.{◌-◌}
+use mathlib.Core.Path.{◌≡◌}
+use mathlib.Core.Bool.{true}
+use Rattle.replay.specs.Judges.{same_up_to}
+use Rattle.replay.proofs.say.is_same_answer.Given as goal
+
+abbrev pub invariant-loop-i : goal.invariant-loop-i
+invariant-loop-i l = same_up_to l.i l.a l.b ≡ true
+
+abbrev pub decreases-loop-i : goal.decreases-loop-i
+decreases-loop-i l = 6 - l.i

@@ -1,0 +1,9 @@
+-- `plain_line` meets its contract. Assumes nothing.
+use Rattle.sentences.proofs.Entries.{by_place, by_operation}
+use Rattle.sentences.proofs.plain_line.Goals as goal
+
+pub returns-in_default : goal.returns-in_default
+returns-in_default c = by_place c.args.why c.in_default.keys2 c.placed_line.ensures c.number.ensures c.place.ensures
+
+pub returns : goal.returns
+returns c = by_operation c.in-Need.is c.need_line.ensures

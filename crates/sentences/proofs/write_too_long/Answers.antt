@@ -1,0 +1,8 @@
+-- `write_too_long` meets its contract. Assumes nothing.
+use mathlib.Core.Path.{refl}
+use Rattle.sentences.specs.Table.{of}
+use Rattle.sentences.proofs.Saying.{told, says_too_long}
+use Rattle.sentences.proofs.write_too_long.Goals as goal
+
+pub returns : goal.returns
+returns c = told (of 0 0 0) refl says_too_long c.write_entry.ensures

@@ -1,0 +1,30 @@
+-- `second_operand` meets its contract: the fields that were read, put into the definition. Assumes nothing.
+use mathlib.Core.Path.{sym}
+use borrow.Author.Tests.{eq-eqb, ne_eqb}
+use Rattle.text.specs.Reading.{then}
+use Rattle.sheet.specs.Rows.{second_operand}
+use Rattle.sheet.proofs.fields.second_operand.Goals as goal
+
+pub returns-in_default : goal.returns-in_default
+unfolding second_operand then
+returns-in_default c = (rw (sym (rw c.in_default.is at c.hex_field-first.ensures.answer)), tt)
+
+pub returns-in_default-last : goal.returns-in_default-last
+unfolding second_operand then
+returns-in_default-last c = (rw (sym (rw c.in-Is.is at c.hex_field-first.ensures.answer), sym (rw c.in_default-last.is at c.hex_field-last.ensures.answer)), tt)
+
+pub returns-then-name-eq-POWER : goal.returns-then-name-eq-POWER
+unfolding second_operand then
+returns-then-name-eq-POWER c = (rw (sym (rw c.in-Is.is at c.hex_field-first.ensures.answer), sym (rw c.in-Is-last.is at c.hex_field-last.ensures.answer), eq-eqb _ _ c.if-name-eq-POWER.true), rw c.in-Is-last.is at c.hex_field-last.ensures.inside)
+
+pub returns-then-re-ne0 : goal.returns-then-re-ne0
+unfolding second_operand then
+returns-then-re-ne0 c = (rw (sym (rw c.in-Is.is at c.hex_field-first.ensures.answer), sym (rw c.in-Is-last.is at c.hex_field-last.ensures.answer), ne_eqb _ _ c.if-name-eq-POWER.false, ne_eqb _ _ c.if-re-ne0.true), tt)
+
+pub returns-then-im-ne0 : goal.returns-then-im-ne0
+unfolding second_operand then
+returns-then-im-ne0 c = (rw (sym (rw c.in-Is.is at c.hex_field-first.ensures.answer), sym (rw c.in-Is-last.is at c.hex_field-last.ensures.answer), ne_eqb _ _ c.if-name-eq-POWER.false, eq-eqb _ _ c.if-re-ne0.false, ne_eqb _ _ c.if-im-ne0.true), tt)
+
+pub returns : goal.returns
+unfolding second_operand then
+returns c = (rw (sym (rw c.in-Is.is at c.hex_field-first.ensures.answer), sym (rw c.in-Is-last.is at c.hex_field-last.ensures.answer), ne_eqb _ _ c.if-name-eq-POWER.false, eq-eqb _ _ c.if-re-ne0.false, eq-eqb _ _ c.if-im-ne0.false), rw c.in-Is-last.is at c.hex_field-last.ensures.inside)

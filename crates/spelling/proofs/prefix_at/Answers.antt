@@ -1,0 +1,21 @@
+-- `prefix_at` meets its contract. Assumes nothing.
+use mathlib.Core.Path.{sym, ◌∙◌}
+use mathlib.Core.List.{[], ◌∷◌}
+use native.Mathlib.Omega.{arith}
+use Rattle.text.proofs.Fields.{word_inside, name_here, name_later, name_none}
+use Rattle.spelling.proofs.prefix_at.Goals as goal
+
+pub overflow_add-result : goal.overflow_add-result
+overflow_add-result c = let l = word_inside (43 ∷ []) c.args.s.now c.args.at (omega arith) (sym c.word_at.ensures ∙ c.if-word_at.true) in omega (arith, l)
+
+pub returns-then-word_at : goal.returns-then-word_at
+returns-then-word_at c = let l = word_inside (43 ∷ []) c.args.s.now c.args.at (omega arith) (sym c.word_at.ensures ∙ c.if-word_at.true) in record { answer = sym (name_here _ _ _ c.args.s.now c.args.at (sym c.word_at.ensures ∙ c.if-word_at.true)); inside = omega (arith, l) }
+
+pub overflow_add-result-then-word_at-2 : goal.overflow_add-result-then-word_at-2
+overflow_add-result-then-word_at-2 c = let l = word_inside (45 ∷ []) c.args.s.now c.args.at (omega arith) (sym c.word_at-2.ensures ∙ c.if-word_at-2.true) in omega (arith, l)
+
+pub returns-then-word_at-2 : goal.returns-then-word_at-2
+returns-then-word_at-2 c = let l = word_inside (45 ∷ []) c.args.s.now c.args.at (omega arith) (sym c.word_at-2.ensures ∙ c.if-word_at-2.true) in record { answer = sym (name_later _ _ _ c.args.s.now c.args.at (sym c.word_at.ensures ∙ c.if-word_at.false) ∙ name_here _ _ _ c.args.s.now c.args.at (sym c.word_at-2.ensures ∙ c.if-word_at-2.true)); inside = omega (arith, l) }
+
+pub returns : goal.returns
+returns c = record { answer = sym (name_later _ _ _ c.args.s.now c.args.at (sym c.word_at.ensures ∙ c.if-word_at.false) ∙ name_later _ _ _ c.args.s.now c.args.at (sym c.word_at-2.ensures ∙ c.if-word_at-2.false) ∙ name_none _ _); inside = tt }

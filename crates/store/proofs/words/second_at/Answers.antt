@@ -1,0 +1,9 @@
+-- `second_at` meets its contract: a word of the row, where there is one. Assumes nothing.
+use Rattle.store.proofs.Rows.{second_in, second_out}
+use Rattle.store.proofs.words.second_at.Goals as goal
+
+pub returns-then-i-store : goal.returns-then-i-store
+returns-then-i-store c = second_in _ _
+
+pub returns-else-i-store : goal.returns-else-i-store
+returns-else-i-store c = second_out _ _ c.if-i-store.false

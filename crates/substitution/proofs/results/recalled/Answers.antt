@@ -1,0 +1,5 @@
+-- `recalled` meets its contract. Assumes nothing.
+use Rattle.substitution.proofs.results.recalled.Goals as goal
+
+pub returns : goal.returns
+returns c = rw (← c.word_of.ensures) c.read.ensures

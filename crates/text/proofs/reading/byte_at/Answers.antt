@@ -1,0 +1,7 @@
+-- `byte_at` meets its contract: past the end there is 0. Assumes nothing.
+use Rattle.std.proofs.Common.{sym}
+use lib.ListN.{get_or-eq_default}
+use Rattle.text.proofs.reading.byte_at.Goals as goal
+
+pub returns-else-i-s : goal.returns-else-i-s
+returns-else-i-s c = sym (get_or-eq_default c.args.s.now 0 c.if-i-s.false)

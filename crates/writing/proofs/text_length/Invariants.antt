@@ -1,0 +1,13 @@
+-- `text_length` meets its contract. Assumes nothing.
+use mathlib.Core.Path.{◌≡◌}
+use Prim.Native.Nat.{◌-◌, ◌*◌, ◌≤◌}
+use lib.ListN.{length}
+use Rattle.store.specs.Memory.{memory}
+use Rattle.writing.specs.Ordering.{lines_text}
+use Rattle.writing.proofs.text_length.Given as goal
+
+abbrev pub invariant-loop-i : goal.invariant-loop-i
+invariant-loop-i l = (l.i ≤ l.count) × ((l.total ≡ length (lines_text (memory l.store) l.table l.i)) × (l.total ≤ 64 * l.i))
+
+abbrev pub decreases-loop-i : goal.decreases-loop-i
+decreases-loop-i l = l.count - l.i
