@@ -47,6 +47,7 @@ fn keep_answer(store: &mut [[u64; 4]], node: usize, answer: usize)
 
 // S(e), for a new node e.
 #[cycle(add_simplified_affine_again_carry_out_distribute_double_inverse_perform_regroup_simplify_simplify_function_call_simplify_infix_simplify_prefix_smaller_regrouped)]
+#[cycle(simplifying)]
 fn again(
     limit: Limit,
     store: &mut [[u64; 4]],
@@ -66,6 +67,7 @@ fn again(
 
 // S(1/other)
 #[cycle(add_simplified_affine_again_carry_out_distribute_double_inverse_perform_regroup_simplify_simplify_function_call_simplify_infix_simplify_prefix_smaller_regrouped)]
+#[cycle(simplifying)]
 fn inverse(
     limit: Limit,
     store: &mut [[u64; 4]],
@@ -86,6 +88,7 @@ fn inverse(
 
 // S of what is made around S(inner).
 #[cycle(add_simplified_affine_again_carry_out_distribute_double_inverse_perform_regroup_simplify_simplify_function_call_simplify_infix_simplify_prefix_smaller_regrouped)]
+#[cycle(simplifying)]
 fn regroup(
     limit: Limit,
     store: &mut [[u64; 4]],
@@ -106,6 +109,7 @@ fn regroup(
 
 // min(original, S of what is made around S(e)): the first choice is stored first.
 #[cycle(add_simplified_affine_again_carry_out_distribute_double_inverse_perform_regroup_simplify_simplify_function_call_simplify_infix_simplify_prefix_smaller_regrouped)]
+#[cycle(simplifying)]
 fn smaller_regrouped(
     limit: Limit,
     store: &mut [[u64; 4]],
@@ -131,6 +135,7 @@ fn smaller_regrouped(
 
 // S(S(a)+S(b))
 #[cycle(add_simplified_affine_again_carry_out_distribute_double_inverse_perform_regroup_simplify_simplify_function_call_simplify_infix_simplify_prefix_smaller_regrouped)]
+#[cycle(simplifying)]
 fn add_simplified(
     limit: Limit,
     store: &mut [[u64; 4]],
@@ -156,6 +161,7 @@ fn add_simplified(
 
 // min(original, S(S(a)+S(b)))
 #[cycle(add_simplified_affine_again_carry_out_distribute_double_inverse_perform_regroup_simplify_simplify_function_call_simplify_infix_simplify_prefix_smaller_regrouped)]
+#[cycle(simplifying)]
 fn distribute(
     limit: Limit,
     store: &mut [[u64; 4]],
@@ -181,6 +187,7 @@ fn distribute(
 
 // S(S(2*x)+S(a+b))
 #[cycle(add_simplified_affine_again_carry_out_distribute_double_inverse_perform_regroup_simplify_simplify_function_call_simplify_infix_simplify_prefix_smaller_regrouped)]
+#[cycle(simplifying)]
 fn double(
     limit: Limit,
     store: &mut [[u64; 4]],
@@ -204,6 +211,7 @@ fn double(
 
 // S(S(S(a)*x)+S(b)), S(a) and S(b) first
 #[cycle(add_simplified_affine_again_carry_out_distribute_double_inverse_perform_regroup_simplify_simplify_function_call_simplify_infix_simplify_prefix_smaller_regrouped)]
+#[cycle(simplifying)]
 fn affine(
     limit: Limit,
     store: &mut [[u64; 4]],
@@ -231,6 +239,7 @@ fn affine(
 
 // What an arm wants.
 #[cycle(add_simplified_affine_again_carry_out_distribute_double_inverse_perform_regroup_simplify_simplify_function_call_simplify_infix_simplify_prefix_smaller_regrouped)]
+#[cycle(simplifying)]
 fn carry_out(
     limit: Limit,
     store: &mut [[u64; 4]],
@@ -264,6 +273,7 @@ fn carry_out(
 
 // The operand at the limit, then what the arm wants at 1 less.
 #[cycle(add_simplified_affine_again_carry_out_distribute_double_inverse_perform_regroup_simplify_simplify_function_call_simplify_infix_simplify_prefix_smaller_regrouped)]
+#[cycle(simplifying)]
 fn simplify_function_call(
     limit: Limit,
     store: &mut [[u64; 4]],
@@ -286,6 +296,7 @@ fn simplify_function_call(
 
 // Left before right, then the same.
 #[cycle(add_simplified_affine_again_carry_out_distribute_double_inverse_perform_regroup_simplify_simplify_function_call_simplify_infix_simplify_prefix_smaller_regrouped)]
+#[cycle(simplifying)]
 fn simplify_infix(
     limit: Limit,
     store: &mut [[u64; 4]],
@@ -313,6 +324,7 @@ fn simplify_infix(
 
 // As for a function.
 #[cycle(add_simplified_affine_again_carry_out_distribute_double_inverse_perform_regroup_simplify_simplify_function_call_simplify_infix_simplify_prefix_smaller_regrouped)]
+#[cycle(simplifying)]
 fn simplify_prefix(
     limit: Limit,
     store: &mut [[u64; 4]],
@@ -335,6 +347,7 @@ fn simplify_prefix(
 
 // The task of a node for which nothing is kept; an operation "runs with limit 1 less".
 #[cycle(add_simplified_affine_again_carry_out_distribute_double_inverse_perform_regroup_simplify_simplify_function_call_simplify_infix_simplify_prefix_smaller_regrouped)]
+#[cycle(simplifying)]
 fn perform(
     limit: Limit,
     store: &mut [[u64; 4]],
@@ -359,6 +372,7 @@ fn perform(
 
 // A node simplified at a limit. "A cached equal node gives its cached result, whatever limit it was made at."
 #[cycle(add_simplified_affine_again_carry_out_distribute_double_inverse_perform_regroup_simplify_simplify_function_call_simplify_infix_simplify_prefix_smaller_regrouped)]
+#[cycle(simplifying)]
 pub fn simplify(
     limit: Limit,
     store: &mut [[u64; 4]],

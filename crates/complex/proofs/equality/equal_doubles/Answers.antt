@@ -5,6 +5,5 @@ use Rattle.complex.proofs.equality.equal_doubles.Goals as goal
 
 pub returns : goal.returns
 returns c =
-    let s = c.? in
     (λ i. eqb (c.class_of.ensures i) (c.class_of-2.ensures i))
-    ∙ sym (equal_is_same_class s.args.x s.args.y (subst T (sym s.well-formed.0.1) tt) (subst T (sym s.well-formed.1.0.1) tt))
+    ∙ sym (equal_is_same_class c.args.x c.args.y (subst T (sym c.well_formed.0.1) tt) (subst T (sym c.well_formed.1.0.1) tt))

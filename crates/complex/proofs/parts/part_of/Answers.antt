@@ -1,32 +1,21 @@
 -- `complex::parts::part_of` meets its contract: at least 11 of the digits' 64 bits are leading zeros, and the shift by what is past 11 moves
 -- the highest set bit to bit 52. Assumes nothing.
-use Rattle.std.proofs.Common.{ℕ, ◌-◌, ◌*◌, ◌%◌, ◌^◌, ◌≤◌, arith}
+use Rattle.std.proofs.Common.{ℕ, ◌-◌, ◌*◌, ◌%◌, ◌^◌, ◌≤◌, ◌≡◌, arith}
 use lib.Count.{count_leading_zeros, leading_le}
 use Rattle.complex.proofs.Scaling.{eleven, digits_lt, scaled_bits}
 use Rattle.complex.proofs.parts.part_of.Goals as goal
 
-digits : (c : tie.After-exponent-of) → ℕ
-digits c = c.before.args.bits % 2 ^ 63 - c.exponent-of.result * 2 ^ 52
-
-few : (c : tie.After-exponent-of) → 11 ≤ count_leading_zeros 64 (digits c)
-unfolding digits
-few c = eleven (digits c) (digits_lt (c.before.args.bits % 2 ^ 63) c.exponent-of.result c.exponent-of.ensures)
-
 pub overflow_cast-zeros : goal.overflow_cast-zeros
-unfolding digits
-overflow_cast-zeros c = omega (arith, leading_le 64 (digits c))
+overflow_cast-zeros c = omega (arith, leading_le 64 (c.args.bits % 2 ^ 63 - c.exponent_of-exponent.result * 2 ^ 52))
 
 pub overflow_sub-result : goal.overflow_sub-result
-unfolding digits
-overflow_sub-result c = few c
+overflow_sub-result c = eleven (c.args.bits % 2 ^ 63 - c.exponent_of-exponent.result * 2 ^ 52) (digits_lt (c.args.bits % 2 ^ 63) c.exponent_of-exponent.result c.exponent_of-exponent.ensures)
 
 pub overflow_shl-result : goal.overflow_shl-result
-unfolding digits
-overflow_shl-result c = omega (arith, leading_le 64 (digits c))
+overflow_shl-result c = omega (arith, leading_le 64 (c.args.bits % 2 ^ 63 - c.exponent_of-exponent.result * 2 ^ 52))
 
 pub overflow_sub-result-2 : goal.overflow_sub-result-2
-unfolding digits
-overflow_sub-result-2 c = leading_le 64 (digits c)
+overflow_sub-result-2 c = leading_le 64 (c.args.bits % 2 ^ 63 - c.exponent_of-exponent.result * 2 ^ 52)
 
 pub returns : goal.returns
 returns c = scaled_bits (c.args.bits % 2 ^ 63) c.exponent_of-exponent.result c.exponent_of-exponent.ensures

@@ -11,11 +11,10 @@ doubled k = ap (λ (n : ℕ). 2 ^ n) (two-mul k) ∙ pow-add 2 k k
 
 pub returns : goal.returns
 returns c =
-    let s = c.? in
-    let n = s.args.part.significand in
-    let fits : n < 2 ^ 64 = omega (arith, s) in
-    let square : value c.shifted.result ≡ cut_square s.args.part =
+    let n = c.args.part.significand in
+    let fits : n < 2 ^ 64 = omega (arith, c) in
+    let square : value c.shifted.result ≡ cut_square c.args.part =
     shifted_value (n * n) (2 * c.places_below-k.result) (square_lt n (2 ^ 64) fits) c.product.ensures c.shifted.ensures
     ∙ ap (λ (k : ℕ). n * n / 2 ^ (2 * k)) c.places_below-k.ensures
-    ∙ ap (λ (d : ℕ). n * n / d) (doubled (1041 - s.args.part.scale)) in
-    c.added.ensures ∙ ap (λ (x : ℕ). wide (value s.args.sum + x)) square
+    ∙ ap (λ (d : ℕ). n * n / d) (doubled (1041 - c.args.part.scale)) in
+    c.added.ensures ∙ ap (λ (x : ℕ). wide (value c.args.sum + x)) square

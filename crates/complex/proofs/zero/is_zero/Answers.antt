@@ -4,33 +4,20 @@ use Rattle.complex.specs.Zero.{is_zero}
 use Rattle.complex.proofs.Decide.{Measured, first_from_t, second_from_t, both_below_half, by_squares}
 use Rattle.complex.proofs.zero.is_zero.Goals as goal
 
--- that a struct's float fields fit their format is what owning the struct tells
-measured : (c : tie.After-magnitude-bits2)
-    → let s = c.before.before in
-    Measured s.args.z.re s.args.z.im c.before.magnitude-bits.result c.magnitude-bits2.result
-measured c =
-    let s = c.before.before in
-    record {
-      fits_x = subst T (sym s.well-formed.0.1.1.0.1) tt;
-      fits_y = subst T (sym s.well-formed.0.1.1.1.0.1) tt;
-      bits_x = c.before.magnitude-bits.ensures;
-      bits_y = c.magnitude-bits2.ensures;
-    }
-
 pub returns-then-re-ge-T_BITS : goal.returns-then-re-ge-T_BITS
 unfolding is_zero
-returns-then-re-ge-T_BITS c = first_from_t (measured c.?) c.if-re-ge-T_BITS.true
+returns-then-re-ge-T_BITS c = first_from_t (record { fits_x = subst T (sym c.well_formed.0.1.1.0.1) tt; fits_y = subst T (sym c.well_formed.0.1.1.1.0.1) tt; bits_x = c.magnitude_bits-re.ensures; bits_y = c.magnitude_bits-im.ensures }) c.if-re-ge-T_BITS.true
 
 pub returns-then-im-ge-T_BITS : goal.returns-then-im-ge-T_BITS
 unfolding is_zero
-returns-then-im-ge-T_BITS c = second_from_t (measured c.?) c.if-im-ge-T_BITS.true
+returns-then-im-ge-T_BITS c = second_from_t (record { fits_x = subst T (sym c.well_formed.0.1.1.0.1) tt; fits_y = subst T (sym c.well_formed.0.1.1.1.0.1) tt; bits_x = c.magnitude_bits-re.ensures; bits_y = c.magnitude_bits-im.ensures }) c.if-im-ge-T_BITS.true
 
 pub returns-then-im-lt-HALF_T_BITS : goal.returns-then-im-lt-HALF_T_BITS
 unfolding is_zero
-returns-then-im-lt-HALF_T_BITS c = both_below_half (measured c.?) c.if-re-lt-HALF_T_BITS.true c.if-im-lt-HALF_T_BITS.true
+returns-then-im-lt-HALF_T_BITS c = both_below_half (record { fits_x = subst T (sym c.well_formed.0.1.1.0.1) tt; fits_y = subst T (sym c.well_formed.0.1.1.1.0.1) tt; bits_x = c.magnitude_bits-re.ensures; bits_y = c.magnitude_bits-im.ensures }) c.if-re-lt-HALF_T_BITS.true c.if-im-lt-HALF_T_BITS.true
 
 pub returns : goal.returns
 unfolding is_zero
 returns c =
-    by_squares (measured c.?) c.squares_below.result
+    by_squares (record { fits_x = subst T (sym c.well_formed.0.1.1.0.1) tt; fits_y = subst T (sym c.well_formed.0.1.1.1.0.1) tt; bits_x = c.magnitude_bits-re.ensures; bits_y = c.magnitude_bits-im.ensures }) c.squares_below.result
     c.if-re-ge-T_BITS.false c.if-im-ge-T_BITS.false c.squares_below.ensures

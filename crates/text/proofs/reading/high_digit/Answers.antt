@@ -4,4 +4,4 @@ use Rattle.std.proofs.Common.{rules}
 use Rattle.text.proofs.reading.high_digit.Goals as goal
 
 pub returns : goal.returns
-returns c = high_wraps _ _ (search rules) (search rules) c.wrapping_sub_u8.ensures
+returns c = high_wraps _ _ (search rules) (search rules) c.wrapping_sub_u8.ensures.value

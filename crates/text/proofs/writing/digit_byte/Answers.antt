@@ -70,4 +70,4 @@ returns-in-14 c = rw c.in-14.is
 
 pub returns-in_default : goal.returns-in_default
 unfolding byte_of
-returns-in_default c = rw (last_left c.requires c.in_default.rest)
+returns-in_default c = rw (last_left c.requires c.in_default.in_default-own.rest)
