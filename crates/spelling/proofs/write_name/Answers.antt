@@ -21,7 +21,7 @@ pub write_bytes-requires-in-4 : goal.write_bytes-requires-in-4
 write_bytes-requires-in-4 c = rw c.in-4.is at c.requires.2
 
 pub write_bytes-requires-in_default : goal.write_bytes-requires-in_default
-write_bytes-requires-in_default c = let l : c.args.number ≡ 5 = fifth_left c.requires.0 c.requires.1 c.in_default.rest in rw l at c.requires.2
+write_bytes-requires-in_default c = let l : c.args.number ≡ 5 = fifth_left c.requires.0 c.requires.1 c.in_default.in_default-own.rest in rw l at c.requires.2
 
 pub returns-in-1 : goal.returns-in-1
 returns-in-1 c = rw c.in-1.is c.write_bytes.ensures
@@ -36,4 +36,4 @@ pub returns-in-4 : goal.returns-in-4
 returns-in-4 c = rw c.in-4.is c.write_bytes-in-4.ensures
 
 pub returns-in_default : goal.returns-in_default
-returns-in_default c = let l : c.args.number ≡ 5 = fifth_left c.requires.0 c.requires.1 c.in_default.rest in rw l c.write_bytes-in_default.ensures
+returns-in_default c = let l : c.args.number ≡ 5 = fifth_left c.requires.0 c.requires.1 c.in_default.in_default-own.rest in rw l c.write_bytes-in_default.ensures

@@ -27,4 +27,4 @@ returns-in-4 c = rw c.in-4.is refl
 
 pub returns-in_default : goal.returns-in_default
 unfolding step_of
-returns-in_default c = rw c.from_code.ensures (as_none _ c.if-opcode-eq1.false (omega (arith, c.if-opcode-gt4.false)) c.in_default.rest)
+returns-in_default c = rw c.from_code.ensures (as_none _ c.if-opcode-eq1.false (omega (arith, c.if-opcode-gt4.false)) c.in_default.in_default-own.rest)

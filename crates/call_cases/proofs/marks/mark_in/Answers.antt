@@ -12,4 +12,4 @@ pub returns-in-2 : goal.returns-in-2
 returns-in-2 c = mark_third c.args.digit c.args.row c.in-2.is
 
 pub returns-in_default : goal.returns-in_default
-returns-in_default c = mark_fourth c.args.digit c.args.row c.in_default.rest.0.0.1 c.in_default.rest.0.1 c.in_default.rest.1
+returns-in_default c = mark_fourth c.args.digit c.args.row c.in_default.in_default-own.rest.0.0.1 c.in_default.in_default-own.rest.0.1 c.in_default.in_default-own.rest.1

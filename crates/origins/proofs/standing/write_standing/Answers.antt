@@ -20,19 +20,19 @@ pub loop-i-preserved-then-b-eq-LF : goal.loop-i-preserved-then-b-eq-LF
 loop-i-preserved-then-b-eq-LF c = next_line_lem c.loop-i.invariant c.loop-i-test.true c.if-b-eq-LF.true
 
 pub write_told-next-requires : goal.write_told-next-requires
-write_told-next-requires c = (ltb-true _ _ c.if-line-lt-LINES.true, omega (arith, c.requires, put_length c.loop-i.invariant.put, room c.loop-i.invariant (not-true _ c.if-not-passed.true) (ltb-true _ _ c.if-line-lt-LINES.true)))
+write_told-next-requires c = (c.if-line-lt-LINES.true, omega (arith, c.requires, put_length c.loop-i.invariant.put, room c.loop-i.invariant c.if-not-passed.true c.if-line-lt-LINES.true))
 
 pub loop-i-smaller-then-line-lt-LINES : goal.loop-i-smaller-then-line-lt-LINES
 loop-i-smaller-then-line-lt-LINES c = omega (arith, c.loop-i-test.true)
 
 pub loop-i-preserved-then-line-lt-LINES : goal.loop-i-preserved-then-line-lt-LINES
-loop-i-preserved-then-line-lt-LINES c = one_more_lem c.loop-i.invariant c.loop-i-test.true c.if-b-eq64.true (not-true _ c.if-not-passed.true) (ltb-true _ _ c.if-line-lt-LINES.true) c.write_told-next.ensures
+loop-i-preserved-then-line-lt-LINES c = one_more_lem c.loop-i.invariant c.loop-i-test.true c.if-b-eq64.true c.if-not-passed.true c.if-line-lt-LINES.true c.write_told-next.ensures
 
 pub loop-i-smaller-else-not-passed : goal.loop-i-smaller-else-not-passed
 loop-i-smaller-else-not-passed c = omega (arith, c.loop-i-test.true)
 
 pub loop-i-preserved-else-not-passed : goal.loop-i-preserved-else-not-passed
-loop-i-preserved-else-not-passed c = ⊎_elim (λ w. too_late c.loop-i.invariant c.loop-i-test.true c.if-b-eq64.true (not-true _ w.0.taken) (ltb-false _ _ w.1.left)) (λ w. passed_again c.loop-i.invariant c.loop-i-test.true c.if-b-eq64.true (not-false _ w.left)) c.else-not-passed.branch
+loop-i-preserved-else-not-passed c = ⊎_elim (λ w. too_late c.loop-i.invariant c.loop-i-test.true c.if-b-eq64.true w.0 w.1) (λ w. passed_again c.loop-i.invariant c.loop-i-test.true c.if-b-eq64.true w) c.else-not-passed.either
 
 pub loop-i-smaller : goal.loop-i-smaller
 loop-i-smaller c = omega (arith, c.loop-i-test.true)

@@ -18,7 +18,7 @@ pub variable_may-requires : goal.variable_may-requires
 variable_may-requires c = c.requires.1
 
 pub returns-then-not-variable_may : goal.returns-then-not-variable_may
-returns-then-not-variable_may c = refuses (variable_misplaced c.args.table.now c.args.counts c.line_number-line.result c.line_number-line.ensures _ _ c.if-count-ge-MOST_VARIABLES.false (rw c.in-Are.is at c.read_variable-fields.ensures.0) (sym (not-true _ c.if-not-variable_may.true) ∙ c.variable_may.ensures))
+returns-then-not-variable_may c = refuses (variable_misplaced c.args.table.now c.args.counts c.line_number-line.result c.line_number-line.ensures _ _ c.if-count-ge-MOST_VARIABLES.false (rw c.in-Are.is at c.read_variable-fields.ensures.0) (sym c.if-not-variable_may.true ∙ c.variable_may.ensures))
 
 pub put_variable-requires : goal.put_variable-requires
 put_variable-requires c = c.if-count-ge-MOST_VARIABLES.false
@@ -27,4 +27,4 @@ pub overflow_add-more : goal.overflow_add-more
 overflow_add-more c = omega arith
 
 pub returns : goal.returns
-returns c = rw c.put_variable.ensures (variable_taken _ c.args.table.now c.args.counts c.requires.1 c.requires.0 c.line_number-line.result c.line_number-line.ensures _ _ _ _ _ c.if-count-ge-MOST_VARIABLES.false (rw c.in-Are.is at c.read_variable-fields.ensures.0) (sym (not-false _ c.if-not-variable_may.false) ∙ c.variable_may.ensures) (rw c.in-Are.is at c.read_variable-fields.ensures.1))
+returns c = rw c.put_variable.ensures (variable_taken _ c.args.table.now c.args.counts c.requires.1 c.requires.0 c.line_number-line.result c.line_number-line.ensures _ _ _ _ _ c.if-count-ge-MOST_VARIABLES.false (rw c.in-Are.is at c.read_variable-fields.ensures.0) (sym c.if-not-variable_may.false ∙ c.variable_may.ensures) (rw c.in-Are.is at c.read_variable-fields.ensures.1))

@@ -9,7 +9,7 @@ pub returns-then-read-name : goal.returns-then-read-name
 returns-then-read-name c = sym (rw (other c.if-read-name.true (ap name_in c.read.ensures)))
 
 pub returns-then-not-pair_at : goal.returns-then-not-pair_at
-returns-then-not-pair_at c = sym (rw (eq-eqb _ _ (sym c.if-read-name.false ∙ ap name_in c.read.ensures), sym c.pair_at.ensures ∙ not-true _ c.if-not-pair_at.true))
+returns-then-not-pair_at c = sym (rw (eq-eqb _ _ (sym c.if-read-name.false ∙ ap name_in c.read.ensures), sym c.pair_at.ensures ∙ c.if-not-pair_at.true))
 
 pub returns : goal.returns
-returns c = rw (eq-eqb _ _ (sym c.if-read-name.false ∙ ap name_in c.read.ensures), sym c.pair_at.ensures ∙ not-false _ c.if-not-pair_at.false) c.pair_at-2.ensures
+returns c = rw (eq-eqb _ _ (sym c.if-read-name.false ∙ ap name_in c.read.ensures), sym c.pair_at.ensures ∙ c.if-not-pair_at.false) c.pair_at-2.ensures

@@ -30,4 +30,4 @@ returns-in-6 c = rw (c.in-6.is, ← c.from_code-in-6.ensures) refl
 
 pub returns-in_default : goal.returns-in_default
 unfolding expression_of expression_as
-returns-in_default c = rw c.from_code-in_default.ensures (as_infix _ _ _ _ c.in_default.rest)
+returns-in_default c = rw c.from_code-in_default.ensures (as_infix _ _ _ _ c.in_default.in_default-own.rest)

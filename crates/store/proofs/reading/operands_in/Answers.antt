@@ -46,4 +46,4 @@ returns-in-6 c = rw c.in-6.is refl
 
 pub returns-in_default : goal.returns-in_default
 unfolding expression_of expression_as operands_of
-returns-in_default c = both _ _ _ _ c.in_default.rest
+returns-in_default c = both _ _ _ _ c.in_default.in_default-own.rest

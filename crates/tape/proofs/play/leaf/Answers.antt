@@ -20,4 +20,4 @@ returns-in-3 c = λ h x y. rw (as_variable c.args.f c.in-3.is) (c.variable.ensur
 
 pub returns-in_default : goal.returns-in_default
 unfolding value_of leaf_value seen_value
-returns-in_default c = λ h x y. rw (as_cell c.args.f (is_cell c.args.f c.requires.0 c.requires.1 c.in_default.rest)) (c.cell.ensures h ∙ seen_bound _)
+returns-in_default c = λ h x y. rw (as_cell c.args.f (is_cell c.args.f c.requires.0 c.requires.1 c.in_default.in_default-own.rest)) (c.cell.ensures h ∙ seen_bound _)

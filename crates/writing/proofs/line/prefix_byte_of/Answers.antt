@@ -10,4 +10,4 @@ returns-in-1 c = rw c.in-1.is
 
 pub returns-in_default : goal.returns-in_default
 unfolding numbered
-returns-in_default c = rw (ne_eqb _ 1 c.in_default.rest.1) refl
+returns-in_default c = rw (ne_eqb _ 1 c.in_default.in_default-own.rest.1) refl

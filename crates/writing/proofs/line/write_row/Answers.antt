@@ -44,4 +44,4 @@ pub returns-in-6 : goal.returns-in-6
 returns-in-6 c = row_written _ _ (row_prefix _ _ c.in-6.is refl c.link_at-left.ensures) (prefix_short _ _ (omega arith)) (c.write_prefix.ensures _ c.prefix_byte_of.ensures)
 
 pub returns-in_default : goal.returns-in_default
-returns-in_default c = row_written _ _ (row_infix _ _ c.in_default.rest refl c.link_at-left.ensures c.link_at-right.ensures) (infix_short _ _ _ (omega arith) (omega arith)) (c.write_infix.ensures _ c.infix_byte_of.ensures)
+returns-in_default c = row_written _ _ (row_infix _ _ c.in_default.in_default-own.rest refl c.link_at-left.ensures c.link_at-right.ensures) (infix_short _ _ _ (omega arith) (omega arith)) (c.write_infix.ensures _ c.infix_byte_of.ensures)
