@@ -5,8 +5,6 @@ use native.Mathlib.Omega.{arith}
 use Rattle.text.proofs.Fields.{word_inside, name_here, name_later, name_none}
 use Rattle.spelling.proofs.infix_at.Goals as goal
 
-pub infix-at-spec : {M : Type 1} → statement M
-
 pub overflow_add-result : goal.overflow_add-result
 overflow_add-result c = let l = word_inside (43 ∷ []) c.args.s.now c.args.at (omega arith) (sym c.word_at.ensures ∙ c.if-word_at.true) in omega (arith, l)
 

@@ -1,8 +1,6 @@
 -- `infix_byte` meets its contract: each operator has a name of one byte. Assumes nothing.
 use Rattle.spelling.proofs.infix_byte.Goals as goal
 
-pub infix-byte-spec : {M : Type 1} → statement M
-
 pub returns-in-Plus : goal.returns-in-Plus
 returns-in-Plus c = rw c.in-Plus.is
 

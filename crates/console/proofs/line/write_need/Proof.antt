@@ -22,8 +22,6 @@ returns : tie.Need-returns
 returns c =
     put_line (rw (need_text c.before.before.before.before.before.before.before.before.before.before.before.before.before.before.before.before.before.before.before.before.before.before.args.operation c.before.before.before.before.before.before.before.before.before.before.before.before.before.before.before.before.before.before.before.before.before.before.args.x c.before.before.before.before.before.before.before.before.before.before.before.before.before.before.before.before.before.before.before.before.before.before.args.y) (put_then c.before.before.before.before.before.before.before.before.before.before.before.before.before.before.before.before.before.before.write_bytes.ensures (put_then c.before.before.before.before.before.before.before.before.before.before.before.before.before.before.write-operation.ensures (put_then c.before.before.before.before.before.before.before.before.before.before.write_byte.ensures (put_then c.before.before.before.before.before.before.write-parts.ensures c.before.before.write-parts2.ensures))))) (need_short c.before.before.before.before.before.before.before.before.before.before.before.before.before.before.before.before.before.before.before.before.before.before.args.operation c.before.before.before.before.before.before.before.before.before.before.before.before.before.before.before.before.before.before.before.before.before.before.args.x c.before.before.before.before.before.before.before.before.before.before.before.before.before.before.before.before.before.before.before.before.before.before.args.y) c.before.before.before.before.before.before.before.before.before.before.before.before.before.before.before.before.before.before.before.before.before.before.requires
 
-pub write-need-spec : {M : Type 1} → statement M
-write-need-spec =
     tie.close
     (tie.spec
     (λ c. search rules)

@@ -17,8 +17,6 @@ returns : tie.Need-returns
 returns c =
     put_line (rw (refused_text_lem c.before.before.before.before.before.before.before.before.before.before.before.before.before.before.args.number c.before.before.before.before.before.before.before.before.before.before.before.before.before.before.args.place) (put_then c.before.before.before.before.before.before.before.before.before.before.write_bytes.ensures (put_then c.before.before.before.before.before.before.write-decimal-field.ensures c.before.before.write-decimal-field2.ensures))) (refused_short c.before.before.before.before.before.before.before.before.before.before.before.before.before.before.args.number c.before.before.before.before.before.before.before.before.before.before.before.before.before.before.args.place (omega arith) (omega arith)) c.before.before.before.before.before.before.before.before.before.before.before.before.before.before.requires
 
-pub write-refused-spec : {M : Type 1} → statement M
-write-refused-spec =
     tie.close
     (tie.spec
     (λ c. search rules)

@@ -5,6 +5,7 @@ use native.Mathlib.Omega.{arith}
 use Rattle.store.specs.Memory.{next_on}
 use Rattle.store.proofs.Walks.{begins, goes_on, found, past_kin, past_stranger, ends}
 use Rattle.store.proofs.index.find.Goals as goal
+use Rattle.store.proofs.index.find.Goals.{in-Kin, in-Stranger}
 
 pub loop-at-init : goal.loop-at-init
 loop-at-init c = λ h k e. begins h _ _ k _ refl _ e
@@ -24,10 +25,10 @@ loop-at-preserved c =
     λ h k e.
     let p = c.loop-at.invariant h k e in
     goes_on h _ _ k _ refl p _ refl c.loop-at-test.true
-    (⊎_elim
-    (λ w. past_kin p.passed _ refl c.loop-at-test.true w.1.given.1 (c.meet.ensures k) (w.3 ∙ w.2.ensures))
-    (λ w. past_stranger p.passed _ refl c.loop-at-test.true k w.1.given.1 (c.meet.ensures k) w.2)
-    c.match-meet.branch)
+    (elim c.match-meet.branch [
+      | in-Kin w ↦ past_kin p.passed _ refl c.loop-at-test.true w.in-Kin.is (c.meet.ensures k) (w.class-is ∙ w.class_at-class.ensures)
+      | in-Stranger w ↦ past_stranger p.passed _ refl c.loop-at-test.true k w.in-Stranger.is (c.meet.ensures k) w.class-is
+    ])
     (c.least-at.ensures ∙ rw (c.next_in.ensures, c.link_at.ensures) refl)
 
 pub returns : goal.returns
