@@ -1,7 +1,6 @@
 -- Worked examples: marks, and the two lines that say them. Assumes nothing.
 use mathlib.Core.Path.{◌≡◌, refl}
-use mathlib.Core.List.{List, [], ◌∷◌}
-use Prim.Native.Nat.{ℕ}
+use mathlib.Core.List.{[], ◌∷◌}
 use Rattle.text.specs.Letters.{bytes}
 use Rattle.text.specs.Lines.{none}
 use Rattle.text.specs.Digits.{digits_by, digits}

@@ -2,7 +2,7 @@
 use mathlib.Core.Path.{◌≡◌, refl, sym, ap, subst, ◌∙◌}
 use mathlib.Core.List.{List, [], ◌∷◌, ◌++◌, append_assoc, append-nil}
 use mathlib.Core.Bool.{Bool, true, false, cond}
-use Prim.Native.Nat.{ℕ, suc, ◌+◌, ◌*◌, ◌-◌, ◌≤◌, ◌<◌}
+use Prim.Native.Nat.{ℕ, suc, ◌+◌, ◌*◌, ◌≤◌, ◌<◌}
 use native.Mathlib.Numerals.{add-one}
 use native.Mathlib.Omega.{arith}
 use lib.Dec.{eqb}
@@ -11,7 +11,7 @@ use borrow.Author.Tests.{eq-eqb, ne_eqb}
 use Rattle.text.specs.Lines.{none}
 use Rattle.text.specs.Writing.{in_decimal}
 use Rattle.text.specs.Put.{Put}
-use Rattle.text.proofs.Putting.{put_then, put_none, put_length, few_digits}
+use Rattle.text.proofs.Putting.{put_then, few_digits}
 use Rattle.text.proofs.Running.{here}
 use Rattle.marks.specs.Marking.{marked_from, marked, each}
 

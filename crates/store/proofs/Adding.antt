@@ -18,7 +18,7 @@ use Rattle.expression.specs.Nodes.{measure_from, Within, Sound}
 use Rattle.store.specs.Storing.{intern}
 use Rattle.store.specs.Memory.{Memory, room, size_at, depth_at, origin_at, class_at, tree_at, tree_of, state_of}
 use Rattle.store.specs.Index.{key_of, bucket_of, head_for, entered}
-use Rattle.store.specs.Desk.{count, calls_on, marks_on, tally_on, with_count, refusal_on, refused_from}
+use Rattle.store.specs.Desk.{count, calls_on, marks_on, tally_on, with_count, refused_from}
 use Rattle.store.specs.Held as Held
 use Rattle.store.specs.Held.{Holds, Lent, state_in, Built, judged}
 use Rattle.store.specs.Walk.{Walked, Finds}

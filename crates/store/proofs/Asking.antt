@@ -1,5 +1,5 @@
 -- What `ask` puts on the desk is what is read of it again. Assumes nothing.
-use mathlib.Core.Path.{◌≡◌, refl, sym, ap, ◌∙◌}
+use mathlib.Core.Path.{◌≡◌, refl, ap, ◌∙◌}
 use mathlib.Core.List.{List}
 use Prim.Native.Nat.{ℕ, ◌+◌, ◌≤◌, ◌<◌}
 use native.Mathlib.Omega.{arith}
@@ -15,7 +15,7 @@ use Rattle.expression.specs.declared.refusal.Refusal.{Refusal}
 use Rattle.expression.specs.Codes.{operation_code, operation_of}
 use Rattle.expression.proofs.Numbering.{operation_back}
 use Rattle.store.proofs.Noting.{marks_below}
-use Rattle.store.specs.Desk.{count, calls_on, marks_on, with_count, with_calls, need_on, refused_from, Alike, Asks}
+use Rattle.store.specs.Desk.{count, calls_on, marks_on, with_calls, need_on, refused_from, Alike, Asks}
 
 -- the last of several words that are set is there, and so are the others
 module _ (d : List ℕ) (o a b p q : ℕ) where

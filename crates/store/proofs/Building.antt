@@ -3,7 +3,7 @@
 -- noted first. `named`: what is built by another name. Assumes nothing.
 use mathlib.Core.Path.{◌≡◌, refl, sym, ap, ◌∙◌, subst}
 use mathlib.Core.List.{List, ◌++◌}
-use Prim.Native.Nat.{ℕ, ◌+◌, ◌-◌, ◌≤◌, ◌<◌}
+use Prim.Native.Nat.{ℕ, ◌-◌, ◌≤◌, ◌<◌}
 use native.Mathlib.Omega.{arith}
 use native.Mathlib.Decide.{dec_lt}
 use borrow.Author.Tests.{lt-ltb, le-ltb}
@@ -16,7 +16,7 @@ use Rattle.expression.specs.Trees.{Tree}
 use Rattle.store.specs.Storing.{State, Answer, gives, refused, and_then, noting}
 use Rattle.store.specs.Memory.{Memory, origin_at, state_of}
 use Rattle.store.specs.Desk.{count, refusal_on, refused_from, Alike, Asks, Notes}
-use Rattle.store.specs.Held.{Holds, Lent, tree_in, state_in, Sound, Step, seen, Built}
+use Rattle.store.specs.Held.{Lent, tree_in, state_in, Sound, Step, seen, Built}
 use Rattle.store.proofs.Trees.{room_each}
 
 -- a word as an answer

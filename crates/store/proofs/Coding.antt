@@ -1,10 +1,8 @@
 -- A node and its fields: there and back; and what trees are grown of nodes. Assumes nothing.
-use mathlib.Core.Path.{◌≡◌, refl, ap, subst}
-use mathlib.Core.Bool.{Bool, true, false}
+use mathlib.Core.Path.{◌≡◌, refl, ap}
 use Prim.Native.Nat.{ℕ, zero, suc, ◌%◌, ◌/◌, ◌<◌, ◌≤◌}
 use native.Mathlib.Omega.{arith}
 use native.Mathlib.Nat.{mod-eq_of_lt}
-use lib.Dec.{T, eqb, eqb→eq, eqb_refl}
 use Rattle.complex.proofs.Doubles.{double_back}
 use Rattle.expression.specs.Codes.{infix_of, infix_code, prefix_code, function_code}
 use Rattle.expression.proofs.Numbering.{infix_back, prefix_back, function_back, infix_known, prefix_known, function_known}

@@ -1,5 +1,4 @@
 -- What is known of a hash, and of the bucket that it gives: it is small. Nothing else on these pages hangs on which hash it is. Assumes nothing.
-use mathlib.Core.Path.{◌≡◌}
 use Prim.Native.Nat.{ℕ, ◌+◌, ◌*◌, ◌%◌, ◌≤◌, ◌<◌}
 use native.Mathlib.Nat.{mod-lt, mod-eq_of_lt, mul_comm, mul-lt-mul_of_pos_left, mul-le-mul, div-lt_iff_lt-mul}
 use native.Mathlib.Omega.{arith}

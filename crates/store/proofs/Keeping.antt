@@ -16,9 +16,9 @@ use Rattle.expression.proofs.Likeness.{equal_sym, equal_trans}
 use Rattle.memory.specs.Marks.{no_marks}
 use Rattle.store.specs.Words.{with_kept}
 use Rattle.store.specs.Storing.{Tally, gives, keep, recall, result, place}
-use Rattle.store.specs.Memory.{Memory, columns, memory, room, class_on, kept_on, class_at, kept_at, expression_at, trees, tree_at, linked, kept_for, state_of}
+use Rattle.store.specs.Memory.{Memory, columns, memory, room, class_on, class_at, kept_at, expression_at, trees, tree_at, linked, kept_for, state_of}
 use Rattle.store.specs.Index.{key_at, bucket_at, head_for, latest, kept_by}
-use Rattle.store.specs.Held.{Holds, Lent, lent, state_in, Sound, Built, Keeps, Recalls, Compares, Begun}
+use Rattle.store.specs.Held.{Holds, lent, state_in, Sound, Keeps, Recalls, Compares, Begun}
 use Rattle.store.specs.Desk.{count, calls_on, marks_on, tally_on}
 use Rattle.store.proofs.Places.{place_hit, latest_alike}
 use Rattle.store.proofs.Trees.{length_trees, trees_at, trees_alike, tree_alike, room_each}

@@ -3,10 +3,10 @@
 use mathlib.Core.Path.{◌≡◌, refl, sym, ap, ◌∙◌, subst}
 use mathlib.Core.Bool.{Bool, true, false}
 use mathlib.Core.Logic.{◌⊎◌, inl, inr, ⊎_elim}
-use Prim.Native.Nat.{ℕ, zero, suc, ◌%◌, ◌≤◌, ◌<◌}
+use Prim.Native.Nat.{ℕ, zero, suc, ◌%◌, ◌<◌}
 use native.Mathlib.Omega.{arith}
 use native.Mathlib.Decide.{ℕ_discrete}
-use lib.Dec.{T, eqb, eqb→eq, eqb_refl}
+use lib.Dec.{T, eqb, eqb→eq}
 use lib.Ieee.{Float}
 use lib.ListN.{get_or, length-set}
 use lib.Seq.{get_or-set_same, get_or-set_other}
@@ -18,15 +18,13 @@ use Rattle.expression.specs.declared.InfixOperator.{InfixOperator}
 use Rattle.expression.specs.declared.PrefixOperator.{PrefixOperator}
 use Rattle.expression.specs.declared.ExpressionFunction.{ExpressionFunction}
 use Rattle.expression.specs.declared.node.Expression.{Expression}
-use Rattle.expression.specs.declared.node.Operands.{Operands}
 use Rattle.expression.specs.Trees.{Tree, leaf, number, function_call, prefixed, infixed}
 use Rattle.expression.specs.Nodes.{operands_of, grown, Within}
-use Rattle.store.specs.declared.node.Fields.{Fields}
 use Rattle.store.specs.Nodes.{fields, expression_as, expression_of}
 use Rattle.store.specs.Memory.{Memory, room, fields_on, fields_at, expression_at, tree_at, tree_of}
 use Rattle.store.specs.Held.{Holds}
 use Rattle.store.specs.Numbers.{Tells, NumberIn, IsNumber, number_at, with_number, Numbers, OverNumbers, Ordered, Settling}
-use Rattle.store.proofs.Trees.{tree_own, Room, room_each}
+use Rattle.store.proofs.Trees.{tree_own, room_each}
 
 -- ---- which nodes are numbers
 

@@ -1,5 +1,5 @@
 -- The index by which a node is found: chains of nodes whose keys fall in one bucket, the newest first. Only connecting.
-use Rattle.std.specs.Prelude.{ℕ, zero, suc, ◌+◌, ◌-◌, ◌*◌, ◌%◌, ◌/◌, cond, List, eqb, ltb, get_or, set}
+use Rattle.std.specs.Prelude.{ℕ, zero, suc, ◌-◌, ◌*◌, ◌%◌, ◌/◌, cond, List, eqb, ltb, get_or, set}
 use Rattle.complex.specs.Classes.{class_of_bits}
 use Rattle.store.specs.declared.node.Fields.{Fields}
 use Rattle.store.specs.Words.{with_node, with_head, with_kept}

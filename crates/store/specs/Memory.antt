@@ -1,5 +1,5 @@
 -- What the lent rows hold, read as numbered nodes and as trees. Only connecting: no definition on trees rests on this page.
-use Rattle.std.specs.Prelude.{ℕ, zero, suc, ◌/◌, min, List, [], ◌∷◌, ◌++◌, map, Bool, cond, length, get_or, set, ltb}
+use Rattle.std.specs.Prelude.{ℕ, zero, suc, ◌/◌, min, List, [], ◌∷◌, ◌++◌, map, cond, length, get_or, set, ltb}
 use Rattle.expression.specs.Trees.{Tree, leaf, pi}
 use Rattle.origins.specs.Words.{origin_in}
 use Rattle.expression.specs.Alike.{equal}

@@ -1,5 +1,5 @@
 -- Nodes that are numbers, and nodes that become numbers while others are worked out. Only connecting.
-use Rattle.std.specs.Prelude.{ℕ, ◌≤◌, ◌<◌, ◌≡◌, Bool, true, false, ◌⊎◌, get_or}
+use Rattle.std.specs.Prelude.{ℕ, ◌≤◌, ◌<◌, ◌≡◌, Bool, true, false, ◌⊎◌}
 use Rattle.complex.specs.declared.Complex.{Complex}
 use Rattle.complex.specs.Bits.{bits_of}
 use Rattle.complex.specs.Constants.{of_parts}

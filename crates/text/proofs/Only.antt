@@ -8,7 +8,7 @@ use Rattle.text.specs.Reading.{Read, is, bad, ended, digit_of, run, value, spelt
 use Rattle.text.specs.Digits.{digits}
 use Rattle.text.specs.Writing.{byte_of, in_decimal, last_hex, in_hex}
 use Rattle.text.proofs.Putting.{digits_one, digits_more}
-use Rattle.text.proofs.Running.{Digit, from_0_to_9, from_a_to_f, no_digit_at_all, which_digit, too_large}
+use Rattle.text.proofs.Running.{from_0_to_9, from_a_to_f, no_digit_at_all, which_digit, too_large}
 use Rattle.text.proofs.RoundTrip.{Small}
 
 -- a digit's byte is told by its value

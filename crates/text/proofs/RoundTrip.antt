@@ -7,7 +7,7 @@ use Rattle.text.specs.Reading.{is, ended, digit_of, run, value, spelt, decimal, 
 use Rattle.text.specs.Digits.{digits}
 use Rattle.text.specs.Writing.{byte_of, in_decimal, last_hex, in_hex}
 use Rattle.text.proofs.Putting.{digits_one, digits_more, by_digits}
-use Rattle.text.proofs.Running.{Digit, from_0_to_9, from_a_to_f, no_digit_at_all, which_digit}
+use Rattle.text.proofs.Running.{from_0_to_9, from_a_to_f, no_digit_at_all, which_digit}
 
 pub digit_byte : (d : ℕ) → d < 16 → digit_of (byte_of d) ≡ d
 unfolding byte_of

@@ -1,5 +1,5 @@
 -- What is read is taken away from the text: the rest is never longer. So the fuel of `lines` never runs out. Assumes nothing.
-use Rattle.std.proofs.Common.{ℕ, zero, suc, ◌+◌, ◌*◌, ◌<◌, ◌≤◌, Bool, true, false, cond, ◌&&◌, eqb, ltb, List, [], ◌∷◌, length, drop, arith, length-drop}
+use Rattle.std.proofs.Common.{ℕ, zero, suc, ◌+◌, ◌*◌, ◌≤◌, Bool, true, false, cond, ◌&&◌, eqb, ltb, List, [], ◌∷◌, length, drop, arith, length-drop}
 use Rattle.text.specs.Reading.{Read, is, bad, then, ended, digit_of, run, value, spelt, decimal, hex_from, hex, starts, name_from, decimal_field, hex_field, name_field}
 use Rattle.text.specs.Lines.{Line, goes, stops}
 

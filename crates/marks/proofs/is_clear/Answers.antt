@@ -1,5 +1,4 @@
 -- `is_clear` meets its contract: no mark that was passed is other than 0. Assumes nothing.
-use Prim.Native.Nat.{◌-◌}
 use native.Mathlib.Omega.{arith}
 use Rattle.marks.proofs.Numbering.{none_passed, clear_on, not_clear, all_clear}
 use Rattle.marks.proofs.is_clear.Goals as goal

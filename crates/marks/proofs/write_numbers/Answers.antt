@@ -1,5 +1,4 @@
 -- `write_numbers` meets its contract: the numbers of the marks that were passed stand. Assumes nothing.
-use Prim.Native.Nat.{◌-◌}
 use native.Mathlib.Omega.{arith}
 use Rattle.text.proofs.Putting.{put_length}
 use Rattle.marks.proofs.Numbering.{begins, goes_on, ends}

@@ -1,6 +1,5 @@
 -- `zero` meets its contract. The invariant: the length is as it was, and what was passed is 0. Assumes nothing.
 use mathlib.Core.Path.{refl, ◌∙◌}
-use Prim.Native.Nat.{◌-◌}
 use native.Mathlib.Omega.{arith}
 use lib.ListN.{length-set}
 use Rattle.memory.proofs.Slices.{all_same, one_more_lem}

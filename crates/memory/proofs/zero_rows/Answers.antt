@@ -1,7 +1,6 @@
 -- `zero_rows` meets its contract. The invariant: the length is as it was, and the rows that were passed are zero. Assumes nothing.
 use mathlib.Core.Path.{refl, ◌∙◌}
 use mathlib.Core.List.{[]}
-use Prim.Native.Nat.{◌-◌}
 use native.Mathlib.Omega.{arith}
 use lib.ListN.{length-set}
 use Rattle.memory.specs.Rows.{blank}

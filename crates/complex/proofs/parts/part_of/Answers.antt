@@ -1,7 +1,7 @@
 -- `complex::parts::part_of` meets its contract: at least 11 of the digits' 64 bits are leading zeros, and the shift by what is past 11 moves
 -- the highest set bit to bit 52. Assumes nothing.
-use Rattle.std.proofs.Common.{ℕ, ◌-◌, ◌*◌, ◌%◌, ◌^◌, ◌≤◌, ◌≡◌, arith}
-use lib.Count.{count_leading_zeros, leading_le}
+use Rattle.std.proofs.Common.{◌-◌, ◌*◌, ◌%◌, ◌^◌, arith}
+use lib.Count.{leading_le}
 use Rattle.complex.proofs.Scaling.{eleven, digits_lt, scaled_bits}
 use Rattle.complex.proofs.parts.part_of.Goals as goal
 

@@ -1,7 +1,7 @@
 -- `complex::zero::is_zero` meets its contract: each return is a law of `Decide`. Assumes nothing.
 use Rattle.std.proofs.Common.{T, sym, subst}
 use Rattle.complex.specs.Zero.{is_zero}
-use Rattle.complex.proofs.Decide.{Measured, first_from_t, second_from_t, both_below_half, by_squares}
+use Rattle.complex.proofs.Decide.{first_from_t, second_from_t, both_below_half, by_squares}
 use Rattle.complex.proofs.zero.is_zero.Goals as goal
 
 pub returns-then-re-ge-T_BITS : goal.returns-then-re-ge-T_BITS

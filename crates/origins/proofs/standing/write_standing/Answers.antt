@@ -1,8 +1,6 @@
 -- `write_standing` meets its contract: what was passed of the listing is said. Assumes nothing.
-use Prim.Native.Nat.{◌-◌}
 use native.Mathlib.Omega.{arith}
 use mathlib.Core.Logic.{⊎_elim}
-use borrow.Author.Tests.{ltb-true, ltb-false, not-true, not-false}
 use Rattle.text.proofs.Putting.{put_length}
 use Rattle.origins.proofs.Sentences.{begins, room, next_line_lem, goes_on, one_more_lem, passed_again, too_late, ends}
 use Rattle.origins.proofs.standing.write_standing.Goals as goal

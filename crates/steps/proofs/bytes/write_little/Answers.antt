@@ -1,5 +1,4 @@
 -- `write_little` meets its contract: what is still to be written is written. Assumes nothing.
-use Prim.Native.Nat.{◌-◌}
 use native.Mathlib.Omega.{arith}
 use Rattle.steps.proofs.Writing.{little_begins, little_length, little_again, little_put}
 use Rattle.steps.proofs.bytes.write_little.Goals as goal

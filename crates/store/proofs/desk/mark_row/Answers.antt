@@ -1,6 +1,5 @@
 -- `mark_row` meets its contract: a word of the desk, or none. Assumes nothing.
 use mathlib.Core.Path.{refl}
-use mathlib.Core.Logic.{⊎_elim}
 use native.Mathlib.Omega.{arith}
 use Rattle.store.specs.Desk.{with_mark}
 use Rattle.store.proofs.Noting.{marks_word, marks_none}

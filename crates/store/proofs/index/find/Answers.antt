@@ -1,6 +1,5 @@
 -- `find` meets its contract. The invariant: all nodes from `at` on have been looked at, and `at` is in the chain. Assumes nothing.
 use mathlib.Core.Path.{refl, ◌∙◌}
-use mathlib.Core.Logic.{⊎_elim}
 use native.Mathlib.Omega.{arith}
 use Rattle.store.specs.Memory.{next_on}
 use Rattle.store.proofs.Walks.{begins, goes_on, found, past_kin, past_stranger, ends}

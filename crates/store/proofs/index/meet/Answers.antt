@@ -1,5 +1,4 @@
 -- `meet` meets its contract: by the code, the words and those of the key. Assumes nothing.
-use mathlib.Core.Logic.{⊎_elim}
 use Rattle.store.specs.Memory.{memory}
 use Rattle.store.proofs.Walks.{meets_code, meets_own, other_first, other_second, meets_first, meets_second, meets_kin}
 use Rattle.store.proofs.index.meet.Goals as goal

@@ -1,5 +1,5 @@
 -- `read_decimal` meets its contract. The invariant is `Going`; the measure is what is left of the text. Assumes nothing.
-use Rattle.std.proofs.Common.{◌-◌, refl, arith}
+use Rattle.std.proofs.Common.{refl, arith}
 use Rattle.text.proofs.Running.{begins, in_text, goes_on, over, no_digit_lem, zeros, zero_alone, no_zero}
 use Rattle.text.proofs.reading.read_decimal.Goals as goal
 

@@ -1,5 +1,5 @@
 -- `read_hex` meets its contract. The invariant is `Hexing`. Assumes nothing.
-use Rattle.std.proofs.Common.{◌-◌, ◌%◌, arith}
+use Rattle.std.proofs.Common.{◌%◌, arith}
 use Rattle.text.proofs.Running.{hex_short, hex_begins, hex_room, hex_goes_on, hex_done}
 use Rattle.text.proofs.reading.read_hex.Goals as goal
 

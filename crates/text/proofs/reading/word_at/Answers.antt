@@ -1,5 +1,5 @@
 -- `word_at` meets its contract. Assumes nothing.
-use Rattle.std.proofs.Common.{◌-◌, refl, arith}
+use Rattle.std.proofs.Common.{refl, arith}
 use Rattle.text.proofs.Running.{word_short, word_other, word_more, word_all}
 use Rattle.text.proofs.reading.word_at.Goals as goal
 

@@ -1,5 +1,5 @@
 -- `write_bytes` meets its contract: the bytes passed are put. Assumes nothing.
-use Rattle.std.proofs.Common.{◌-◌, arith}
+use Rattle.std.proofs.Common.{arith}
 use Rattle.text.proofs.Putting.{put_none, put_next, put_all, put_length}
 use Rattle.text.proofs.writing.write_bytes.Goals as goal
 
