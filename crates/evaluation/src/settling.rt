@@ -82,7 +82,6 @@ fn finish(
 }
 
 // "It goes depth first, left before right", up to the first lack.
-#[cycle(settle_settle_operands)]
 #[cycle(settling)]
 fn settle_operands(
     store: &mut [[u64; 4]],
@@ -108,7 +107,6 @@ fn settle_operands(
 }
 
 // A node's number is above those of its operands, so `below` falls.
-#[cycle(settle_settle_operands)]
 #[cycle(settling)]
 pub fn settle(
     store: &mut [[u64; 4]],

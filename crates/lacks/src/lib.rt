@@ -57,7 +57,6 @@ fn missing_at(store: &[[u64; 4]], table: &[u64], counts: Counts, node: usize) ->
 }
 
 // "Depth first, left before right."
-#[cycle(first_missing_missing_below)]
 #[cycle(missing)]
 fn missing_below(store: &mut [[u64; 4]], table: &[u64], counts: Counts, node: usize) -> Missing
     ensures { NamesBelow (memory store.old) (memory store.new) table.now counts node result }
@@ -78,7 +77,6 @@ fn missing_below(store: &mut [[u64; 4]], table: &[u64], counts: Counts, node: us
 
 // A node that lacks nothing becomes a number, so that whoever comes to it again goes no further. A node is above its operands, so
 // `below` falls, as in evaluating.
-#[cycle(first_missing_missing_below)]
 #[cycle(missing)]
 pub fn first_missing(
     store: &mut [[u64; 4]],

@@ -46,7 +46,6 @@ fn keep_answer(store: &mut [[u64; 4]], node: usize, answer: usize)
 }
 
 // S(e), for a new node e.
-#[cycle(add_simplified_affine_again_carry_out_distribute_double_inverse_perform_regroup_simplify_simplify_function_call_simplify_infix_simplify_prefix_smaller_regrouped)]
 #[cycle(simplifying)]
 fn again(
     limit: Limit,
@@ -66,7 +65,6 @@ fn again(
 }
 
 // S(1/other)
-#[cycle(add_simplified_affine_again_carry_out_distribute_double_inverse_perform_regroup_simplify_simplify_function_call_simplify_infix_simplify_prefix_smaller_regrouped)]
 #[cycle(simplifying)]
 fn inverse(
     limit: Limit,
@@ -87,7 +85,6 @@ fn inverse(
 }
 
 // S of what is made around S(inner).
-#[cycle(add_simplified_affine_again_carry_out_distribute_double_inverse_perform_regroup_simplify_simplify_function_call_simplify_infix_simplify_prefix_smaller_regrouped)]
 #[cycle(simplifying)]
 fn regroup(
     limit: Limit,
@@ -108,7 +105,6 @@ fn regroup(
 }
 
 // min(original, S of what is made around S(e)): the first choice is stored first.
-#[cycle(add_simplified_affine_again_carry_out_distribute_double_inverse_perform_regroup_simplify_simplify_function_call_simplify_infix_simplify_prefix_smaller_regrouped)]
 #[cycle(simplifying)]
 fn smaller_regrouped(
     limit: Limit,
@@ -134,7 +130,6 @@ fn smaller_regrouped(
 }
 
 // S(S(a)+S(b))
-#[cycle(add_simplified_affine_again_carry_out_distribute_double_inverse_perform_regroup_simplify_simplify_function_call_simplify_infix_simplify_prefix_smaller_regrouped)]
 #[cycle(simplifying)]
 fn add_simplified(
     limit: Limit,
@@ -160,7 +155,6 @@ fn add_simplified(
 }
 
 // min(original, S(S(a)+S(b)))
-#[cycle(add_simplified_affine_again_carry_out_distribute_double_inverse_perform_regroup_simplify_simplify_function_call_simplify_infix_simplify_prefix_smaller_regrouped)]
 #[cycle(simplifying)]
 fn distribute(
     limit: Limit,
@@ -186,7 +180,6 @@ fn distribute(
 }
 
 // S(S(2*x)+S(a+b))
-#[cycle(add_simplified_affine_again_carry_out_distribute_double_inverse_perform_regroup_simplify_simplify_function_call_simplify_infix_simplify_prefix_smaller_regrouped)]
 #[cycle(simplifying)]
 fn double(
     limit: Limit,
@@ -210,7 +203,6 @@ fn double(
 }
 
 // S(S(S(a)*x)+S(b)), S(a) and S(b) first
-#[cycle(add_simplified_affine_again_carry_out_distribute_double_inverse_perform_regroup_simplify_simplify_function_call_simplify_infix_simplify_prefix_smaller_regrouped)]
 #[cycle(simplifying)]
 fn affine(
     limit: Limit,
@@ -238,7 +230,6 @@ fn affine(
 }
 
 // What an arm wants.
-#[cycle(add_simplified_affine_again_carry_out_distribute_double_inverse_perform_regroup_simplify_simplify_function_call_simplify_infix_simplify_prefix_smaller_regrouped)]
 #[cycle(simplifying)]
 fn carry_out(
     limit: Limit,
@@ -272,7 +263,6 @@ fn carry_out(
 }
 
 // The operand at the limit, then what the arm wants at 1 less.
-#[cycle(add_simplified_affine_again_carry_out_distribute_double_inverse_perform_regroup_simplify_simplify_function_call_simplify_infix_simplify_prefix_smaller_regrouped)]
 #[cycle(simplifying)]
 fn simplify_function_call(
     limit: Limit,
@@ -295,7 +285,6 @@ fn simplify_function_call(
 }
 
 // Left before right, then the same.
-#[cycle(add_simplified_affine_again_carry_out_distribute_double_inverse_perform_regroup_simplify_simplify_function_call_simplify_infix_simplify_prefix_smaller_regrouped)]
 #[cycle(simplifying)]
 fn simplify_infix(
     limit: Limit,
@@ -323,7 +312,6 @@ fn simplify_infix(
 }
 
 // As for a function.
-#[cycle(add_simplified_affine_again_carry_out_distribute_double_inverse_perform_regroup_simplify_simplify_function_call_simplify_infix_simplify_prefix_smaller_regrouped)]
 #[cycle(simplifying)]
 fn simplify_prefix(
     limit: Limit,
@@ -346,7 +334,6 @@ fn simplify_prefix(
 }
 
 // The task of a node for which nothing is kept; an operation "runs with limit 1 less".
-#[cycle(add_simplified_affine_again_carry_out_distribute_double_inverse_perform_regroup_simplify_simplify_function_call_simplify_infix_simplify_prefix_smaller_regrouped)]
 #[cycle(simplifying)]
 fn perform(
     limit: Limit,
@@ -371,7 +358,6 @@ fn perform(
 }
 
 // A node simplified at a limit. "A cached equal node gives its cached result, whatever limit it was made at."
-#[cycle(add_simplified_affine_again_carry_out_distribute_double_inverse_perform_regroup_simplify_simplify_function_call_simplify_infix_simplify_prefix_smaller_regrouped)]
 #[cycle(simplifying)]
 pub fn simplify(
     limit: Limit,

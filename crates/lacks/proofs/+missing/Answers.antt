@@ -1,19 +1,17 @@
--- The proof of a cycle of calls: a file for each member below Proof/. Assumes nothing.
+-- The proof of a cycle of calls. Assumes nothing.
 use Rattle.lacks.proofs.Naming.{own_first, below_first, nothing_first, no_operands, one_operand, left_operand, both_operands}
 use native.Mathlib.Omega.{arith}
 use mathlib.Core.Path.{sym, ◌∙◌}
 use Rattle.expression.proofs.Under.{within_one, within_two}
+use borrow.Enum.Refused.{opened}
 use Rattle.lacks.proofs.+missing.Goals as goal
 
-mod Measures
-mod FirstMissing
-mod MissingBelow
 
 pub first_missing-returns-then-below-node : goal.first_missing-returns-then-below-node
 first_missing-returns-then-below-node t c = λ n o l b h. absurd (omega (arith, b, c.if-below-node.true))
 
 pub first_missing-returns-in_default : goal.first_missing-returns-in_default
-first_missing-returns-in_default t c = λ n o l b h. own_first _ o l (c.missing_at-own.ensures h) c.in_default.keys2
+first_missing-returns-in_default t c = λ n o l b h. own_first _ o l (c.missing_at-own.ensures h) (opened c.in_default.in_default-own.keys2)
 
 pub first_missing-missing_below-x-requires : goal.first_missing-missing_below-x-requires
 first_missing-missing_below-x-requires t c = (omega (arith, c.if-below-node.false), tt)
@@ -31,7 +29,7 @@ pub missing_below-first_missing-x-requires : goal.missing_below-first_missing-x-
 missing_below-first_missing-x-requires t c = (omega arith, tt)
 
 pub missing_below-returns-in_default : goal.missing_below-returns-in_default
-missing_below-returns-in_default t c = λ n o l h. let w = within_two _ _ _ _ (sym c.operands_at-operands.ensures ∙ c.in-Two.is) (o.within _ l) in left_operand _ o l c.operands_at-operands.ensures (c.first_missing-x.ensures n o (omega (arith, w.0, l)) w.0 h) c.in-Two.is c.in_default.keys2
+missing_below-returns-in_default t c = λ n o l h. let w = within_two _ _ _ _ (sym c.operands_at-operands.ensures ∙ c.in-Two.is) (o.within _ l) in left_operand _ o l c.operands_at-operands.ensures (c.first_missing-x.ensures n o (omega (arith, w.0, l)) w.0 h) c.in-Two.is (opened c.in_default.in_default-own.keys2)
 
 pub missing_below-first_missing-requires-in-Two : goal.missing_below-first_missing-requires-in-Two
 missing_below-first_missing-requires-in-Two t c = (omega arith, tt)

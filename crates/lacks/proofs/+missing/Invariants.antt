@@ -1,4 +1,4 @@
--- The proof of a cycle of calls: a file for each member below Proof/. Assumes nothing.
+-- The proof of a cycle of calls. Assumes nothing.
 use Rattle.std.proofs.Common.{◌+◌, ◌*◌, ◌-◌}
 use Rattle.lacks.proofs.+missing.Given as goal
 

@@ -1,4 +1,4 @@
--- The cycle of simplifying meets its contracts: a file for each member below Proof/. Assumes nothing.
+-- The cycle of simplifying meets its contracts. Assumes nothing.
 use Rattle.simplification.proofs.Carrying.{added_refused, added_second, added_node, within_older, affine_refused, affine_second, affine_node, again_refused, again_node, lesser_refused, lesser_second, lesser_node, added_later, double_refused, double_node, inverse_refused, inverse_node, regroup_refused, regroup_node, regroup_later, outer_older}
 use mathlib.Core.Path.{refl, ◌≡◌}
 use lib.Dec.{lit<}
@@ -12,21 +12,6 @@ use Rattle.tasks.proofs.Deciding.{decided}
 use Rattle.arms.proofs.Looking.{sits}
 use Rattle.simplification.proofs.+simplifying.Goals as goal
 
-mod Measures
-mod AddSimplified
-mod Affine
-mod Again
-mod CarryOut
-mod Distribute
-mod Double
-mod Inverse
-mod Perform
-mod Regroup
-mod Simplify
-mod SimplifyFunctionCall
-mod SimplifyInfix
-mod SimplifyPrefix
-mod SmallerRegrouped
 
 -- a call at the same limit goes to a member of a lower rank
 pub down : (m a b : ℕ) {t : ℕ} → 16 * m + b ≡ t → a < b → 16 * m + a < t

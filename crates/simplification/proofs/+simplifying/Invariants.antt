@@ -1,4 +1,4 @@
--- The cycle of simplifying meets its contracts: a file for each member below Proof/. Assumes nothing.
+-- The cycle of simplifying meets its contracts. Assumes nothing.
 use Rattle.std.proofs.Common.{◌+◌, ◌*◌, ◌-◌}
 use Rattle.simplification.proofs.+simplifying.Given as goal
 

@@ -6,7 +6,7 @@ use Rattle.arms.proofs.looks.is_negation.Goals as goal
 
 pub returns-in-Prefix : goal.returns-in-Prefix
 unfolding is_negation grown
-returns-in-Prefix c = λ m. rw c.in-Prefix.is (c.is_minus.ensures m 0)
+returns-in-Prefix c = λ m. rw c.in-Prefix.is (c.is_minus.ensures m c.in-Prefix.field-1)
 
 pub returns-in-Address : goal.returns-in-Address
 unfolding is_negation grown

@@ -1,13 +1,9 @@
--- The proof of a cycle of calls: a file for each member below Proof/. Assumes nothing.
+-- The proof of a cycle of calls. Assumes nothing.
 use Rattle.evaluation.proofs.Settled.{is_settled, lack_settled, value_settled, last_lacks, no_operands, one_operand, left_operand, both_operands}
 use native.Mathlib.Omega.{arith}
 use mathlib.Core.Path.{sym, ◌∙◌}
 use Rattle.expression.proofs.Under.{within_one, within_two}
 use Rattle.evaluation.proofs.settling.+settling.Goals as goal
-
-mod Measures
-mod Settle
-mod SettleOperands
 
 pub settle-returns-then-below-node : goal.settle-returns-then-below-node
 settle-returns-then-below-node t c = λ n o l b h. absurd (omega (arith, b, c.if-below-node.true))

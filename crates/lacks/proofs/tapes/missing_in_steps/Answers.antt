@@ -2,6 +2,7 @@
 use Prim.Native.Nat.{◌-◌}
 use native.Mathlib.Omega.{arith}
 use Rattle.lacks.proofs.Stepping.{same_begins, same_stops, same_goes, same_ends}
+use borrow.Enum.Refused.{opened}
 use Rattle.lacks.proofs.tapes.missing_in_steps.Goals as goal
 
 pub loop-i-init : goal.loop-i-init
@@ -14,7 +15,7 @@ pub fields_at-requires : goal.fields_at-requires
 fields_at-requires c = omega (arith, c.loop-i-test.true)
 
 pub returns-in_default : goal.returns-in_default
-returns-in_default c = λ h. same_stops (c.loop-i.invariant h) c.loop-i-test.true c.fields_at.ensures c.step_of.ensures (c.missing_step-x.ensures h) c.in_default.keys2
+returns-in_default c = λ h. same_stops (c.loop-i.invariant h) c.loop-i-test.true c.fields_at.ensures c.step_of.ensures (c.missing_step-x.ensures h) (opened c.in_default.in_default-own.keys2)
 
 pub overflow_add-i : goal.overflow_add-i
 overflow_add-i c = omega (arith, c.loop-i-test.true)
