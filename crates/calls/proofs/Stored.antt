@@ -175,7 +175,7 @@ module _ (room : ℕ) where
     opposite = λ {z} i. negated_fitting z i.proper;
     call = λ f i. i;
     minus_of = λ i. i;
-    infix-of = λ op i j. (i, j);
+    infix_of = λ op i j. (i, j);
     call_part = λ i. record { all = i.all.1; proper = i.proper };
     prefix_part = λ i. record { all = i.all.1; proper = i.proper };
     infix_parts = λ i. (record { all = i.all.1.0; proper = i.proper.0 }, record { all = i.all.1.1; proper = i.proper.1 });

@@ -104,7 +104,7 @@ module _ (P : Tree → Type 0) (closed : Closed P P) (numbers : (z : Complex) �
       carries (combined op p q) s x k =
           then_gives (carry_out R σ p s) (λ t s. and_then (carry_out R σ q s) λ u s. intern (infixed op t u) s) (carries p s x.0 k) λ t s' y l.
           then_gives (carry_out R σ q s') (λ u s. intern (infixed op t u) s) (carries q s' x.1 l) λ u s'' z m.
-          stores (infixed op t u) s'' (closed.infix-of op y z) m
+          stores (infixed op t u) s'' (closed.infix_of op y z) m
       carries (S p) s x k = then_gives (carry_out R σ p s) σ (carries p s x k) f
       carries (lesser p q) s x k =
           then_gives (carry_out R σ p s) (λ t s. and_then (carry_out R σ q s) λ u s. gives (smaller t u) s) (carries p s x.0 k) λ t s' y l.
@@ -117,8 +117,8 @@ module _ (P : Tree → Type 0) (closed : Closed P P) (numbers : (z : Complex) �
       carries (affine a w b) s x k =
           then_gives (again σ a s) (λ u s. and_then (again σ b s) λ v s. and_then (again σ (product u w) s) λ z s. again σ (sum z v) s) (again-gives a s x.0 k) λ u s₁ y l.
           then_gives (again σ b s₁) (λ v s. and_then (again σ (product u w) s) λ z s. again σ (sum z v) s) (again-gives b s₁ x.2 l) λ v s₂ y' l'.
-          then_gives (again σ (product u w) s₂) (λ z s. again σ (sum z v) s) (again-gives (product u w) s₂ (closed.infix-of _ y x.1) l') λ z s₃ y'' l''.
-          again-gives (sum z v) s₃ (closed.infix-of _ y'' y') l''
+          then_gives (again σ (product u w) s₂) (λ z s. again σ (sum z v) s) (again-gives (product u w) s₂ (closed.infix_of _ y x.1) l') λ z s₃ y'' l''.
+          again-gives (sum z v) s₃ (closed.infix_of _ y'' y') l''
 
     -- ---- one call of simplify
 
@@ -191,7 +191,7 @@ module _ (P : Leaf → Type 0) (numbers : (z : Complex) → P (number z)) where
     opposite = λ {z} x. numbers (negated z);
     call = λ f x. x;
     minus_of = λ x. x;
-    infix-of = λ op x y. (x, y);
+    infix_of = λ op x y. (x, y);
     call_part = λ x. x;
     prefix_part = λ x. x;
     infix_parts = λ x. x;
@@ -208,7 +208,7 @@ Any t = Unit {0}
 
 any-closed : Closed Any Any
 unfolding Any
-any-closed = record { numeral = λ a b. tt; opposite = λ x. tt; call = λ f x. tt; minus_of = λ x. tt; infix-of = λ op x y. tt; call_part = λ x. tt; prefix_part = λ x. tt; infix_parts = λ x. (tt, tt) }
+any-closed = record { numeral = λ a b. tt; opposite = λ x. tt; call = λ f x. tt; minus_of = λ x. tt; infix_of = λ op x y. tt; call_part = λ x. tt; prefix_part = λ x. tt; infix_parts = λ x. (tt, tt) }
 
 -- a tree, or a refusal by 6 BIG, 7 DEEP, 8 ROOM or 9 NEED
 abbrev pub SixToNine : Answer → Type 0

@@ -47,7 +47,7 @@ pub record Closed (P Q : Tree → Type 0) : Type 0 where
   pub opposite : {z : Complex} → P (leaf (number z)) → Q (leaf (number (negated z)))
   pub call : (f : ExpressionFunction) {t : Tree} → P t → Q (function_call f t)
   pub minus_of : {t : Tree} → P t → Q (minus t)
-  pub infix_of_lem : (op : InfixOperator) {t u : Tree} → P t → P u → Q (infixed op t u)
+  pub infix_of : (op : InfixOperator) {t u : Tree} → P t → P u → Q (infixed op t u)
   pub call_part : {f : ExpressionFunction} {t : Tree} → P (function_call f t) → P t
   pub prefix_part : {o : PrefixOperator} {t : Tree} → P (prefixed o t) → P t
   pub infix_parts : {op : InfixOperator} {t u : Tree} → P (infixed op t u) → P t × P u
@@ -98,31 +98,31 @@ module _ (P Q : Tree → Type 0) (c : Closed P Q) where
 
   fine-right : (op : InfixOperator) (l r : Tree) → P l → P r → Fine P Q (grouped_right op l r)
   unfolding grouped_right weight Over
-  fine-right op l r x y = fine-if _ _ _ (record { light = omega arith; over = (c.infix_of_lem op (x) (y), (c.infix_of_lem (uninverted op) (x) (right_of r y), left-of r y)) }) (record { light = omega arith; over = (c.infix_of_lem op (x) (y), (c.infix_of_lem op (x) (left-of r y), right_of r y)) })
+  fine-right op l r x y = fine-if _ _ _ (record { light = omega arith; over = (c.infix_of op (x) (y), (c.infix_of (uninverted op) (x) (right_of r y), left-of r y)) }) (record { light = omega arith; over = (c.infix_of op (x) (y), (c.infix_of op (x) (left-of r y), right_of r y)) })
 
   fine-grouped : (op : InfixOperator) (l r : Tree) → P l → P r → Fine P Q (grouped op l r)
   unfolding grouped weight Over
-  fine-grouped op l r x y = fine-if _ _ _ (fine-right op l r x y) (record { light = omega arith; over = (c.infix_of_lem op (x) (y), (left-of l x, c.infix_of_lem op (right_of l x) (y))) })
+  fine-grouped op l r x y = fine-if _ _ _ (fine-right op l r x y) (record { light = omega arith; over = (c.infix_of op (x) (y), (left-of l x, c.infix_of op (right_of l x) (y))) })
 
   fine_moved : (op : InfixOperator) (l r : Tree) → P l → P r → Fine P Q (moved op l r)
   unfolding moved weight Over
-  fine_moved op l r x y = fine-if _ _ _ (record { light = omega arith; over = (c.infix_of_lem InfixOperator.Star (x) (y), (c.minus_of x, under_of r y)) }) (record { light = omega arith; over = (c.infix_of_lem InfixOperator.Star (x) (y), (under_of l x, c.minus_of y)) })
+  fine_moved op l r x y = fine-if _ _ _ (record { light = omega arith; over = (c.infix_of InfixOperator.Star (x) (y), (c.minus_of x, under_of r y)) }) (record { light = omega arith; over = (c.infix_of InfixOperator.Star (x) (y), (under_of l x, c.minus_of y)) })
 
   fine-sharing : (p q p' q' bs : Tree) → P p → P q → P p' → P q' → Q bs → Fine P Q (sharing p q p' q' bs)
   unfolding sharing weight Over
-  fine-sharing p q p' q' bs x y x' y' z = fine-if _ _ _ (record { light = omega arith; over = (c.infix_of_lem InfixOperator.Plus y y', x, z) }) (fine-if _ _ _ (record { light = omega arith; over = (c.infix_of_lem InfixOperator.Plus y x', x, z) }) (fine-if _ _ _ (record { light = omega arith; over = (c.infix_of_lem InfixOperator.Plus x y', y, z) }) (record { light = omega arith; over = (c.infix_of_lem InfixOperator.Plus x x', y', z) })))
+  fine-sharing p q p' q' bs x y x' y' z = fine-if _ _ _ (record { light = omega arith; over = (c.infix_of InfixOperator.Plus y y', x, z) }) (fine-if _ _ _ (record { light = omega arith; over = (c.infix_of InfixOperator.Plus y x', x, z) }) (fine-if _ _ _ (record { light = omega arith; over = (c.infix_of InfixOperator.Plus x y', y, z) }) (record { light = omega arith; over = (c.infix_of InfixOperator.Plus x x', y', z) })))
 
   fine-affine : (l r : Tree) → P l → P r → Fine P Q (affine_sum l r)
   unfolding affine_sum weight Over
-  fine-affine l r x y = fine-if _ _ _ (fine-sharing _ _ _ _ _ (left-of (left l) (left-of l x)) (right_of (left l) (left-of l x)) (left-of (left r) (left-of r y)) (right_of (left r) (left-of r y)) (c.infix_of_lem InfixOperator.Plus (right_of l x) (right_of r y))) (fine-if _ _ _ (record { light = omega arith; over = (c.infix_of_lem InfixOperator.Plus (left-of l x) (left-of r y), right_of l x) }) (fine-if _ _ _ (record { light = omega arith; over = ((c.numeral _ _, left-of l x), c.infix_of_lem InfixOperator.Plus (right_of l x) (right_of r y)) }) (fine-if _ _ _ (fine-grouped InfixOperator.Plus l r x y) (record { light = omega arith; over = c.infix_of_lem InfixOperator.Plus (x) (y) }))))
+  fine-affine l r x y = fine-if _ _ _ (fine-sharing _ _ _ _ _ (left-of (left l) (left-of l x)) (right_of (left l) (left-of l x)) (left-of (left r) (left-of r y)) (right_of (left r) (left-of r y)) (c.infix_of InfixOperator.Plus (right_of l x) (right_of r y))) (fine-if _ _ _ (record { light = omega arith; over = (c.infix_of InfixOperator.Plus (left-of l x) (left-of r y), right_of l x) }) (fine-if _ _ _ (record { light = omega arith; over = ((c.numeral _ _, left-of l x), c.infix_of InfixOperator.Plus (right_of l x) (right_of r y)) }) (fine-if _ _ _ (fine-grouped InfixOperator.Plus l r x y) (record { light = omega arith; over = c.infix_of InfixOperator.Plus (x) (y) }))))
 
   fine-sum : (l r : Tree) → P l → P r → Fine P Q (sum_plan l r)
   unfolding sum_plan weight Over
-  fine-sum l r x y = fine-if _ _ _ (record { light = omega arith; over = y }) (fine-if _ _ _ (record { light = omega arith; over = x }) (fine-if _ _ _ (record { light = omega arith; over = tt }) (fine-if _ _ _ (record { light = omega arith; over = c.infix_of_lem InfixOperator.Minus (x) (under_of r y) }) (fine-if _ _ _ (record { light = omega arith; over = c.infix_of_lem InfixOperator.Minus (y) (under_of l x) }) (fine-affine l r x y)))))
+  fine-sum l r x y = fine-if _ _ _ (record { light = omega arith; over = y }) (fine-if _ _ _ (record { light = omega arith; over = x }) (fine-if _ _ _ (record { light = omega arith; over = tt }) (fine-if _ _ _ (record { light = omega arith; over = c.infix_of InfixOperator.Minus (x) (under_of r y) }) (fine-if _ _ _ (record { light = omega arith; over = c.infix_of InfixOperator.Minus (y) (under_of l x) }) (fine-affine l r x y)))))
 
   fine-signed-difference : (l r : Tree) → P l → P r → Fine P Q (signed_difference l r)
   unfolding signed_difference weight Over
-  fine-signed-difference l r x y = fine-if _ _ _ (record { light = omega arith; over = c.infix_of_lem InfixOperator.Plus (x) (under_of r y) }) (fine-if _ _ _ (record { light = omega arith; over = (c.infix_of_lem InfixOperator.Minus (x) (y), c.infix_of_lem InfixOperator.Plus (under_of l x) (y)) }) (fine-if _ _ _ (fine-grouped InfixOperator.Minus l r x y) (record { light = omega arith; over = c.infix_of_lem InfixOperator.Minus (x) (y) })))
+  fine-signed-difference l r x y = fine-if _ _ _ (record { light = omega arith; over = c.infix_of InfixOperator.Plus (x) (under_of r y) }) (fine-if _ _ _ (record { light = omega arith; over = (c.infix_of InfixOperator.Minus (x) (y), c.infix_of InfixOperator.Plus (under_of l x) (y)) }) (fine-if _ _ _ (fine-grouped InfixOperator.Minus l r x y) (record { light = omega arith; over = c.infix_of InfixOperator.Minus (x) (y) })))
 
   fine-difference : (l r : Tree) → P l → P r → Fine P Q (difference_plan l r)
   unfolding difference_plan weight Over
@@ -130,11 +130,11 @@ module _ (P Q : Tree → Type 0) (c : Closed P Q) where
 
   fine-signed-product : (l r : Tree) → P l → P r → Fine P Q (signed_product l r)
   unfolding signed_product weight Over
-  fine-signed-product l r x y = fine-if _ _ _ (record { light = omega arith; over = c.infix_of_lem InfixOperator.Star (under_of l x) (under_of r y) }) (fine_moved InfixOperator.Star l r x y)
+  fine-signed-product l r x y = fine-if _ _ _ (record { light = omega arith; over = c.infix_of InfixOperator.Star (under_of l x) (under_of r y) }) (fine_moved InfixOperator.Star l r x y)
 
   fine-distributed : (l r : Tree) → P l → P r → Fine P Q (distributed l r)
   unfolding distributed weight Over
-  fine-distributed l r x y = fine-if _ _ _ (record { light = omega arith; over = (c.infix_of_lem InfixOperator.Star (x) (y), (c.infix_of_lem InfixOperator.Star (x) (left-of r y), c.infix_of_lem InfixOperator.Star (x) (right_of r y))) }) (fine-if _ _ _ (record { light = omega arith; over = (c.infix_of_lem InfixOperator.Star (x) (y), (c.infix_of_lem InfixOperator.Star (left-of l x) (y), c.infix_of_lem InfixOperator.Star (right_of l x) (y))) }) (fine-if _ _ _ (record { light = omega arith; over = left-of l x }) (fine-if _ _ _ (record { light = omega arith; over = left-of r y }) (record { light = omega arith; over = c.infix_of_lem InfixOperator.Star (x) (y) }))))
+  fine-distributed l r x y = fine-if _ _ _ (record { light = omega arith; over = (c.infix_of InfixOperator.Star (x) (y), (c.infix_of InfixOperator.Star (x) (left-of r y), c.infix_of InfixOperator.Star (x) (right_of r y))) }) (fine-if _ _ _ (record { light = omega arith; over = (c.infix_of InfixOperator.Star (x) (y), (c.infix_of InfixOperator.Star (left-of l x) (y), c.infix_of InfixOperator.Star (right_of l x) (y))) }) (fine-if _ _ _ (record { light = omega arith; over = left-of l x }) (fine-if _ _ _ (record { light = omega arith; over = left-of r y }) (record { light = omega arith; over = c.infix_of InfixOperator.Star (x) (y) }))))
 
   fine-product : (l r : Tree) → P l → P r → Fine P Q (product_plan l r)
   unfolding product_plan weight Over
@@ -142,11 +142,11 @@ module _ (P Q : Tree → Type 0) (c : Closed P Q) where
 
   fine-signed-quotient : (l r : Tree) → P l → P r → Fine P Q (signed_quotient l r)
   unfolding signed_quotient weight Over
-  fine-signed-quotient l r x y = fine-if _ _ _ (record { light = omega arith; over = c.infix_of_lem InfixOperator.Slash (under_of l x) (under_of r y) }) (fine-if _ _ _ (record { light = omega arith; over = c.numeral _ _ }) (fine-if _ _ _ (record { light = omega arith; over = c.numeral _ _ }) (fine_moved InfixOperator.Slash l r x y)))
+  fine-signed-quotient l r x y = fine-if _ _ _ (record { light = omega arith; over = c.infix_of InfixOperator.Slash (under_of l x) (under_of r y) }) (fine-if _ _ _ (record { light = omega arith; over = c.numeral _ _ }) (fine-if _ _ _ (record { light = omega arith; over = c.numeral _ _ }) (fine_moved InfixOperator.Slash l r x y)))
 
   fine-split : (l r : Tree) → P l → P r → Fine P Q (split l r)
   unfolding split weight Over
-  fine-split l r x y = fine-if _ _ _ (record { light = omega arith; over = (c.infix_of_lem InfixOperator.Slash (x) (y), (left-of l x, c.infix_of_lem InfixOperator.Slash (right_of l x) (y))) }) (fine-if _ _ _ (record { light = omega arith; over = (c.infix_of_lem InfixOperator.Slash (x) (y), (c.infix_of_lem InfixOperator.Slash (x) (left-of r y), right_of r y)) }) (record { light = omega arith; over = c.infix_of_lem InfixOperator.Slash (x) (y) }))
+  fine-split l r x y = fine-if _ _ _ (record { light = omega arith; over = (c.infix_of InfixOperator.Slash (x) (y), (left-of l x, c.infix_of InfixOperator.Slash (right_of l x) (y))) }) (fine-if _ _ _ (record { light = omega arith; over = (c.infix_of InfixOperator.Slash (x) (y), (c.infix_of InfixOperator.Slash (x) (left-of r y), right_of r y)) }) (record { light = omega arith; over = c.infix_of InfixOperator.Slash (x) (y) }))
 
   fine-cancelled : (l r : Tree) → P l → P r → Fine P Q (cancelled l r)
   unfolding cancelled weight Over
@@ -158,7 +158,7 @@ module _ (P Q : Tree → Type 0) (c : Closed P Q) where
 
   fine-power : (l r : Tree) → P l → P r → Fine P Q (power_plan l r)
   unfolding power_plan weight Over
-  fine-power l r x y = fine-if _ _ _ (record { light = omega arith; over = c.numeral _ _ }) (fine-if _ _ _ (record { light = omega arith; over = c.numeral _ _ }) (fine-if _ _ _ (record { light = omega arith; over = c.numeral _ _ }) (fine-if _ _ _ (record { light = omega arith; over = x }) (fine-if _ _ _ (record { light = omega arith; over = tt }) (record { light = omega arith; over = c.infix_of_lem InfixOperator.Caret (x) (y) })))))
+  fine-power l r x y = fine-if _ _ _ (record { light = omega arith; over = c.numeral _ _ }) (fine-if _ _ _ (record { light = omega arith; over = c.numeral _ _ }) (fine-if _ _ _ (record { light = omega arith; over = c.numeral _ _ }) (fine-if _ _ _ (record { light = omega arith; over = x }) (fine-if _ _ _ (record { light = omega arith; over = tt }) (record { light = omega arith; over = c.infix_of InfixOperator.Caret (x) (y) })))))
 
   fine-table : (op : InfixOperator) (l r : Tree) → P l → P r → Fine P Q (table_plan op l r)
   unfolding table_plan

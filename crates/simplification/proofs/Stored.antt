@@ -104,7 +104,7 @@ module _ (Sane : State → Type 0) (In New : State → Tree → Type 0) (N : Com
     carries (combined op p q) s₀ s x g f =
         then_given Sane In s (carry_out R σ p s) _ (carries p s₀ s x.0 g f) λ t s' y.
         then_given Sane In s' (carry_out R σ q s') _ (carries q s₀ s' x.1 y.sane λ u z. y.stay u (f u z)) λ u s'' z.
-        law.stores (infixed op t u) s'' z.sane ((law.closed s'').infix-of op (z.stay t y.is_in) z.is_in)
+        law.stores (infixed op t u) s'' z.sane ((law.closed s'').infix_of op (z.stay t y.is_in) z.is_in)
     carries (S p) s₀ s x g f = then_given Sane In s (carry_out R σ p s) σ (carries p s₀ s x g f) λ t s' y. h t s' y.sane y.is_in
     carries (lesser p q) s₀ s x g f =
         then_given Sane In s (carry_out R σ p s) _ (carries p s₀ s x.0 g f) λ t s' y.
@@ -114,8 +114,8 @@ module _ (Sane : State → Type 0) (In New : State → Tree → Type 0) (N : Com
         then_given Sane In s (again σ a s) _ (again_given a s g (law.remain f a x.0)) λ u s₁ y.
         then_given Sane In s₁ (again σ b s₁) _ (again_given b s₁ y.sane (law.remain (λ v z. y.stay v (f v z)) b x.2)) λ v s₂ y'.
         then_given Sane In s₂ (again σ (product u w) s₂) _
-        (again_given (product u w) s₂ y'.sane ((law.closed s₂).infix-of InfixOperator.Star (y'.stay u y.is_in) (y'.stay w (y.stay w (f w x.1))))) λ z s₃ y''.
-        again_given (sum z v) s₃ y''.sane ((law.closed s₃).infix-of InfixOperator.Plus y''.is_in (y''.stay v y'.is_in))
+        (again_given (product u w) s₂ y'.sane ((law.closed s₂).infix_of InfixOperator.Star (y'.stay u y.is_in) (y'.stay w (y.stay w (f w x.1))))) λ z s₃ y''.
+        again_given (sum z v) s₃ y''.sane ((law.closed s₃).infix_of InfixOperator.Plus y''.is_in (y''.stay v y'.is_in))
 
   -- ---- one call of simplify
 

@@ -26,7 +26,7 @@ pub returns-then-left-ge-REFUSED : goal.returns-then-left-ge-REFUSED
 returns-then-left-ge-REFUSED t c = λ given nodes k o b. let w = two_inside k o c.expression_at-e.ensures c.operands_of-operands.ensures c.in-Two.is in two_refused k o c.expression_at-e.ensures c.operands_of-operands.ensures c.in-Two.is (c.substitute_node-left.ensures given nodes k (omega (arith, w.0, o)) w.0) c.if-left-ge-REFUSED.true
 
 pub substitute_node-y-requires : goal.substitute_node-y-requires
-substitute_node-y-requires t c = (omega (arith, c.if-below-node.false, c.requires.0), tt)
+substitute_node-y-requires t c = (omega (arith, c.if-below-node.false, c.decreases), tt)
 
 pub returns-in-Nothing : goal.returns-in-Nothing
 returns-in-Nothing t c = λ given nodes k o b. leaf_replaced k o c.expression_at-e.ensures c.operands_of-operands.ensures c.in-Nothing.is c.put_in.ensures
