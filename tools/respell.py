@@ -19,7 +19,7 @@ import sys
 KIT = "/opt/rattle/rattle"
 NAME = r"[^\s(){}.;,@\"«»\[\]|]+"
 TOKEN = re.compile(NAME)
-DECLARED = re.compile(r"^(\s*)((?:(?:unfoldable|abbrev|pub|infixl|infixr|ghost) )*)(" + NAME + r"(?:,? " + NAME + r")*)((?: \{[^{}\n]*\})*) : ", re.M)
+DECLARED = re.compile(r"^([ \t]*)((?:(?:unfoldable|abbrev|pub|infixl|infixr|ghost) )*)(" + NAME + r"(?:,? " + NAME + r")*)((?: \{[^{}\n]*\})*) : ", re.M)
 CONSTRUCTOR = re.compile(r"^\s+\|? ?(" + NAME + r") : ", re.M)
 FIELD = re.compile(r"^ {2,4}pub (" + NAME + r") : ", re.M)
 ANY_USE = re.compile(r"\buse [^\s{;]*?\.?\{([^}]*)\}")
@@ -45,7 +45,9 @@ def declared(text):
     for m in DECLARED.finditer(text):
         if m[1] == "" or "pub" in m[2] or len(m[1]) in (2, 4):
             for n in m[3].replace(",", " ").split():
-                yield n
+                # an answer to a goal is named by Rattle
+                if f" : goal.{n}" not in m.string:
+                    yield n
 
 
 def library_names():
@@ -97,10 +99,10 @@ def main(argv):
     for s, ns in sorted(back.items()):
         if len(ns) > 1:
             stated = [n for n in ns if any("/specs/" in p for p in where[n])]
-            first = stated or [n for n in ns if re.search(r"[a-z][A-Z]", n)] or ns
+            first = stated or [n for n in ns if n == s] or [n for n in ns if re.search(r"[a-z][A-Z]", n)] or ns
             for n in ns:
                 if n != first[0]:
-                    turned[n] = s + "_lem"
+                    turned[n] = s + ("_law" if s + "_lem" in where else "_lem")
                     careful.add(n)
             print(f"together: {s}: {' '.join(f'{n} -> {turned[n]}' for n in ns)}")
     for p in files:

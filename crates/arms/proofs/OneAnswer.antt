@@ -62,21 +62,21 @@ module _ (of : Tree → ℕ) where
   unfoldable node_at : List Tree → ℕ → ℕ
   node_at ts k = of (get_or ts k (leaf pi))
 
-  unfoldable newAt : List Tree → ℕ → Expression
-  newAt ts k = node_by of (get_or ts k (leaf pi))
+  unfoldable new_at : List Tree → ℕ → Expression
+  new_at ts k = node_by of (get_or ts k (leaf pi))
 
   -- of a plan that is simplified again, or is the lesser of two
   unfoldable arm_by : (shape : ℕ) → InfixOperator → List Tree → Arm
   arm_by shape op ts =
-      cond (eqb shape 102) (Arm.Again (newAt ts 0))
+      cond (eqb shape 102) (Arm.Again (new_at ts 0))
       (cond (eqb shape 121) (Arm.Inverse (node_at ts 1))
-      (cond (eqb shape 105) (Arm.Regroup (newAt ts 0) Outer.Negated)
-      (cond (eqb shape 1121) (Arm.Regroup (newAt ts 0) (Outer.Before op (node_at ts 1)))
-      (cond (eqb shape 212) (Arm.Regroup (newAt ts 1) (Outer.After (node_at ts 0) op))
-      (cond (eqb shape 2105) (Arm.Smaller (newAt ts 0) (newAt ts 1) Outer.Negated)
-      (cond (eqb shape 3121) (Arm.Smaller (newAt ts 0) (newAt ts 1) (Outer.Before op (node_at ts 2)))
-      (cond (eqb shape 2212) (Arm.Smaller (newAt ts 0) (newAt ts 2) (Outer.After (node_at ts 1) op))
-      (cond (eqb shape 3222) (Arm.Distribute (newAt ts 0) (newAt ts 1) (newAt ts 2))
+      (cond (eqb shape 105) (Arm.Regroup (new_at ts 0) Outer.Negated)
+      (cond (eqb shape 1121) (Arm.Regroup (new_at ts 0) (Outer.Before op (node_at ts 1)))
+      (cond (eqb shape 212) (Arm.Regroup (new_at ts 1) (Outer.After (node_at ts 0) op))
+      (cond (eqb shape 2105) (Arm.Smaller (new_at ts 0) (new_at ts 1) Outer.Negated)
+      (cond (eqb shape 3121) (Arm.Smaller (new_at ts 0) (new_at ts 1) (Outer.Before op (node_at ts 2)))
+      (cond (eqb shape 2212) (Arm.Smaller (new_at ts 0) (new_at ts 2) (Outer.After (node_at ts 1) op))
+      (cond (eqb shape 3222) (Arm.Distribute (new_at ts 0) (new_at ts 1) (new_at ts 2))
       (Arm.Double (node_at ts 1) (of (left (get_or ts 2 (leaf pi)))) (of (right (get_or ts 2 (leaf pi)))))))))))))
 
   -- no arm is a negation or an operation that is not simplified again
@@ -93,7 +93,7 @@ module _ (of : Tree → ℕ) where
 
 module _ (m : Memory) {n : ℕ} {of : Tree → ℕ} (t : ByTree n (tree_at m) of) where
   arm_back : (r : Arm) → ArmIn n r → arm_of of (plan_of m r) ≡ r
-  unfolding arm_of arm_by node_at newAt shape operator_in trees_in left right
+  unfolding arm_of arm_by node_at new_at shape operator_in trees_in left right
   arm_back (Arm.Use k) w = ap Arm.Use (t.number k w)
   arm_back (Arm.Build e) w = ap Arm.Build (node_back t e w)
   arm_back (Arm.Fold o x y) w = refl

@@ -52,10 +52,10 @@ two_forms f true true c s t z = refl
 two_forms f true false c s t z = refl
 two_forms f false b c s t z = refl
 
-either-factor : (f : Tree → Plan) (t s : Tree) (z : Plan)
+either_factor : (f : Tree → Plan) (t s : Tree) (z : Plan)
     → arm_if (begins_with InfixOperator.Star t s) (f (right t)) (arm_if (ends_with InfixOperator.Star t s) (f (left t)) z)
     ≡ arm_if (is_infix InfixOperator.Star t && (equal (left t) s || equal (right t) s)) (f (other_factor t s)) z
-either-factor f t s = two_forms f _ _ _ _ _
+either_factor f t s = two_forms f _ _ _ _ _
 
 -- S(1/o)
 abbrev inverse : Tree → Plan
@@ -69,7 +69,7 @@ unfolding first_match arms is_inverse grouped_right grouped moved affine_sum sum
 first_match_lem InfixOperator.Plus l r unmatched = rw regrouped (unfold arm_if both_hold either_holds in refl)
 first_match_lem InfixOperator.Minus l r unmatched = rw regrouped (unfold arm_if both_hold in refl)
 first_match_lem InfixOperator.Star l r unmatched = rw (signed, regrouped) (unfold arm_if both_hold either_holds in refl)
-first_match_lem InfixOperator.Slash l r unmatched = rw (signed_or_cancelled, regrouped, either-factor the l r, either-factor inverse r l) (unfold arm_if both_hold in refl)
+first_match_lem InfixOperator.Slash l r unmatched = rw (signed_or_cancelled, regrouped, either_factor the l r, either_factor inverse r l) (unfold arm_if both_hold in refl)
 first_match_lem InfixOperator.Caret l r unmatched = unfold arm_if both_hold in refl
 
 -- what the code follows is 01's first match

@@ -73,35 +73,35 @@ module _ (ts nodes : List Tree) (f : Each (In ts) (leaf pi) nodes) where
   unfolding child_by
   child_in stop bs = after _ (below stop (length nodes) bs) λ i rest l. says (f i l)
 
-  last-child-in : (bs : List ℕ) → Reads (In ts) (child_by line_end nodes bs)
+  last_child_in : (bs : List ℕ) → Reads (In ts) (child_by line_end nodes bs)
   unfolding child_by
-  last-child-in bs = after _ (last_below (length nodes) bs) λ i rest l. says (f i l)
+  last_child_in bs = after _ (last_below (length nodes) bs) λ i rest l. says (f i l)
 
-  fields-new : (first : ℕ) (bs : List ℕ) → Reads (New ts) (fields_of line_end nodes first bs)
+  fields_new : (first : ℕ) (bs : List ℕ) → Reads (New ts) (fields_of line_end nodes first bs)
   unfolding fields_of number_fields variable_fields cell_fields function_fields prefix_fields infix_fields New
-  fields-new first bs =
+  fields_new first bs =
       either (eqb first 110) (after _ (any (hex_field tab bs)) λ re bs _. after _ (any (line_end (hex bs))) λ im bs _. says (of_parts_fitting re im))
       (either (eqb first 118) (after _ (last_below 65536 bs) λ v rest l. says l)
       (either (eqb first 109) (after _ (below tab 65536 bs) λ region bs l. after _ (last_below 4294967296 bs) λ index rest l'. says (l, l'))
-      (either (eqb first 102) (after _ (any (name_field tab function_names bs)) λ o bs _. after _ (last-child-in bs) λ t rest i. says i)
-      (either (eqb first 117) (after _ (any (name_field tab prefix_names bs)) λ o bs _. after _ (last-child-in bs) λ t rest i. says i)
+      (either (eqb first 102) (after _ (any (name_field tab function_names bs)) λ o bs _. after _ (last_child_in bs) λ t rest i. says i)
+      (either (eqb first 117) (after _ (any (name_field tab prefix_names bs)) λ o bs _. after _ (last_child_in bs) λ t rest i. says i)
       (either (eqb first 98)
-      (after _ (any (name_field tab infix_names bs)) λ o bs _. after _ (child_in tab bs) λ l bs i. after _ (last-child-in bs) λ r rest j. says (i, j))
+      (after _ (any (name_field tab infix_names bs)) λ o bs _. after _ (child_in tab bs) λ l bs i. after _ (last_child_in bs) λ r rest j. says (i, j))
       no)))))
 
-  node-new : (first : ℕ) (bs : List ℕ) → Reads (New ts) (node_fields nodes first bs)
+  node_new : (first : ℕ) (bs : List ℕ) → Reads (New ts) (node_fields nodes first bs)
   unfolding line_by pi_line New
-  node-new first bs =
-      either (eqb first 112) (after _ (any (line_end (is 0 bs))) λ _ bs _. says tt) (after _ (any (ended tab (is first bs))) λ first bs _. fields-new first bs)
+  node_new first bs =
+      either (eqb first 112) (after _ (any (line_end (is 0 bs))) λ _ bs _. says tt) (after _ (any (ended tab (is first bs))) λ first bs _. fields_new first bs)
 
-  swap-in : (first : ℕ) (bs : List ℕ) → Reads (λ w. In ts (tree_of w)) (swap_fields nodes first bs)
+  swap_in : (first : ℕ) (bs : List ℕ) → Reads (λ w. In ts (tree_of w)) (swap_fields nodes first bs)
   unfolding swap_fields tree_of
-  swap-in first bs =
+  swap_in first bs =
       after _ (any (ended tab (is first bs))) λ _ bs _. after _ (any (decimal_field tab 65536 bs)) λ v bs _. after _ (child_in lf bs) λ t rest i. says i
 
-line-either : {S : Type 0} (P : S → Type 0) (b : Bool) (x y : Line S Refusal) → InLine P x → InLine P y → InLine P (cond b x y)
-line-either P true x y p q = p
-line-either P false x y p q = q
+line_either : {S : Type 0} (P : S → Type 0) (b : Bool) (x y : Line S Refusal) → InLine P x → InLine P y → InLine P (cond b x y)
+line_either P true x y p q = p
+line_either P false x y p q = q
 
 -- ---- a listing: its nodes, and what its s lines name, are stored
 
@@ -111,59 +111,59 @@ module _ (room : ℕ) where
     pub nodes : Each (StoredIn k.store) (leaf pi) k.nodes
     pub swaps : SwapsIn (stored_in k.store) k.swaps
 
-  stored-sound : (k : Known) (rest : List ℕ) (a : Answer) → Sound k → GivenIn room k.store a → InLine Sound (stored k rest a)
+  stored_sound : (k : Known) (rest : List ℕ) (a : Answer) → Sound k → GivenIn room k.store a → InLine Sound (stored k rest a)
   unfolding stored Given LineHas
-  stored-sound k rest (Storing.refused why s) g x = tt
-  stored-sound k rest (gives t s) g x = record {
+  stored_sound k rest (Storing.refused why s) g x = tt
+  stored_sound k rest (gives t s) g x = record {
     sane = x.sane;
     nodes = each_more (StoredIn s) (leaf pi) k.nodes t (λ i l. x.stay _ (g.nodes i l)) x.is_in;
     swaps = λ i l. x.stay _ (g.swaps i l);
   }
 
-  formed-sound : (k : Known) {r : Read Tree} → Sound k → Reads (New (stored_in k.store)) r → InLine Sound (formed k r)
+  formed_sound : (k : Known) {r : Read Tree} → Sound k → Reads (New (stored_in k.store)) r → InLine Sound (formed k r)
   unfolding formed LineHas
-  formed-sound k g no = tt
-  formed-sound k g (says {x} {rest} p) = stored-sound k rest (intern x k.store) g (stores room x k.store g.sane p)
+  formed_sound k g no = tt
+  formed_sound k g (says {x} {rest} p) = stored_sound k rest (intern x k.store) g (stores room x k.store g.sane p)
 
-  swapped-sound : (substituting : Bool) (k : Known) {r : Read Swap} → Sound k → Reads (λ w. StoredIn k.store (tree_of w)) r
+  swapped_sound : (substituting : Bool) (k : Known) {r : Read Swap} → Sound k → Reads (λ w. StoredIn k.store (tree_of w)) r
       → InLine Sound (swapped substituting k r)
   unfolding swapped LineHas
-  swapped-sound substituting k g no = tt
-  swapped-sound substituting k g (says {x} p) =
-      line-either Sound (substituting && above_last above_variable k.swaps x) _ _
+  swapped_sound substituting k g no = tt
+  swapped_sound substituting k g (says {x} p) =
+      line_either Sound (substituting && above_last above_variable k.swaps x) _ _
       (record { sane = g.sane; nodes = g.nodes; swaps = each_more (λ w. StoredIn k.store (tree_of w)) _ k.swaps x g.swaps p }) tt
 
-  line-sound : (substituting : Bool) (k : Known) (first : ℕ) (bs : List ℕ) → Sound k → InLine Sound (listing_line substituting k first bs)
+  line_sound : (substituting : Bool) (k : Known) (first : ℕ) (bs : List ℕ) → Sound k → InLine Sound (listing_line substituting k first bs)
   unfolding listing_line swap_line node_line LineHas
-  line-sound substituting k first bs g =
+  line_sound substituting k first bs g =
       let ts = stored_in k.store in
-      line-either Sound (eqb first 115) _ _
-      (line-either Sound (ltb (length k.swaps) most_swaps) _ _ (swapped-sound substituting k g (swap-in ts k.nodes g.nodes first bs)) tt)
-      (line-either Sound (ltb (length k.nodes) most_nodes) _ _ (formed-sound k g (either (none k.swaps) (node-new ts k.nodes g.nodes first bs) no)) tt)
+      line_either Sound (eqb first 115) _ _
+      (line_either Sound (ltb (length k.swaps) most_swaps) _ _ (swapped_sound substituting k g (swap_in ts k.nodes g.nodes first bs)) tt)
+      (line_either Sound (ltb (length k.nodes) most_nodes) _ _ (formed_sound k g (either (none k.swaps) (node_new ts k.nodes g.nodes first bs) no)) tt)
 
   unfoldable pub Listed : Listing → Type 0
   Listed (accepted root swaps store) = Sane room store × StoredIn store root × SwapsIn (stored_in store) swaps
   Listed (Listings.refused why) = Unit {0}
 
-  last-in : (ts : List Tree) (t : Tree) (us : List Tree) → Each (In ts) (leaf pi) (t ∷ us) → In ts (last t us)
+  last_in : (ts : List Tree) (t : Tree) (us : List Tree) → Each (In ts) (leaf pi) (t ∷ us) → In ts (last t us)
   unfolding last
-  last-in ts t [] f = f 0 (omega arith)
-  last-in ts t (u ∷ us) f = last-in ts u us λ k l. f (suc k) (omega (arith, l))
+  last_in ts t [] f = f 0 (omega arith)
+  last_in ts t (u ∷ us) f = last_in ts u us λ k l. f (suc k) (omega (arith, l))
 
-  whole-listed : (w : Whole Known Refusal) → InWhole Sound w → Listed (whole w)
+  whole_listed : (w : Whole Known Refusal) → InWhole Sound w → Listed (whole w)
   unfolding whole WholeHas Listed rooted
-  whole-listed (Lines.refused why) g = tt
-  whole-listed (Lines.read k) g = go k.nodes g.nodes
+  whole_listed (Lines.refused why) g = tt
+  whole_listed (Lines.read k) g = go k.nodes g.nodes
     where
       go : (ts : List Tree) → Each (StoredIn k.store) (leaf pi) ts → Listed (rooted ts k.swaps k.store)
       go [] f = tt
-      go (t ∷ ts) f = (g.sane, last-in (stored_in k.store) t ts f, g.swaps)
+      go (t ∷ ts) f = (g.sane, last_in (stored_in k.store) t ts f, g.swaps)
 
   pub listing_listed : (substituting : Bool) (bs : List ℕ) → Listed (listing substituting bs (fresh room 0))
   unfolding listing stored_in room_in recall
   listing_listed substituting bs =
-      whole-listed (lines (listing_line substituting) (known [] [] (fresh room 0)) bs)
-      (to_the_end Sound (listing_line substituting) (line-sound substituting) (known [] [] (fresh room 0)) bs (record {
+      whole_listed (lines (listing_line substituting) (known [] [] (fresh room 0)) bs)
+      (to_the_end Sound (listing_line substituting) (line_sound substituting) (known [] [] (fresh room 0)) bs (record {
         sane = record {
           roomy = refl;
           few = omega arith;
@@ -182,38 +182,38 @@ accepted_good substituting bs room e =
 
 -- ---- a sheet: its t rows hold pairs of doubles
 
-complex-fits : (stop : ℕ) (bs : List ℕ) → Reads Fitting (complex_field stop bs)
+complex_fits : (stop : ℕ) (bs : List ℕ) → Reads Fitting (complex_field stop bs)
 unfolding complex_field
-complex-fits stop bs = after _ (any (hex_field tab bs)) λ re bs _. after _ (any (hex_field stop bs)) λ im bs _. says (of_parts_fitting re im)
+complex_fits stop bs = after _ (any (hex_field tab bs)) λ re bs _. after _ (any (hex_field stop bs)) λ im bs _. says (of_parts_fitting re im)
 
 row_fits : (bs : List ℕ) → Reads (λ r. Fitting (value_of r)) (row_fields bs)
 unfolding row_fields value_of
 row_fits bs =
     after _ (any (name_field tab operation_names bs)) λ name bs _. after _ (any (complex_field tab bs)) λ x bs _. after _ (any (second_operand name bs)) λ y bs _.
-    after _ (complex-fits lf bs) λ z rest f. says f
+    after _ (complex_fits lf bs) λ z rest f. says f
 
 FittingSheet : Rows → Type 0
 FittingSheet R = FittingRows R.functions
 
-sheet-formed : {A : Type 0} {P : A → Type 0} (R : Rows) (most : ℕ) (before : List A) (inOrder : A → Bool) (with : A → Rows) {r : Read A} → Reads P r
+sheet_formed : {A : Type 0} {P : A → Type 0} (R : Rows) (most : ℕ) (before : List A) (inOrder : A → Bool) (with : A → Rows) {r : Read A} → Reads P r
     → ((x : A) → P x → FittingSheet (with x)) → InLine FittingSheet (Rows.counted R most before (Rows.formed R inOrder with r))
 unfolding Rows.counted Rows.formed LineHas
-sheet-formed R most before inOrder with no f = line-either FittingSheet (ltb (length before) most) _ _ tt tt
-sheet-formed R most before inOrder with (says {x} p) f =
-    line-either FittingSheet (ltb (length before) most) _ _ (line-either FittingSheet (inOrder x) _ _ (f x p) tt) tt
+sheet_formed R most before inOrder with no f = line_either FittingSheet (ltb (length before) most) _ _ tt tt
+sheet_formed R most before inOrder with (says {x} p) f =
+    line_either FittingSheet (ltb (length before) most) _ _ (line_either FittingSheet (inOrder x) _ _ (f x p) tt) tt
 
-sheet-line : (R : Rows) (first : ℕ) (bs : List ℕ) → FittingSheet R → InLine FittingSheet (sheet_line R first bs)
+sheet_line_law : (R : Rows) (first : ℕ) (bs : List ℕ) → FittingSheet R → InLine FittingSheet (sheet_line R first bs)
 unfolding sheet_line variable_line cell_line function_line FittingSheet LineHas
-sheet-line R first bs g =
-    line-either FittingSheet (eqb first 118) _ _ (sheet-formed R _ _ _ _ (any (fields_after first bs Rows.variable_fields)) λ x _. g)
-    (line-either FittingSheet (eqb first 109) _ _ (sheet-formed R _ _ _ _ (any (fields_after first bs Rows.cell_fields)) λ x _. g)
-    (line-either FittingSheet (eqb first 116) _ _
-    (sheet-formed R _ _ _ _ (after _ (any (ended tab (is first bs))) λ _ bs _. row_fits bs) λ x p.
+sheet_line_law R first bs g =
+    line_either FittingSheet (eqb first 118) _ _ (sheet_formed R _ _ _ _ (any (fields_after first bs Rows.variable_fields)) λ x _. g)
+    (line_either FittingSheet (eqb first 109) _ _ (sheet_formed R _ _ _ _ (any (fields_after first bs Rows.cell_fields)) λ x _. g)
+    (line_either FittingSheet (eqb first 116) _ _
+    (sheet_formed R _ _ _ _ (after _ (any (ended tab (is first bs))) λ _ bs _. row_fits bs) λ x p.
     each_more (λ r. Fitting (value_of r)) _ R.functions x g p) tt))
 
-sheet-fits : (bs : List ℕ) → InWhole FittingSheet (sheet bs)
+sheet_fits : (bs : List ℕ) → InWhole FittingSheet (sheet bs)
 unfolding sheet FittingSheet
-sheet-fits bs = to_the_end FittingSheet sheet_line sheet-line (rows [] [] []) bs λ k l. absurd (omega arith)
+sheet_fits bs = to_the_end FittingSheet sheet_line sheet_line_law (rows [] [] []) bs λ k l. absurd (omega arith)
 
 -- ---- both
 unfoldable pub Jobbed : (room : ℕ) → Job → Type 0
@@ -222,7 +222,7 @@ Jobbed room (Calls.refused why) = Unit {0}
 
 pub job_in : (room : ℕ) (list values : List ℕ) → Jobbed room (job room list values)
 unfolding job after_listing with_sheet Listed Jobbed WholeHas FittingSheet
-job_in room list values = go (listing false list (fresh room 0)) (listing_listed room false list) (sheet values) (sheet-fits values)
+job_in room list values = go (listing false list (fresh room 0)) (listing_listed room false list) (sheet values) (sheet_fits values)
   where
     go : (l : Listing) → Listed room l → (w : Whole Rows Refusal) → InWhole FittingSheet w
         → Jobbed room (after_listing Calls.refused l λ root swaps store. with_sheet root store w)

@@ -65,96 +65,96 @@ by_most why h = ((refusal_some why).0, h)
 abbrev So : (out : List ℕ) → Written × List ℕ → Type 0
 So out x = WrittenSo out x.1 x.0
 
-if-so : (out : List ℕ) (b : Bool) (x y : Written × List ℕ) → So out x → So out y → So out (cond b x y)
-if-so out true x y p q = p
-if-so out false x y p q = q
+if_so : (out : List ℕ) (b : Bool) (x y : Written × List ℕ) → So out x → So out y → So out (cond b x y)
+if_so out true x y p q = p
+if_so out false x y p q = q
 
-written-so : (t : Tree) (out : List ℕ) → So out (written t out)
+written_so : (t : Tree) (out : List ℕ) → So out (written t out)
 unfolding written
-written-so t out =
-    if-so out (ltb 1024 (length (order t))) _ _ (by_most (Refusal.LongList 0) (omega arith), refl)
-    (if-so out (ltb (length out) (length (text_of t))) _ _ (by_most Refusal.OutRoom (omega arith), refl) tt)
+written_so t out =
+    if_so out (ltb 1024 (length (order t))) _ _ (by_most (Refusal.LongList 0) (omega arith), refl)
+    (if_so out (ltb (length out) (length (text_of t))) _ _ (by_most Refusal.OutRoom (omega arith), refl) tt)
 
-compiled-so : (t : Tree) (out : List ℕ) → So out (compiled t out)
+compiled_so : (t : Tree) (out : List ℕ) → So out (compiled t out)
 unfolding compiled
-compiled-so t out =
-    if-so out (ltb most_steps (size t)) _ _ (by_most Refusal.LongTape (omega arith), refl)
-    (if-so out (ltb (length out) (length (tape t))) _ _ (by_most Refusal.OutRoom (omega arith), refl) tt)
+compiled_so t out =
+    if_so out (ltb most_steps (size t)) _ _ (by_most Refusal.LongTape (omega arith), refl)
+    (if_so out (ltb (length out) (length (tape t))) _ _ (by_most Refusal.OutRoom (omega arith), refl) tt)
 
 -- what builds is refused by at most 9
 abbrev pub AtMost9 : Answer → Type 0
 AtMost9 (gives t s) = Unit {0}
 AtMost9 (Storing.refused why s) = number_of why ≤ 9
 
-answer-so : (out : List ℕ) (a : Answer) → AtMost9 a → So out (written_answer out a)
+answer_so : (out : List ℕ) (a : Answer) → AtMost9 a → So out (written_answer out a)
 unfolding written_answer
-answer-so out (gives t s) h = written-so t out
-answer-so out (Storing.refused why s) h = (by_most why (omega (arith, h)), refl)
+answer_so out (gives t s) h = written_so t out
+answer_so out (Storing.refused why s) h = (by_most why (omega (arith, h)), refl)
 
 -- ---- evaluating, reading as a real
 
-evaluation-so : (e : Evaluation) → EvaluatedSo (evaluated e)
+evaluation_so : (e : Evaluation) → EvaluatedSo (evaluated e)
 unfolding evaluated
-evaluation-so (Evaluation.Value z) = tt
-evaluation-so Evaluation.Incomplete = by_most Refusal.Incomplete (omega arith)
-evaluation-so (Evaluation.Need operation x y) = by_most (Refusal.Need operation x y) (omega arith)
+evaluation_so (Evaluation.Value z) = tt
+evaluation_so Evaluation.Incomplete = by_most Refusal.Incomplete (omega arith)
+evaluation_so (Evaluation.Need operation x y) = by_most (Refusal.Need operation x y) (omega arith)
 
-job-so : (j : Job) → JobBy j → EvaluatedSo (evaluate_job j)
+job_so : (j : Job) → JobBy j → EvaluatedSo (evaluate_job j)
 unfolding evaluate_job JobBy
-job-so (ready root store rows) h = evaluation-so (evaluate rows root)
-job-so (Calls.refused why) h = by_most why (omega (arith, job_most h))
+job_so (ready root store rows) h = evaluation_so (evaluate rows root)
+job_so (Calls.refused why) h = by_most why (omega (arith, job_most h))
 
 pub evaluate_call_so : (room : ℕ) (list values : List ℕ) → EvaluatedSo (evaluate_call room list values)
-evaluate_call_so room list values = job-so (job room list values) (job_numbers room list values)
+evaluate_call_so room list values = job_so (job room list values) (job_numbers room list values)
 
-real-if : (b : Bool) (x y : Real) → RealSo x → RealSo y → RealSo (cond b x y)
-real-if true x y p q = p
-real-if false x y p q = q
+real_if : (b : Bool) (x y : Real) → RealSo x → RealSo y → RealSo (cond b x y)
+real_if true x y p q = p
+real_if false x y p q = q
 
-real-so : (t : Tree) → RealSo (to_real t)
+real_so : (t : Tree) → RealSo (to_real t)
 unfolding to_real real_part
-real-so (leaf (number z)) = real-if (small z.im) _ _ tt (by_most Refusal.NotReal (omega arith))
-real-so (leaf pi) = tt
-real-so (leaf (variable v)) = by_most Refusal.NotANumber (omega arith)
-real-so (leaf (cell region index)) = by_most Refusal.NotANumber (omega arith)
-real-so (function_call f t) = by_most Refusal.NotANumber (omega arith)
-real-so (prefixed o t) = by_most Refusal.NotANumber (omega arith)
-real-so (infixed o l r) = by_most Refusal.NotANumber (omega arith)
+real_so (leaf (number z)) = real_if (small z.im) _ _ tt (by_most Refusal.NotReal (omega arith))
+real_so (leaf pi) = tt
+real_so (leaf (variable v)) = by_most Refusal.NotANumber (omega arith)
+real_so (leaf (cell region index)) = by_most Refusal.NotANumber (omega arith)
+real_so (function_call f t) = by_most Refusal.NotANumber (omega arith)
+real_so (prefixed o t) = by_most Refusal.NotANumber (omega arith)
+real_so (infixed o l r) = by_most Refusal.NotANumber (omega arith)
 
 pub real_call_so : (room : ℕ) (list : List ℕ) → RealSo (to_real_call room list)
 unfolding to_real_call after_listing ListingBy
 real_call_so room list = go (listing false list (fresh room 0)) (listing_numbers false list (fresh room 0))
   where
     go : (l : Listing) → ListingBy l → RealSo (after_listing Real.Refused l λ root swaps store. to_real root)
-    go (accepted root swaps store) h = real-so root
+    go (accepted root swaps store) h = real_so root
     go (Listings.refused why) h = by_most why (omega (arith, listing_most h))
 
 -- ---- substituting, compiling
 
-if-at-most : (b : Bool) (x y : Answer) → AtMost9 x → AtMost9 y → AtMost9 (cond b x y)
-if-at-most true x y p q = p
-if-at-most false x y p q = q
+if_at_most : (b : Bool) (x y : Answer) → AtMost9 x → AtMost9 y → AtMost9 (cond b x y)
+if_at_most true x y p q = p
+if_at_most false x y p q = q
 
 stores : (t : Tree) (s : State) → AtMost9 (intern t s)
 unfolding intern
 stores t (state room stored kept tally) =
-    if-at-most (among stored t) _ _ tt
-    (if-at-most (ltb largest (size t)) _ _ (omega arith)
-    (if-at-most (ltb deepest (depth t)) _ _ (omega arith)
-    (if-at-most (ltb (length stored) room) _ _ tt (omega arith))))
+    if_at_most (among stored t) _ _ tt
+    (if_at_most (ltb largest (size t)) _ _ (omega arith)
+    (if_at_most (ltb deepest (depth t)) _ _ (omega arith)
+    (if_at_most (ltb (length stored) room) _ _ tt (omega arith))))
 
-then-at-most : (a : Answer) (f : Tree → State → Answer) → AtMost9 a → ((t : Tree) (s : State) → AtMost9 (f t s)) → AtMost9 (and_then a f)
+then_at_most : (a : Answer) (f : Tree → State → Answer) → AtMost9 a → ((t : Tree) (s : State) → AtMost9 (f t s)) → AtMost9 (and_then a f)
 unfolding and_then
-then-at-most (gives t s) f h g = g t s
-then-at-most (Storing.refused why s) f h g = h
+then_at_most (gives t s) f h g = g t s
+then_at_most (Storing.refused why s) f h g = h
 
 pub substitutes : (swaps : List Swap) (t : Tree) (s : State) → AtMost9 (substitute swaps t s)
 unfolding substitute
 substitutes swaps (leaf l) s = tt
-substitutes swaps (function_call f t) s = then-at-most (substitute swaps t s) _ (substitutes swaps t s) λ t s. stores (function_call f t) s
-substitutes swaps (prefixed o t) s = then-at-most (substitute swaps t s) _ (substitutes swaps t s) λ t s. stores (prefixed o t) s
+substitutes swaps (function_call f t) s = then_at_most (substitute swaps t s) _ (substitutes swaps t s) λ t s. stores (function_call f t) s
+substitutes swaps (prefixed o t) s = then_at_most (substitute swaps t s) _ (substitutes swaps t s) λ t s. stores (prefixed o t) s
 substitutes swaps (infixed o l r) s =
-    then-at-most (substitute swaps l s) _ (substitutes swaps l s) λ l s. then-at-most (substitute swaps r s) _ (substitutes swaps r s) λ r s. stores (infixed o l r) s
+    then_at_most (substitute swaps l s) _ (substitutes swaps l s) λ l s. then_at_most (substitute swaps r s) _ (substitutes swaps r s) λ r s. stores (infixed o l r) s
 
 -- a call that takes no sheet
 listing_so : (out : List ℕ) (l : Listing) (next : Tree → List Swap → State → Written × List ℕ) → ListingBy l
@@ -166,50 +166,50 @@ listing_so out (Listings.refused why) next h f = (by_most why (omega (arith, lis
 pub substitute_call_so : (room : ℕ) (list out : List ℕ) → So out (substitute_call room list out)
 unfolding substitute_call
 substitute_call_so room list out =
-    listing_so out (listing true list (fresh room 0)) _ (listing_numbers true list (fresh room 0)) λ root swaps store. answer-so out (substitute swaps root store) (substitutes swaps root store)
+    listing_so out (listing true list (fresh room 0)) _ (listing_numbers true list (fresh room 0)) λ root swaps store. answer_so out (substitute swaps root store) (substitutes swaps root store)
 
 pub compile_call_so : (room : ℕ) (list out : List ℕ) → So out (compile_call room list out)
 unfolding compile_call
 compile_call_so room list out =
-    listing_so out (listing false list (fresh room 0)) _ (listing_numbers false list (fresh room 0)) λ root swaps store. compiled-so root out
+    listing_so out (listing false list (fresh room 0)) _ (listing_numbers false list (fresh room 0)) λ root swaps store. compiled_so root out
 
 -- ---- simplifying
 
-with-calls-so : (out out' : List ℕ) (calls : ℕ) (r : Written) → WrittenSo out out' r → SimplifiedSo out out' (with_calls calls r)
+with_calls_so : (out out' : List ℕ) (calls : ℕ) (r : Written) → WrittenSo out out' r → SimplifiedSo out out' (with_calls calls r)
 unfolding with_calls
-with-calls-so out out' calls (Written.Bytes bytes) h = tt
-with-calls-so out out' calls (Written.Refused why) h = h
+with_calls_so out out' calls (Written.Bytes bytes) h = tt
+with_calls_so out out' calls (Written.Refused why) h = h
 
 pub six_to_nine_so : (a : Answer) → SixToNine a → AtMost9 a
 six_to_nine_so (gives t s) h = tt
 six_to_nine_so (Storing.refused why s) h = h.1
 
-simplify-job-so : (limit : ℕ) (out : List ℕ) (j : Job) → JobBy j → SimplifiedSo out (simplify_job limit out j).1 (simplify_job limit out j).0
+simplify_job_so : (limit : ℕ) (out : List ℕ) (j : Job) → JobBy j → SimplifiedSo out (simplify_job limit out j).1 (simplify_job limit out j).0
 unfolding simplify_job JobBy
-simplify-job-so limit out (ready root store rows) h =
+simplify_job_so limit out (ready root store rows) h =
     let a = simplify rows limit root store in
-    with-calls-so out (written_answer out a).1 (calls_in a) (written_answer out a).0 (answer-so out a (six_to_nine_so a (six_to_nine suc rows limit root store)))
-simplify-job-so limit out (Calls.refused why) h = (by_most why (omega (arith, job_most h)), refl)
+    with_calls_so out (written_answer out a).1 (calls_in a) (written_answer out a).0 (answer_so out a (six_to_nine_so a (six_to_nine suc rows limit root store)))
+simplify_job_so limit out (Calls.refused why) h = (by_most why (omega (arith, job_most h)), refl)
 
 pub simplify_call_so : (room limit : ℕ) (list values out : List ℕ) → SimplifiedSo out (simplify_call room limit list values out).1 (simplify_call room limit list values out).0
 unfolding simplify_call
 simplify_call_so room limit list values out = go (is_allowed limit)
   where
     go : (b : Bool) → SimplifiedSo out (cond b (simplify_job limit out (job room list values)) (Simplified.Refused Refusal.BadLimit, out)).1 (cond b (simplify_job limit out (job room list values)) (Simplified.Refused Refusal.BadLimit, out)).0
-    go true = simplify-job-so limit out (job room list values) (job_numbers room list values)
+    go true = simplify_job_so limit out (job room list values) (job_numbers room list values)
     go false = (by_most Refusal.BadLimit (omega arith), refl)
 
 -- ---- playing
 
-sheet-number : (w : Whole Rows Refusal) → WholeBy OfSheet w → {why : Refusal} → w ≡ Lines.refused why → number_of why ≤ 4
+sheet_number : (w : Whole Rows Refusal) → WholeBy OfSheet w → {why : Refusal} → w ≡ Lines.refused why → number_of why ≤ 4
 unfolding WholeHas
-sheet-number w h e = sheet_most (subst (WholeBy OfSheet) e h)
+sheet_number w h e = sheet_most (subst (WholeBy OfSheet) e h)
 
 pub play_call_so : (tape values : List ℕ) → EvaluatedSo (play_call tape values)
 play_call_so tape values = go (from_anywhere tape values)
   where
     answered : Answered tape values → EvaluatedSo (play_call tape values)
-    answered (sheet_refused why s e) = subst EvaluatedSo (sym e) (by_most why (omega (arith, sheet-number (sheet values) (sheet_numbers values) s)))
+    answered (sheet_refused why s e) = subst EvaluatedSo (sym e) (by_most why (omega (arith, sheet_number (sheet values) (sheet_numbers values) s)))
     answered (value rows z s r e) = subst EvaluatedSo (sym e) tt
     answered (need rows operation x y s r e) = subst EvaluatedSo (sym e) (by_most (Refusal.Need operation x y) (omega arith))
     answered (incomplete rows s r e) = subst EvaluatedSo (sym e) (by_most Refusal.Incomplete (omega arith))

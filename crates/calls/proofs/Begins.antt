@@ -24,59 +24,59 @@ use Rattle.calls.specs.Calls.{Job, ready, job, written_answer, with_calls, calls
 abbrev pub NotR : List ℕ → Type 0
 NotR bs = get_or bs 0 0 ≡ 114 → ⊥
 
-line-begins : (lines : List Tree) (t : Tree) (rest : List ℕ) → NotR (line (line_fields lines t) ++ rest)
+line_begins : (lines : List Tree) (t : Tree) (rest : List ℕ) → NotR (line (line_fields lines t) ++ rest)
 unfolding line_fields leaf_fields line
-line-begins lines (leaf (number z)) rest e = omega (arith, e)
-line-begins lines (leaf pi) rest e = omega (arith, e)
-line-begins lines (leaf (variable v)) rest e = omega (arith, e)
-line-begins lines (leaf (cell region index)) rest e = omega (arith, e)
-line-begins lines (function_call f t) rest e = omega (arith, e)
-line-begins lines (prefixed o t) rest e = omega (arith, e)
-line-begins lines (infixed o l r) rest e = omega (arith, e)
+line_begins lines (leaf (number z)) rest e = omega (arith, e)
+line_begins lines (leaf pi) rest e = omega (arith, e)
+line_begins lines (leaf (variable v)) rest e = omega (arith, e)
+line_begins lines (leaf (cell region index)) rest e = omega (arith, e)
+line_begins lines (function_call f t) rest e = omega (arith, e)
+line_begins lines (prefixed o t) rest e = omega (arith, e)
+line_begins lines (infixed o l r) rest e = omega (arith, e)
 
-text-begins : (lines ts : List Tree) → NotR (text lines ts)
+text_begins : (lines ts : List Tree) → NotR (text lines ts)
 unfolding text
-text-begins lines [] e = omega (arith, e)
-text-begins lines (t ∷ ts) e = line-begins lines t (text lines ts) e
+text_begins lines [] e = omega (arith, e)
+text_begins lines (t ∷ ts) e = line_begins lines t (text lines ts) e
 
 -- the bytes that were written
 WrittenNotR : Written → List ℕ → Type 0
 WrittenNotR (Written.Bytes bytes) out = NotR (take bytes out)
 WrittenNotR (Written.Refused why) out = Unit {0}
 
-either-written : (b : Bool) (x y : Written × List ℕ) → WrittenNotR x.0 x.1 → WrittenNotR y.0 y.1 → WrittenNotR (cond b x y).0 (cond b x y).1
-either-written true x y p q = p
-either-written false x y p q = q
+either_written : (b : Bool) (x y : Written × List ℕ) → WrittenNotR x.0 x.1 → WrittenNotR y.0 y.1 → WrittenNotR (cond b x y).0 (cond b x y).1
+either_written true x y p q = p
+either_written false x y p q = q
 
-answer-begins : (out : List ℕ) (a : Answer) → WrittenNotR (written_answer out a).0 (written_answer out a).1
+answer_begins : (out : List ℕ) (a : Answer) → WrittenNotR (written_answer out a).0 (written_answer out a).1
 unfolding written_answer written WrittenNotR
-answer-begins out (Storing.refused why s) = tt
-answer-begins out (gives t s) =
-    either-written (ltb 1024 (length (order t))) _ _ tt
-    (either-written (ltb (length out) (length (text_of t))) _ _ tt (subst NotR (sym (take-append_seam (text_of t) _)) (text-begins (order t) (order t))))
+answer_begins out (Storing.refused why s) = tt
+answer_begins out (gives t s) =
+    either_written (ltb 1024 (length (order t))) _ _ tt
+    (either_written (ltb (length out) (length (text_of t))) _ _ tt (subst NotR (sym (take-append_seam (text_of t) _)) (text_begins (order t) (order t))))
 
 SimplifiedNotR : Simplified → List ℕ → Type 0
 SimplifiedNotR (Simplified.Bytes bytes calls) out = NotR (take bytes out)
 SimplifiedNotR (Simplified.Refused why) out = Unit {0}
 
-counted-begins : (calls : ℕ) (w : Written) (out : List ℕ) → WrittenNotR w out → SimplifiedNotR (with_calls calls w) out
+counted_begins : (calls : ℕ) (w : Written) (out : List ℕ) → WrittenNotR w out → SimplifiedNotR (with_calls calls w) out
 unfolding with_calls WrittenNotR SimplifiedNotR
-counted-begins calls (Written.Bytes bytes) out p = p
-counted-begins calls (Written.Refused why) out p = tt
+counted_begins calls (Written.Bytes bytes) out p = p
+counted_begins calls (Written.Refused why) out p = tt
 
-job-begins : (limit : ℕ) (out : List ℕ) (j : Job) → SimplifiedNotR (simplify_job limit out j).0 (simplify_job limit out j).1
+job_begins : (limit : ℕ) (out : List ℕ) (j : Job) → SimplifiedNotR (simplify_job limit out j).0 (simplify_job limit out j).1
 unfolding simplify_job SimplifiedNotR
-job-begins limit out (Calls.refused why) = tt
-job-begins limit out (ready root store rows) =
+job_begins limit out (Calls.refused why) = tt
+job_begins limit out (ready root store rows) =
     let a = simplify rows limit root store in
-    counted-begins (calls_in a) (written_answer out a).0 (written_answer out a).1 (answer-begins out a)
+    counted_begins (calls_in a) (written_answer out a).0 (written_answer out a).1 (answer_begins out a)
 
 pub simplified_begins : (room limit : ℕ) (list values out : List ℕ) {bytes calls : ℕ}
     → (simplify_call room limit list values out).0 ≡ Simplified.Bytes bytes calls → NotR (take bytes (simplify_call room limit list values out).1)
 unfolding simplify_call SimplifiedNotR
 simplified_begins room limit list values out e =
     subst (λ r. SimplifiedNotR r (simplify_call room limit list values out).1) e
-    (go (is_allowed limit) (simplify_job limit out (job room list values)) (job-begins limit out (job room list values)))
+    (go (is_allowed limit) (simplify_job limit out (job room list values)) (job_begins limit out (job room list values)))
   where
     go : (b : Bool) (x : Simplified × List ℕ) → SimplifiedNotR x.0 x.1
         → SimplifiedNotR (cond b x (Simplified.Refused Refusal.BadLimit, out)).0 (cond b x (Simplified.Refused Refusal.BadLimit, out)).1

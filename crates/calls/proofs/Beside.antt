@@ -61,10 +61,10 @@ module _ (lines : List Tree) (few : length lines ≤ 1024) (out : List ℕ) wher
           let fits = ltb-false (length out) (length (traced_text_of lines t)) e in
           rw (le-ltb (length out) (length (text_of t)) (omega (arith, fits, listing_shorter lines t))) (both t (strips lines few t))
 
-  answer-beside : (a : Answer) → Beside lines out (traced_answer lines out a) (written_answer out a)
+  answer_beside : (a : Answer) → Beside lines out (traced_answer lines out a) (written_answer out a)
   unfolding traced_answer written_answer
-  answer-beside (gives t s) = written_beside t
-  answer-beside (Storing.refused why s) = refused why
+  answer_beside (gives t s) = written_beside t
+  answer_beside (Storing.refused why s) = refused why
 
 -- ---- substituting
 
@@ -75,7 +75,7 @@ substitute_beside room list out = go (listing true list (fresh room 0))
     go : (l : Listing)
         → Beside (given true list (fresh room 0)) out (after_listing (λ why. (Written.Refused why, out)) l (λ root swaps store. traced_answer (given true list (fresh room 0)) out (substitute swaps root store)))
         (after_listing (λ why. (Written.Refused why, out)) l (λ root swaps store. written_answer out (substitute swaps root store)))
-    go (accepted root swaps store) = answer-beside _ (given_few true list (fresh room 0)) out (substitute swaps root store)
+    go (accepted root swaps store) = answer_beside _ (given_few true list (fresh room 0)) out (substitute swaps root store)
     go (Listings.refused why) = refused why
 
 -- ---- simplifying: the number of calls is the same
@@ -111,34 +111,34 @@ simplify_beside room limit list values out = go (is_allowed limit) (job room lis
           plain = written_answer out a;
           is_traced = refl;
           is_plain = refl;
-          beside = answer-beside lines (given_few false list (fresh room 0)) out a;
+          beside = answer_beside lines (given_few false list (fresh room 0)) out a;
         }
 
 -- ---- demand 1, of the calls with origins: bytes, or a numbered refusal that leaves the output as it was
 
-beside-so : {lines : List Tree} {out : List ℕ} {a b : Written × List ℕ} → Beside lines out a b → WrittenSo out b.1 b.0 → WrittenSo out a.1 a.0
-beside-so (refused why) h = h
-beside-so (short plain) h = ((omega arith, omega arith), refl)
-beside-so (both t e) h = tt
+beside_so : {lines : List Tree} {out : List ℕ} {a b : Written × List ℕ} → Beside lines out a b → WrittenSo out b.1 b.0 → WrittenSo out a.1 a.0
+beside_so (refused why) h = h
+beside_so (short plain) h = ((omega arith, omega arith), refl)
+beside_so (both t e) h = tt
 
 pub substitute_origins_so : (room : ℕ) (list out : List ℕ) → WrittenSo out (substitute_origins room list out).1 (substitute_origins room list out).0
-substitute_origins_so room list out = beside-so (substitute_beside room list out) (substitute_call_so room list out)
+substitute_origins_so room list out = beside_so (substitute_beside room list out) (substitute_call_so room list out)
 
-counted-so : (out : List ℕ) (calls : ℕ) (x : Written × List ℕ) → SimplifiedSo out x.1 (with_calls calls x.0) → WrittenSo out x.1 x.0
+counted_so : (out : List ℕ) (calls : ℕ) (x : Written × List ℕ) → SimplifiedSo out x.1 (with_calls calls x.0) → WrittenSo out x.1 x.0
 unfolding with_calls
-counted-so out calls (Written.Bytes bytes, out') h = tt
-counted-so out calls (Written.Refused why, out') h = h
+counted_so out calls (Written.Bytes bytes, out') h = tt
+counted_so out calls (Written.Refused why, out') h = h
 
-so-counted : (out : List ℕ) (calls : ℕ) (x : Written × List ℕ) → WrittenSo out x.1 x.0 → SimplifiedSo out x.1 (with_calls calls x.0)
+so_counted : (out : List ℕ) (calls : ℕ) (x : Written × List ℕ) → WrittenSo out x.1 x.0 → SimplifiedSo out x.1 (with_calls calls x.0)
 unfolding with_calls
-so-counted out calls (Written.Bytes bytes, out') h = tt
-so-counted out calls (Written.Refused why, out') h = h
+so_counted out calls (Written.Bytes bytes, out') h = tt
+so_counted out calls (Written.Refused why, out') h = h
 
 pub simplify_origins_so : (room limit : ℕ) (list values out : List ℕ) → SimplifiedSo out (simplify_origins room limit list values out).1 (simplify_origins room limit list values out).0
 simplify_origins_so room limit list values out =
     let s = simplify_beside room limit list values out in
     let h = subst (λ x. SimplifiedSo out x.1 x.0) s.is_plain (simplify_call_so room limit list values out) in
-    subst (λ x. SimplifiedSo out x.1 x.0) (sym s.is_traced) (so-counted out s.calls s.traced (beside-so s.beside (counted-so out s.calls s.plain h)))
+    subst (λ x. SimplifiedSo out x.1 x.0) (sym s.is_traced) (so_counted out s.calls s.traced (beside_so s.beside (counted_so out s.calls s.plain h)))
 
 -- ---- "demand 2's read-back is of the expression without origins": what was written reads back to the tree that the call without origins gives
 
@@ -157,23 +157,23 @@ pub record WithOrigins (lines : List Tree) (plain : Written × List ℕ) (bytes 
 not_bytes : {A : Type 0} {why : Refusal} {out : List ℕ} {bytes : ℕ} {out' : List ℕ} → ◌≡◌ {A = Written × List ℕ} (Written.Refused why, out) (Written.Bytes bytes, out') → A
 not_bytes e = let z : ◌≡◌ {A = ℕ} 0 1 = cc (ap (λ w. w.0) e) in absurd (omega arith)
 
-left-text : (text out : List ℕ) {bytes : ℕ} {out' : List ℕ} → leaving text out ≡ (Written.Bytes bytes, out') → take bytes out' ≡ text
-left-text text out {bytes} {out'} e =
+left_text : (text out : List ℕ) {bytes : ℕ} {out' : List ℕ} → leaving text out ≡ (Written.Bytes bytes, out') → take bytes out' ≡ text
+left_text text out {bytes} {out'} e =
     let m : bytes ≡ length text = cc (ap (λ w. w.0) e) in
     (λ j. take (m j) (ap (λ w. w.1) (sym e) j)) ∙ take-append_seam text (drop (length text) out)
 
-with-origins : {lines : List Tree} {out : List ℕ} {a b : Written × List ℕ} → Beside lines out a b → {bytes : ℕ} {out' : List ℕ} → a ≡ (Written.Bytes bytes, out') → WithOrigins lines b bytes out'
-with-origins (refused why) e = not_bytes e
-with-origins (short plain) e = not_bytes e
-with-origins {lines} {out} (both t x) e = record {
+with_origins : {lines : List Tree} {out : List ℕ} {a b : Written × List ℕ} → Beside lines out a b → {bytes : ℕ} {out' : List ℕ} → a ≡ (Written.Bytes bytes, out') → WithOrigins lines b bytes out'
+with_origins (refused why) e = not_bytes e
+with_origins (short plain) e = not_bytes e
+with_origins {lines} {out} (both t x) e = record {
   tree = t;
-  is_text = left-text (traced_text_of lines t) out e;
+  is_text = left_text (traced_text_of lines t) out e;
   first = origin_first lines;
   none = origin_no_line lines;
   fewer = length (text_of t);
   beside = text_of t ++ drop (length (text_of t)) out;
   is_plain = refl;
-  bare = ap without_origins (left-text (traced_text_of lines t) out e) ∙ x ∙ sym (take-append_seam (text_of t) (drop (length (text_of t)) out));
+  bare = ap without_origins (left_text (traced_text_of lines t) out e) ∙ x ∙ sym (take-append_seam (text_of t) (drop (length (text_of t)) out));
 }
 
 -- bytes whose fields are ignored are read as the bytes without them
@@ -187,7 +187,7 @@ pub record SubstitutedWith (room : ℕ) (list out : List ℕ) (bytes : ℕ) (out
 
 pub substituted_with_origins : (room : ℕ) (list out : List ℕ) {bytes : ℕ} {out' : List ℕ} → substitute_origins room list out ≡ (Written.Bytes bytes, out') → SubstitutedWith room list out bytes out'
 substituted_with_origins room list out {bytes} {out'} e =
-    let w = with-origins (substitute_beside room list out) e in
+    let w = with_origins (substitute_beside room list out) e in
     let s = substituted_reads_back room list out w.is_plain in
     record {
       written = w;
@@ -218,7 +218,7 @@ simplified_with_origins room limit list values out {bytes} {calls} {out'} e =
     let s = simplify_beside room limit list values out in
     let z = sym s.is_traced ∙ e in
     let c = uncounted s.calls s.traced.0 (ap (λ x. x.0) z) in
-    let w = with-origins s.beside (λ i. (c.0 i, ap (λ x. x.1) z i)) in
+    let w = with_origins s.beside (λ i. (c.0 i, ap (λ x. x.1) z i)) in
     let p = s.is_plain ∙ (λ i. (with_calls (c.1 i) s.plain.0, s.plain.1)) in
     let b = simplified_reads_back room limit list values out (p ∙ ap (λ x. (with_calls calls x.0, x.1)) w.is_plain) in
     record {

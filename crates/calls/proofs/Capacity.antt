@@ -48,70 +48,70 @@ module _ (room : ℕ) (ample : 1024 ≤ room) where
   Stores most (gives t s) = (room_in s ≡ room) × (length (stored_in s) ≤ most)
   Stores most (Storing.refused why s) = NotFull why
 
-  either-answer : (most : ℕ) (b : Bool) (x y : Answer) → Stores most x → (b ≡ false → Stores most y) → Stores most (cond b x y)
-  either-answer most true x y p q = p
-  either-answer most false x y p q = q refl
+  either_answer : (most : ℕ) (b : Bool) (x y : Answer) → Stores most x → (b ≡ false → Stores most y) → Stores most (cond b x y)
+  either_answer most true x y p q = p
+  either_answer most false x y p q = q refl
 
   stores_one : (t : Tree) (s : State) (n : ℕ) → room_in s ≡ room → length (stored_in s) ≤ n → n < 1024 → Stores (suc n) (intern t s)
   unfolding intern stored_in room_in Stores
   stores_one t (state r ts kept tally) n e few l =
-      either-answer (suc n) (among ts t) _ _ (e, omega (arith, few)) λ _.
-      either-answer (suc n) (ltb largest (size t)) _ _ (λ z. omega (arith, z)) λ _.
-      either-answer (suc n) (ltb deepest (depth t)) _ _ (λ z. omega (arith, z)) λ _.
-      either-answer (suc n) (ltb (length ts) r) _ _ (e, omega (arith, few, length-append ts (t ∷ []))) λ f.
+      either_answer (suc n) (among ts t) _ _ (e, omega (arith, few)) λ _.
+      either_answer (suc n) (ltb largest (size t)) _ _ (λ z. omega (arith, z)) λ _.
+      either_answer (suc n) (ltb deepest (depth t)) _ _ (λ z. omega (arith, z)) λ _.
+      either_answer (suc n) (ltb (length ts) r) _ _ (e, omega (arith, few, length-append ts (t ∷ []))) λ f.
       absurd (omega (arith, ltb-false (length ts) r f, e, few, l, ample))
 
   abbrev Lined : Line Known Refusal → Type 0
   Lined = LineHas Few NotFull
 
-  either-line : (b : Bool) (x y : Line Known Refusal) → (b ≡ true → Lined x) → Lined y → Lined (cond b x y)
-  either-line true x y p q = p refl
-  either-line false x y p q = q
+  either_line : (b : Bool) (x y : Line Known Refusal) → (b ≡ true → Lined x) → Lined y → Lined (cond b x y)
+  either_line true x y p q = p refl
+  either_line false x y p q = q
 
-  stored-few : (k : Known) (rest : List ℕ) (a : Answer) → Stores (suc (length k.nodes)) a → Lined (stored k rest a)
+  stored_few : (k : Known) (rest : List ℕ) (a : Answer) → Stores (suc (length k.nodes)) a → Lined (stored k rest a)
   unfolding stored Stores LineHas
-  stored-few k rest (gives t s) x = record { roomy = x.0; few = omega (arith, x.1, length-append k.nodes (t ∷ [])) }
-  stored-few k rest (Storing.refused why s) x = x
+  stored_few k rest (gives t s) x = record { roomy = x.0; few = omega (arith, x.1, length-append k.nodes (t ∷ [])) }
+  stored_few k rest (Storing.refused why s) x = x
 
-  formed-few : (k : Known) (r : Read Tree) → Few k → length k.nodes < 1024 → Lined (formed k r)
+  formed_few : (k : Known) (r : Read Tree) → Few k → length k.nodes < 1024 → Lined (formed k r)
   unfolding formed LineHas
-  formed-few k bad g l = λ z. omega (arith, z)
-  formed-few k (is t rest) g l = stored-few k rest (intern t k.store) (stores_one t k.store (length k.nodes) g.roomy g.few l)
+  formed_few k bad g l = λ z. omega (arith, z)
+  formed_few k (is t rest) g l = stored_few k rest (intern t k.store) (stores_one t k.store (length k.nodes) g.roomy g.few l)
 
-  swapped-few : (substituting : Bool) (k : Known) (r : Read Swap) → Few k → Lined (swapped substituting k r)
+  swapped_few : (substituting : Bool) (k : Known) (r : Read Swap) → Few k → Lined (swapped substituting k r)
   unfolding swapped LineHas
-  swapped-few substituting k bad g = λ z. omega (arith, z)
-  swapped-few substituting k (is s rest) g =
-      either-line (substituting && above_last above_variable k.swaps s) _ _ (λ _. record { roomy = g.roomy; few = g.few }) λ z. omega (arith, z)
+  swapped_few substituting k bad g = λ z. omega (arith, z)
+  swapped_few substituting k (is s rest) g =
+      either_line (substituting && above_last above_variable k.swaps s) _ _ (λ _. record { roomy = g.roomy; few = g.few }) λ z. omega (arith, z)
 
-  line-few : (substituting : Bool) (k : Known) (first : ℕ) (bs : List ℕ) → Few k → Lined (listing_line substituting k first bs)
+  line_few : (substituting : Bool) (k : Known) (first : ℕ) (bs : List ℕ) → Few k → Lined (listing_line substituting k first bs)
   unfolding listing_line swap_line node_line LineHas
-  line-few substituting k first bs g =
-      either-line (eqb first 115) _ _
-      (λ _. either-line (ltb (length k.swaps) most_swaps) _ _ (λ _. swapped-few substituting k (swap_fields k.nodes first bs) g) λ z. omega (arith, z))
-      (either-line (ltb (length k.nodes) most_nodes) _ _
-      (λ e. formed-few k (cond (none k.swaps) (node_fields k.nodes first bs) bad) g (ltb-true (length k.nodes) most_nodes e)) λ z. omega (arith, z))
+  line_few substituting k first bs g =
+      either_line (eqb first 115) _ _
+      (λ _. either_line (ltb (length k.swaps) most_swaps) _ _ (λ _. swapped_few substituting k (swap_fields k.nodes first bs) g) λ z. omega (arith, z))
+      (either_line (ltb (length k.nodes) most_nodes) _ _
+      (λ e. formed_few k (cond (none k.swaps) (node_fields k.nodes first bs) bad) g (ltb-true (length k.nodes) most_nodes e)) λ z. omega (arith, z))
 
   unfoldable Listed : Listing → Type 0
   Listed (accepted root swaps store) = Unit {0}
   Listed (Listings.refused why) = NotFull why
 
-  rooted-few : (ts : List Tree) (swaps : List Swap) (store : State) → Listed (rooted ts swaps store)
+  rooted_few : (ts : List Tree) (swaps : List Swap) (store : State) → Listed (rooted ts swaps store)
   unfolding rooted Listed
-  rooted-few [] swaps store = λ z. omega (arith, z)
-  rooted-few (t ∷ ts) swaps store = tt
+  rooted_few [] swaps store = λ z. omega (arith, z)
+  rooted_few (t ∷ ts) swaps store = tt
 
-  whole-few : (w : Whole Known Refusal) → WholeHas Few NotFull w → Listed (whole w)
+  whole_few : (w : Whole Known Refusal) → WholeHas Few NotFull w → Listed (whole w)
   unfolding whole WholeHas Listed
-  whole-few (Lines.read k) x = rooted-few k.nodes k.swaps k.store
-  whole-few (Lines.refused why) x = x
+  whole_few (Lines.read k) x = rooted_few k.nodes k.swaps k.store
+  whole_few (Lines.refused why) x = x
 
   -- no listing, with s lines or without, is refused by 8
   pub never_full : (substituting : Bool) (bs : List ℕ) → listing substituting bs (fresh room 0) ≡ Listings.refused Refusal.Room → ⊥
   unfolding listing stored_in room_in Listed
   never_full substituting bs e =
       subst Listed e
-      (whole-few _ (by_lines Few NotFull (listing_line substituting) (line-few substituting) (known [] [] (fresh room 0)) bs (record { roomy = refl; few = omega arith })))
+      (whole_few _ (by_lines Few NotFull (listing_line substituting) (line_few substituting) (known [] [] (fresh room 0)) bs (record { roomy = refl; few = omega arith })))
       refl
 
 -- ---- what looks at the root of a listing alone
@@ -123,11 +123,11 @@ module _ {A : Type 0} (f : Listing → A) (rootwise : (root : Tree) (swaps : Lis
   beside l l' n (both_accepted root swaps) = rootwise root swaps _ _
   beside l l' n (both_refused_by why) = refl
 
-  from-1024 : (room : ℕ) → 1024 ≤ room → f (listing false list (fresh 1024 0)) ≡ f (listing false list (fresh room 0))
-  from-1024 room ample = beside _ _ (never_full 1024 (omega arith) false list) (more_room false list 1024 room ample)
+  from_1024 : (room : ℕ) → 1024 ≤ room → f (listing false list (fresh 1024 0)) ≡ f (listing false list (fresh room 0))
+  from_1024 room ample = beside _ _ (never_full 1024 (omega arith) false list) (more_room false list 1024 room ample)
 
   pub alike : (room room' : ℕ) → 1024 ≤ room → 1024 ≤ room' → f (listing false list (fresh room 0)) ≡ f (listing false list (fresh room' 0))
-  alike room room' ample ample' = sym (from-1024 room ample) ∙ from-1024 room' ample'
+  alike room room' ample ample' = sym (from_1024 room ample) ∙ from_1024 room' ample'
 
 -- ---- the calls
 

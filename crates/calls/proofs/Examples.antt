@@ -130,25 +130,25 @@ computes : map asked table ≡ map wanted table
 unfolding asked wanted writing simplify_call is_allowed job after_listing with_sheet sheet simplify_job calls_in written_answer listing whole rooted last listing_line node_line formed stored none lines lines_by at_line after_line line_by pi_line line_end fields_of number_fields variable_fields prefix_fields infix_fields child_by then ended decimal spelt run value digit_of hex hex_from starts name_from numbered computed written text line line_fields leaf_fields finished once place in_decimal digits digits_by byte_of in_hex last_hex
 computes = refl
 
-with-room : (e : Example) (out : List ℕ) → length e.result ≤ length out
+with_room : (e : Example) (out : List ℕ) → length e.result ≤ length out
     → wanted e out ≡ (Simplified.Bytes (length e.result) e.calls, e.result ++ drop (length e.result) out)
 unfolding wanted writing with_calls
-with-room e out room = rw (le-ltb (length out) (length e.result) room)
+with_room e out room = rw (le-ltb (length out) (length e.result) room)
 
 each : (es : List Example) → map asked es ≡ map wanted es → Each Shown es
 unfolding asked
 each [] p = tt
-each (e ∷ es) p = (λ out room. ap (λ answers. get_or answers 0 (asked e) out) p ∙ with-room e out room, each es (ap (drop 1) p))
+each (e ∷ es) p = (λ out room. ap (λ answers. get_or answers 0 (asked e) out) p ∙ with_room e out room, each es (ap (drop 1) p))
 
 pub proved_examples : Each Shown table
 proved_examples = each table computes
 
-pi-computes : map asked pi_table ≡ map wanted pi_table
+pi_computes : map asked pi_table ≡ map wanted pi_table
 unfolding asked wanted writing simplify_call is_allowed job after_listing with_sheet sheet simplify_job calls_in written_answer listing whole rooted last listing_line node_line formed stored none lines lines_by at_line after_line line_by pi_line line_end fields_of prefix_fields child_by then ended decimal spelt run value digit_of starts name_from numbered computed written text line line_fields leaf_fields finished once
-pi-computes = refl
+pi_computes = refl
 
 pub pi_comes_back : Each Shown pi_table
-pi_comes_back = each pi_table pi-computes
+pi_comes_back = each pi_table pi_computes
 
 -- ---- "Sharing nodes whose zeros differ in sign: a substituted -0 would lose its sign"
 
@@ -159,11 +159,11 @@ zeros = bytes "n\t0000000000000000\t0000000000000000\nn\t8000000000000000\t00000
 abbrev pub zeros_kept : List ℕ
 zeros_kept = bytes "n\t0000000000000000\t0000000000000000\nn\t8000000000000000\t0000000000000000\nb\t+\t0\t1\n"
 
-zeros-compute : ◌≡◌ {A = List ℕ → Written × List ℕ} (λ out. substitute_call 4096 zeros out) (λ out. writing zeros_kept out)
+zeros_compute : ◌≡◌ {A = List ℕ → Written × List ℕ} (λ out. substitute_call 4096 zeros out) (λ out. writing zeros_kept out)
 unfolding writing substitute_call after_listing written_answer listing whole rooted last listing_line node_line swap_line swap_fields swapped above_last formed stored none lines lines_by at_line after_line line_by pi_line line_end fields_of number_fields variable_fields infix_fields child_by then ended decimal spelt run value digit_of hex hex_from starts name_from numbered computed substitute put_in_leaf put_in swap_for written text line line_fields leaf_fields finished once place in_decimal digits digits_by byte_of in_hex last_hex
-zeros-compute = refl
+zeros_compute = refl
 
 pub minus_zero_stays : (out : List ℕ) → length zeros_kept ≤ length out
     → substitute_call 4096 zeros out ≡ (Written.Bytes (length zeros_kept), zeros_kept ++ drop (length zeros_kept) out)
 unfolding writing
-minus_zero_stays out room = ap (λ answer. answer out) zeros-compute ∙ (rw (le-ltb (length out) (length zeros_kept) room) refl)
+minus_zero_stays out room = ap (λ answer. answer out) zeros_compute ∙ (rw (le-ltb (length out) (length zeros_kept) room) refl)

@@ -192,24 +192,24 @@ module _ (traced : Bool) (store : List (List ℕ)) {desk list : List ℕ} (out :
   abbrev swapping : List Tree
   swapping = given true list (fresh (room (memory store)) 0)
 
-  from-listing : Tree → List Swap → State → Written × List ℕ
-  from-listing root swaps store = written_as traced swapping out (substitute swaps root store)
+  from_listing : Tree → List Swap → State → Written × List ℕ
+  from_listing root swaps store = written_as traced swapping out (substitute swaps root store)
 
   pub substitutes : {root swaps built : ℕ} {l₂ : Lent} {r : Written} {out' : List ℕ} → listed ≡ Listing.Read root swaps
       → Built (substitute (swap_trees l₁.rows table swaps) (tree_in l₁ root) (state_in l₁)) built l₁ l₂
       → WritesAnswer traced l₂ built r out out' → ◌≡◌ {A = Written × List ℕ} (r, out') (substitute_as traced (min (length store) 4096) list out)
-  unfolding from-listing
+  unfolding from_listing
   substitutes told b w =
       in_room store (λ n. substitute_as traced n list out)
       (w swapping b.step.sound (traced_step (lists_read p told).2.sound (traced_read p told) b.step) b.inside ∙ ap (written_as traced swapping out) b.answer
-      ∙ after_read p (λ why. (Written.Refused why, out)) from-listing told ∙ sym (substitute_as_lem traced (room (memory store)) list out))
+      ∙ after_read p (λ why. (Written.Refused why, out)) from_listing told ∙ sym (substitute_as_lem traced (room (memory store)) list out))
 
   pub substitutes_refused : {why : Refusal} → listed ≡ Listing.Refused why
       → ◌≡◌ {A = Written × List ℕ} (Written.Refused why, out) (substitute_as traced (min (length store) 4096) list out)
-  unfolding from-listing
+  unfolding from_listing
   substitutes_refused told =
       in_room store (λ n. substitute_as traced n list out)
-      (after_refused p (λ why. (Written.Refused why, out)) from-listing told ∙ sym (substitute_as_lem traced (room (memory store)) list out))
+      (after_refused p (λ why. (Written.Refused why, out)) from_listing told ∙ sym (substitute_as_lem traced (room (memory store)) list out))
 
 -- ---- simplifying
 
@@ -218,9 +218,9 @@ pub shown_is : (r : Simplified) (marks : List ℕ) → is_shown r ≡ true → s
 unfolding shown
 shown_is r marks e = rw e refl
 
-hidden-is : (r : Simplified) (marks : List ℕ) → is_shown r ≡ false → shown r marks ≡ no_marks
+hidden_is : (r : Simplified) (marks : List ℕ) → is_shown r ≡ false → shown r marks ≡ no_marks
 unfolding shown
-hidden-is r marks e = rw e refl
+hidden_is r marks e = rw e refl
 
 pub simplifies_beyond : (traced : Bool) (w : Work) (limit : ℕ) (list values out desk : List ℕ) → is_allowed limit ≡ false
     → SimplifiesTexts traced limit list values out w (Simplified.Refused Refusal.BadLimit) out desk
@@ -232,39 +232,39 @@ simplifies_beyond false w limit list values out desk e = record { answer = rw e 
 abbrev simplified_as : (traced : Bool) (lines : List Tree) (out : List ℕ) → Answer → Simplified × List ℕ
 simplified_as traced lines out answer = (with_calls (calls_in answer) (written_as traced lines out answer).0, (written_as traced lines out answer).1)
 
-unfoldable jobAs : (traced : Bool) (lines : List Tree) (limit : ℕ) (out : List ℕ) → Calls.Job → Simplified × List ℕ
-jobAs traced lines limit out (Calls.ready root store rows) = simplified_as traced lines out (simplify rows limit root store)
-jobAs traced lines limit out (Calls.refused why) = (Simplified.Refused why, out)
+unfoldable job_as : (traced : Bool) (lines : List Tree) (limit : ℕ) (out : List ℕ) → Calls.Job → Simplified × List ℕ
+job_as traced lines limit out (Calls.ready root store rows) = simplified_as traced lines out (simplify rows limit root store)
+job_as traced lines limit out (Calls.refused why) = (Simplified.Refused why, out)
 
-unfoldable jobMarksAs : (traced : Bool) (lines : List Tree) (limit : ℕ) (out : List ℕ) → Calls.Job → List ℕ
-jobMarksAs traced lines limit out (Calls.ready root store rows) = shown (simplified_as traced lines out (simplify rows limit root store)).0 (marks_in (simplify rows limit root store))
-jobMarksAs traced lines limit out (Calls.refused why) = no_marks
+unfoldable job_marks_as : (traced : Bool) (lines : List Tree) (limit : ℕ) (out : List ℕ) → Calls.Job → List ℕ
+job_marks_as traced lines limit out (Calls.ready root store rows) = shown (simplified_as traced lines out (simplify rows limit root store)).0 (marks_in (simplify rows limit root store))
+job_marks_as traced lines limit out (Calls.refused why) = no_marks
 
-job-as : (traced : Bool) (lines : List Tree) (limit : ℕ) (out : List ℕ) (j : Calls.Job) → jobAs traced lines limit out j ≡ cond traced (traced_job lines limit out j) (simplify_job limit out j)
-unfolding jobAs written_as traced_job simplify_job
-job-as true lines limit out (Calls.ready root store rows) = refl
-job-as true lines limit out (Calls.refused why) = refl
-job-as false lines limit out (Calls.ready root store rows) = refl
-job-as false lines limit out (Calls.refused why) = refl
+job_as_lem : (traced : Bool) (lines : List Tree) (limit : ℕ) (out : List ℕ) (j : Calls.Job) → job_as traced lines limit out j ≡ cond traced (traced_job lines limit out j) (simplify_job limit out j)
+unfolding job_as written_as traced_job simplify_job
+job_as_lem true lines limit out (Calls.ready root store rows) = refl
+job_as_lem true lines limit out (Calls.refused why) = refl
+job_as_lem false lines limit out (Calls.ready root store rows) = refl
+job_as_lem false lines limit out (Calls.refused why) = refl
 
-job-marks-as : (traced : Bool) (lines : List Tree) (limit : ℕ) (out : List ℕ) (j : Calls.Job) → jobMarksAs traced lines limit out j ≡ cond traced (traced_job_marks lines limit out j) (simplify_job_marks limit out j)
-unfolding jobMarksAs written_as traced_job_marks simplify_job_marks
-job-marks-as true lines limit out (Calls.ready root store rows) = refl
-job-marks-as true lines limit out (Calls.refused why) = refl
-job-marks-as false lines limit out (Calls.ready root store rows) = refl
-job-marks-as false lines limit out (Calls.refused why) = refl
+job_marks_as_lem : (traced : Bool) (lines : List Tree) (limit : ℕ) (out : List ℕ) (j : Calls.Job) → job_marks_as traced lines limit out j ≡ cond traced (traced_job_marks lines limit out j) (simplify_job_marks limit out j)
+unfolding job_marks_as written_as traced_job_marks simplify_job_marks
+job_marks_as_lem true lines limit out (Calls.ready root store rows) = refl
+job_marks_as_lem true lines limit out (Calls.refused why) = refl
+job_marks_as_lem false lines limit out (Calls.ready root store rows) = refl
+job_marks_as_lem false lines limit out (Calls.refused why) = refl
 
-call-as : (traced : Bool) (room limit : ℕ) (list values out : List ℕ) → is_allowed limit ≡ true
-    → jobAs traced (given false list (fresh room 0)) limit out (job room list values) ≡ simplify_as traced room limit list values out
+call_as : (traced : Bool) (room limit : ℕ) (list values out : List ℕ) → is_allowed limit ≡ true
+    → job_as traced (given false list (fresh room 0)) limit out (job room list values) ≡ simplify_as traced room limit list values out
 unfolding simplify_as simplify_call simplify_origins
-call-as true room limit list values out e = rw e (job-as true (given false list (fresh room 0)) limit out (job room list values))
-call-as false room limit list values out e = rw e (job-as false (given false list (fresh room 0)) limit out (job room list values))
+call_as true room limit list values out e = rw e (job_as_lem true (given false list (fresh room 0)) limit out (job room list values))
+call_as false room limit list values out e = rw e (job_as_lem false (given false list (fresh room 0)) limit out (job room list values))
 
-marks-as : (traced : Bool) (room limit : ℕ) (list values out : List ℕ) → is_allowed limit ≡ true
-    → jobMarksAs traced (given false list (fresh room 0)) limit out (job room list values) ≡ marks_as traced room limit list values out
+marks_as_lem : (traced : Bool) (room limit : ℕ) (list values out : List ℕ) → is_allowed limit ≡ true
+    → job_marks_as traced (given false list (fresh room 0)) limit out (job room list values) ≡ marks_as traced room limit list values out
 unfolding marks_as simplify_marks simplify_origins_marks
-marks-as true room limit list values out e = rw e (job-marks-as true (given false list (fresh room 0)) limit out (job room list values))
-marks-as false room limit list values out e = rw e (job-marks-as false (given false list (fresh room 0)) limit out (job room list values))
+marks_as_lem true room limit list values out e = rw e (job_marks_as_lem true (given false list (fresh room 0)) limit out (job room list values))
+marks_as_lem false room limit list values out e = rw e (job_marks_as_lem false (given false list (fresh room 0)) limit out (job room list values))
 
 -- the calls on the desk are those of the answer; a refusal names none
 counted : (traced : Bool) (lines : List Tree) (l : Lent) (built : ℕ) (out : List ℕ)
@@ -309,11 +309,11 @@ module _ (traced : Bool) (limit : ℕ) (allowed : is_allowed limit ≡ true) (st
   abbrev lines : List Tree
   lines = given false list (fresh (room (memory store)) 0)
 
-  from-job : {r : Simplified × List ℕ} → r ≡ jobAs traced lines limit out (job (room (memory store)) list values) → r ≡ simplify_as traced (min (length store) 4096) limit list values out
-  from-job e = in_room store (λ n. simplify_as traced n limit list values out) (e ∙ call-as traced (room (memory store)) limit list values out allowed)
+  from_job : {r : Simplified × List ℕ} → r ≡ job_as traced lines limit out (job (room (memory store)) list values) → r ≡ simplify_as traced (min (length store) 4096) limit list values out
+  from_job e = in_room store (λ n. simplify_as traced n limit list values out) (e ∙ call_as traced (room (memory store)) limit list values out allowed)
 
-  marks-from-job : {m : List ℕ} → m ≡ jobMarksAs traced lines limit out (job (room (memory store)) list values) → m ≡ marks_as traced (min (length store) 4096) limit list values out
-  marks-from-job e = in_room store (λ n. marks_as traced n limit list values out) (e ∙ marks-as traced (room (memory store)) limit list values out allowed)
+  marks_from_job : {m : List ℕ} → m ≡ job_marks_as traced lines limit out (job (room (memory store)) list values) → m ≡ marks_as traced (min (length store) 4096) limit list values out
+  marks_from_job e = in_room store (λ n. marks_as traced n limit list values out) (e ∙ marks_as_lem traced (room (memory store)) limit list values out allowed)
 
   module _ {root : ℕ} {rows : Counts} (told : j ≡ Job.Ready root rows) where
     -- nothing was counted and nothing marked when the job was read
@@ -333,8 +333,8 @@ module _ (traced : Bool) (limit : ℕ) (allowed : is_allowed limit ≡ true) (st
     unfolding is_allowed
     agrees = same_answer traced lines out (machine_agrees (rows_of table rows) limit (tree_in l₁ root) (state_in l₁) (omega (arith, uncounted, bound_to_ten limit (leb-true limit 10 allowed))))
 
-    marks-agree : marks_in (simplify_by one_more (rows_of table rows) limit (tree_in l₁ root) (state_in l₁)) ≡ marks_in (simplify (rows_of table rows) limit (tree_in l₁ root) (state_in l₁))
-    marks-agree =
+    marks_agree : marks_in (simplify_by one_more (rows_of table rows) limit (tree_in l₁ root) (state_in l₁)) ≡ marks_in (simplify (rows_of table rows) limit (tree_in l₁ root) (state_in l₁))
+    marks_agree =
         marks_after_lem _
         ∙ ap (λ s. marks_after (simplify_by one_more (rows_of table rows) limit (tree_in l₁ root) s)) (sym (small_in_word (state_in l₁) (omega (arith, uncounted))))
         ∙ ap marks_after (machine_counts (rows_of table rows) limit (tree_in l₁ root) (state_in l₁)) ∙ marks_in_word _ ∙ sym (marks_after_lem _)
@@ -350,29 +350,29 @@ module _ (traced : Bool) (limit : ℕ) (allowed : is_allowed limit ≡ true) (st
         → Built (simplify_by one_more (rows_of table rows) limit (tree_in l₁ root) (state_in l₁)) built l₁ l₂
         → WritesAnswer traced l₂ built w out out' → calls ≡ calls_on l₂.desk → r ≡ with_calls calls w
         → SimplifiesTexts traced limit list values out (work store desk₀ table₀) r out' l₂.desk
-    unfolding jobAs jobMarksAs
+    unfolding job_as job_marks_as
     simplifies {built} {l₂ = l₂} {r} {out' = out'} desk₀ table₀ b w q e =
         let y = w lines b.step.sound (traced_step (job_holds p told).1 (job_traced p told) b.step) b.inside in
         let same =
         ap (λ r. (r, out')) e ∙ (λ i. (with_calls (q i) (y i).0, (y i).1)) ∙ ap (λ r. (r, (written_as traced lines out (seen built l₂)).1)) (counted traced lines l₂ built out)
         ∙ ap (simplified_as traced lines out) b.answer ∙ agrees in
-        let on_desk = marks_seen l₂ built ∙ ap marks_in b.answer ∙ marks-agree in
-        let wanted = marks-from-job (ap (jobMarksAs traced lines limit out) (rw told at p.answer)) in
+        let on_desk = marks_seen l₂ built ∙ ap marks_in b.answer ∙ marks_agree in
+        let wanted = marks_from_job (ap (job_marks_as traced lines limit out) (rw told at p.answer)) in
         let by_answer = ap (λ x. shown x.0 (marks_in (simplify (rows_of table rows) limit (tree_in l₁ root) (state_in l₁)))) same in
         record {
-          answer = same ∙ from-job (ap (jobAs traced lines limit out) (rw told at p.answer));
+          answer = same ∙ from_job (ap (job_as traced lines limit out) (rw told at p.answer));
           marks = λ x. (record { long = b.step.sound.long; few = λ k. rw on_desk (marks_few k) }, on_desk ∙ sym (shown_is r _ x) ∙ by_answer ∙ wanted);
-          none = λ x. sym wanted ∙ sym by_answer ∙ hidden-is r _ x;
+          none = λ x. sym wanted ∙ sym by_answer ∙ hidden_is r _ x;
         }
 
   pub simplifies_refused : {why : Refusal} (desk₀ table₀ desk₁ : List ℕ) → j ≡ Job.Refused why → SimplifiesTexts traced limit list values out (work store desk₀ table₀) (Simplified.Refused why) out desk₁
-  unfolding jobAs jobMarksAs is_shown JobBy
+  unfolding job_as job_marks_as is_shown JobBy
   simplifies_refused {why} desk₀ table₀ desk₁ told =
       let by = job_most (subst JobBy (sym (rw told at p.answer)) (job_numbers (room (memory store)) list values)) in
       record {
-        answer = from-job (ap (jobAs traced lines limit out) (rw told at p.answer));
+        answer = from_job (ap (job_as traced lines limit out) (rw told at p.answer));
         marks = λ x. absurd (true≢false (sym x ∙ below-nine (number_of why) by));
-        none = λ x. sym (marks-from-job (ap (jobMarksAs traced lines limit out) (rw told at p.answer)));
+        none = λ x. sym (marks_from_job (ap (job_marks_as traced lines limit out) (rw told at p.answer)));
       }
     where
       below-nine : (n : ℕ) → n ≤ 8 → (eqb n 9 || eqb n 10) ≡ false

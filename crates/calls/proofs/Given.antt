@@ -21,37 +21,37 @@ use Rattle.calls.proofs.Lining.{LineHas, WholeHas, InLine, InWhole, to_the_end}
 Few : Known → Type 0
 Few k = length k.nodes ≤ 1024
 
-line-either : (b : Bool) (x y : Line Known Refusal) → (b ≡ true → InLine Few x) → InLine Few y → InLine Few (cond b x y)
-line-either true x y p q = p refl
-line-either false x y p q = q
+line_either : (b : Bool) (x y : Line Known Refusal) → (b ≡ true → InLine Few x) → InLine Few y → InLine Few (cond b x y)
+line_either true x y p q = p refl
+line_either false x y p q = q
 
-stored-few : (k : Known) (rest : List ℕ) (a : Answer) → length k.nodes < 1024 → InLine Few (stored k rest a)
+stored_few : (k : Known) (rest : List ℕ) (a : Answer) → length k.nodes < 1024 → InLine Few (stored k rest a)
 unfolding stored LineHas Few
-stored-few k rest (gives t s) l = omega (arith, l, length-append k.nodes (t ∷ []))
-stored-few k rest (Storing.refused why s) l = tt
+stored_few k rest (gives t s) l = omega (arith, l, length-append k.nodes (t ∷ []))
+stored_few k rest (Storing.refused why s) l = tt
 
-formed-few : (k : Known) (r : Read Tree) → length k.nodes < 1024 → InLine Few (formed k r)
+formed_few : (k : Known) (r : Read Tree) → length k.nodes < 1024 → InLine Few (formed k r)
 unfolding formed LineHas
-formed-few k bad l = tt
-formed-few k (is t rest) l = stored-few k rest (intern t k.store) l
+formed_few k bad l = tt
+formed_few k (is t rest) l = stored_few k rest (intern t k.store) l
 
-swapped-few : (substituting : Bool) (k : Known) (r : Read Swap) → Few k → InLine Few (swapped substituting k r)
+swapped_few : (substituting : Bool) (k : Known) (r : Read Swap) → Few k → InLine Few (swapped substituting k r)
 unfolding swapped LineHas Few
-swapped-few substituting k bad f = tt
-swapped-few substituting k (is s rest) f = line-either (substituting && above_last above_variable k.swaps s) _ _ (λ _. f) tt
+swapped_few substituting k bad f = tt
+swapped_few substituting k (is s rest) f = line_either (substituting && above_last above_variable k.swaps s) _ _ (λ _. f) tt
 
-line-few : (substituting : Bool) (k : Known) (first : ℕ) (bs : List ℕ) → Few k → InLine Few (listing_line substituting k first bs)
+line_few : (substituting : Bool) (k : Known) (first : ℕ) (bs : List ℕ) → Few k → InLine Few (listing_line substituting k first bs)
 unfolding listing_line swap_line node_line LineHas
-line-few substituting k first bs f =
-    line-either (eqb first 115) _ _
-    (λ _. line-either (ltb (length k.swaps) most_swaps) _ _ (λ _. swapped-few substituting k (swap_fields k.nodes first bs) f) tt)
-    (line-either (ltb (length k.nodes) most_nodes) _ _ (λ e. formed-few k (cond (none k.swaps) (node_fields k.nodes first bs) bad) (ltb-true (length k.nodes) most_nodes e)) tt)
+line_few substituting k first bs f =
+    line_either (eqb first 115) _ _
+    (λ _. line_either (ltb (length k.swaps) most_swaps) _ _ (λ _. swapped_few substituting k (swap_fields k.nodes first bs) f) tt)
+    (line_either (ltb (length k.nodes) most_nodes) _ _ (λ e. formed_few k (cond (none k.swaps) (node_fields k.nodes first bs) bad) (ltb-true (length k.nodes) most_nodes e)) tt)
 
-lines-few : (w : Whole Known Refusal) → InWhole Few w → length (lines_of w) ≤ 1024
+lines_few : (w : Whole Known Refusal) → InWhole Few w → length (lines_of w) ≤ 1024
 unfolding lines_of WholeHas Few
-lines-few (Lines.read k) f = f
-lines-few (Lines.refused why) f = omega arith
+lines_few (Lines.read k) f = f
+lines_few (Lines.refused why) f = omega arith
 
 pub given_few : (substituting : Bool) (bs : List ℕ) (σ : State) → length (given substituting bs σ) ≤ 1024
 unfolding Few
-given_few substituting bs σ = lines-few _ (to_the_end Few (listing_line substituting) (line-few substituting) (known [] [] σ) bs (omega arith))
+given_few substituting bs σ = lines_few _ (to_the_end Few (listing_line substituting) (line_few substituting) (known [] [] σ) bs (omega arith))

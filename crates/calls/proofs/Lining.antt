@@ -19,16 +19,16 @@ module _ {S R : Type 0} (P : S → Type 0) (Q : R → Type 0) where
   after (goes s rest) next x f = f s rest x
   after (stops why) next x f = x
 
-  with-fuel : (line : S → ℕ → List ℕ → Line S R) → ((s : S) (b : ℕ) (bs : List ℕ) → P s → LineHas (line s b bs))
+  with_fuel : (line : S → ℕ → List ℕ → Line S R) → ((s : S) (b : ℕ) (bs : List ℕ) → P s → LineHas (line s b bs))
       → (fuel : ℕ) (s : S) (bs : List ℕ) → P s → WholeHas (lines_by fuel line s bs)
   unfolding lines_by at_line WholeHas
-  with-fuel line f zero s bs x = x
-  with-fuel line f (suc fuel) s [] x = x
-  with-fuel line f (suc fuel) s (b ∷ bs) x = after (line s b bs) (λ s bs. lines_by fuel line s bs) (f s b bs x) λ s bs y. with-fuel line f fuel s bs y
+  with_fuel line f zero s bs x = x
+  with_fuel line f (suc fuel) s [] x = x
+  with_fuel line f (suc fuel) s (b ∷ bs) x = after (line s b bs) (λ s bs. lines_by fuel line s bs) (f s b bs x) λ s bs y. with_fuel line f fuel s bs y
 
   pub by_lines : (line : S → ℕ → List ℕ → Line S R) → ((s : S) (b : ℕ) (bs : List ℕ) → P s → LineHas (line s b bs)) → (s : S) (bs : List ℕ) → P s → WholeHas (lines line s bs)
   unfolding lines
-  by_lines line f s bs x = with-fuel line f (length bs) s bs x
+  by_lines line f s bs x = with_fuel line f (length bs) s bs x
 
 -- where nothing is asked of a refusal
 module _ {S R : Type 0} (P : S → Type 0) where

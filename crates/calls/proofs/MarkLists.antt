@@ -45,28 +45,28 @@ none_left = record { rows = []; are = refl }
 by_rows : (rows : List ℕ) → Left (marks_of rows)
 by_rows rows = record { rows = rows; are = refl }
 
-evaluated-left : (j : Job) → Left (evaluate_job_marks j)
+evaluated_left : (j : Job) → Left (evaluate_job_marks j)
 unfolding evaluate_job_marks
-evaluated-left (ready root store rows) = by_rows (used rows root)
-evaluated-left (Calls.refused why) = none_left
+evaluated_left (ready root store rows) = by_rows (used rows root)
+evaluated_left (Calls.refused why) = none_left
 
-played-left : (c : Checked) (tape values : List ℕ) → Left (play_checked_marks c tape values)
+played_left : (c : Checked) (tape values : List ℕ) → Left (play_checked_marks c tape values)
 unfolding play_checked_marks play_sheet_marks
-played-left Checked.Sound tape values = go (sheet values)
+played_left Checked.Sound tape values = go (sheet values)
   where
     go : (w : Whole Rows Refusal) → Left (play_sheet_marks tape w)
     go (Lines.read rows) = by_rows (used_playing rows tape)
     go (Lines.refused why) = none_left
-played-left (Checked.Bad step) tape values = none_left
+played_left (Checked.Bad step) tape values = none_left
 
 either_left : (b : Bool) {x y : List ℕ} → Left x → Left y → Left (cond b x y)
 either_left true p q = p
 either_left false p q = q
 
-shown-left : (r : Simplified) {marks : List ℕ} → Left marks → Left (shown r marks)
+shown_left : (r : Simplified) {marks : List ℕ} → Left marks → Left (shown r marks)
 unfolding shown is_shown
-shown-left (Simplified.Bytes bytes calls) p = p
-shown-left (Simplified.Refused why) p = either_left (is_lack why) p none_left
+shown_left (Simplified.Bytes bytes calls) p = p
+shown_left (Simplified.Refused why) p = either_left (is_lack why) p none_left
 
 -- what simplifying marks where none was marked before
 simplified_left : (rows : Rows) (limit : ℕ) (root : Tree) (store : State) → Marking.marks_of store ≡ no_marks → Left (marks_in (simplify rows limit root store))
@@ -74,15 +74,15 @@ simplified_left rows limit root store e =
     let g = marks_grow suc rows limit root store in
     record { rows = g.rows; are = marks_after_lem _ ∙ g.are ∙ ap (noted g.rows) e }
 
-simplified-job-left : (limit : ℕ) (out : List ℕ) (j : Job) → FreshJob j → Left (simplify_job_marks limit out j)
+simplified_job_left : (limit : ℕ) (out : List ℕ) (j : Job) → FreshJob j → Left (simplify_job_marks limit out j)
 unfolding simplify_job_marks FreshJob
-simplified-job-left limit out (ready root store rows) f = shown-left (simplified_answer out (simplify rows limit root store)).0 (simplified_left rows limit root store f.unmarked)
-simplified-job-left limit out (Calls.refused why) f = none_left
+simplified_job_left limit out (ready root store rows) f = shown_left (simplified_answer out (simplify rows limit root store)).0 (simplified_left rows limit root store f.unmarked)
+simplified_job_left limit out (Calls.refused why) f = none_left
 
-simplified-origins-left : (lines : List Tree) (limit : ℕ) (out : List ℕ) (j : Job) → FreshJob j → Left (traced_job_marks lines limit out j)
+simplified_origins_left : (lines : List Tree) (limit : ℕ) (out : List ℕ) (j : Job) → FreshJob j → Left (traced_job_marks lines limit out j)
 unfolding traced_job_marks FreshJob
-simplified-origins-left lines limit out (ready root store rows) f = shown-left (traced_simplified lines out (simplify rows limit root store)).0 (simplified_left rows limit root store f.unmarked)
-simplified-origins-left lines limit out (Calls.refused why) f = none_left
+simplified_origins_left lines limit out (ready root store rows) f = shown_left (traced_simplified lines out (simplify rows limit root store)).0 (simplified_left rows limit root store f.unmarked)
+simplified_origins_left lines limit out (Calls.refused why) f = none_left
 
 -- ---- "256 marks"
 
@@ -95,21 +95,21 @@ at_most_one zero l = inl refl
 at_most_one (suc zero) l = inr refl
 at_most_one (suc (suc n)) l = absurd (omega (arith, l))
 
-left-whole : {marks : List ℕ} → Left marks → Marks256 marks
-left-whole p = record { long = ap length p.are ∙ length_marks p.rows; each = λ j. at_most_one _ (rw p.are (mark_small p.rows j)) }
+left_whole : {marks : List ℕ} → Left marks → Marks256 marks
+left_whole p = record { long = ap length p.are ∙ length_marks p.rows; each = λ j. at_most_one _ (rw p.are (mark_small p.rows j)) }
 
 pub evaluate_marks_whole : (room : ℕ) (list values : List ℕ) → Marks256 (evaluate_marks room list values)
-evaluate_marks_whole room list values = left-whole (evaluated-left (job room list values))
+evaluate_marks_whole room list values = left_whole (evaluated_left (job room list values))
 
 pub play_marks_whole : (tape values : List ℕ) → Marks256 (play_marks tape values)
-play_marks_whole tape values = left-whole (played-left (check tape) tape values)
+play_marks_whole tape values = left_whole (played_left (check tape) tape values)
 
 pub simplify_marks_whole : (room limit : ℕ) (list values out : List ℕ) → Marks256 (simplify_marks room limit list values out)
 unfolding simplify_marks
 simplify_marks_whole room limit list values out =
-    left-whole (either_left (is_allowed limit) (simplified-job-left limit out (job room list values) (job_fresh room list values)) none_left)
+    left_whole (either_left (is_allowed limit) (simplified_job_left limit out (job room list values) (job_fresh room list values)) none_left)
 
 pub simplify_origins_marks_whole : (room limit : ℕ) (list values out : List ℕ) → Marks256 (simplify_origins_marks room limit list values out)
 unfolding simplify_origins_marks
 simplify_origins_marks_whole room limit list values out =
-    left-whole (either_left (is_allowed limit) (simplified-origins-left (given false list (fresh room 0)) limit out (job room list values) (job_fresh room list values)) none_left)
+    left_whole (either_left (is_allowed limit) (simplified_origins_left (given false list (fresh room 0)) limit out (job room list values) (job_fresh room list values)) none_left)

@@ -28,10 +28,10 @@ use Rattle.calls.proofs.TapeBytes.{written_from, written_plays}
 marks_from_lem : Tree → Whole Rows Refusal → List ℕ
 marks_from_lem root w = evaluate_job_marks (with_sheet root (fresh 0 0) w)
 
-marks-are : (room : ℕ) (list values : List ℕ) {root : Tree} {swaps : List Swap} {store : State}
+marks_are : (room : ℕ) (list values : List ℕ) {root : Tree} {swaps : List Swap} {store : State}
     → listing false list (fresh room 0) ≡ accepted root swaps store → evaluate_marks room list values ≡ marks_from_lem root (sheet values)
 unfolding evaluate_job_marks after_listing with_sheet job marks_from_lem
-marks-are room list values {root} {swaps} {store} e =
+marks_are room list values {root} {swaps} {store} e =
     ap (λ x. evaluate_job_marks (after_listing Calls.refused x λ root swaps store. with_sheet root store (sheet values))) e ∙ go (sheet values)
   where
     go : (w : Whole Rows Refusal) → evaluate_job_marks (with_sheet root store w) ≡ evaluate_job_marks (with_sheet root (fresh 0 0) w)
@@ -47,7 +47,7 @@ module _ (room : ℕ) (list out : List ℕ) {root : Tree} {swaps : List Swap} {s
       ap (λ c. play_checked_marks c (compiled_bytes room list out read small ample) values) (compiled_sound room list out read small ample)
       ∙ ap (λ bs. play_sheet_marks bs (sheet values)) (bytes_are room list out read small ample)
       ∙ under (sheet values)
-      ∙ sym (marks-are room list values read)
+      ∙ sym (marks_are room list values read)
     where
       under : (w : Whole Rows Refusal) → play_sheet_marks (tape root) w ≡ marks_from_lem root w
       under (Lines.read rows) = let good = accepted_good false list room read in tape_marks rows root good.proper good.limited.shallow
@@ -66,9 +66,9 @@ module _ (room : ℕ) (list out : List ℕ) {bytes : ℕ} {out' : List ℕ} (wro
       let from = written_from room list out wrote in
       ap (λ bs. play_marks bs values) (from.bytes_are ∙ sym (bytes_are room list out from.read from.small from.ample))
       ∙ compiled_marks room list out from.read from.small from.ample values
-      ∙ marks-are room list values from.read
+      ∙ marks_are room list values from.read
       ∙ ap (λ t. marks_from_lem t (sheet values)) (same_root false list room room' from.read read).0
-      ∙ sym (marks-are room' list values read)
+      ∙ sym (marks_are room' list values read)
 
   pub written_plays_marked : (values : List ℕ)
       → ◌≡◌ {A = Evaluated × List ℕ} (play_call (take bytes out') values, play_marks (take bytes out') values) (evaluate_call room' list values, evaluate_marks room' list values)

@@ -71,18 +71,18 @@ one_played_marked tape values table p q = p ∙ sym q
 
 -- ---- what the calls share: `frame::read_job`, and `frame::write_answer` where a store is held
 
-stored-in : State → List Tree
-stored-in (state room stored kept tally) = stored
+stored_in_lem : State → List Tree
+stored_in_lem (state room stored kept tally) = stored
 
 module _ {list values : List ℕ} {l l₁ l₂ : Lent} {table₁ table₂ : List ℕ} where
   pub one_job : (r r' : Job) → ReadsJob list values r l l₁ table₁ → ReadsJob list values r' l l₂ table₂ → r ≡ r'
-  unfolding stored-in state_in
+  unfolding stored_in_lem state_in
   one_job (Job.Ready i n) (Job.Ready j k) p q =
       let e = p.answer ∙ sym q.answer in
       let t : tree_in l₁ i ≡ tree_in l₂ j = cc in
       let s : state_in l₁ ≡ state_in l₂ = cc in
       let w : rows_of table₁ n ≡ rows_of table₂ k = cc in
-      let root = sym (own_place p.after.1.holds i p.after.0) ∙ (λ x. place (identical (t x)) (stored-in (s x))) ∙ own_place q.after.1.holds j q.after.0 in
+      let root = sym (own_place p.after.1.holds i p.after.0) ∙ (λ x. place (identical (t x)) (stored_in_lem (s x))) ∙ own_place q.after.1.holds j q.after.0 in
       let c : n ≡ k = one_counts table₁ table₂ n k w in
       λ x. Job.Ready (root x) (c x)
   one_job (Job.Ready i n) (Job.Refused why) p q = let e = p.answer ∙ sym q.answer in let z : ◌≡◌ {A = ℕ} 0 1 = cc in absurd (omega arith)

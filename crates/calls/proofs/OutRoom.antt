@@ -48,10 +48,10 @@ Result : Answer → Type 0
 Result (gives t s) = Proper t
 Result (Storing.refused why s) = number_of why ≤ 9
 
-given-result : (room : ℕ) (s : State) (a : Answer) → GivenIn room s a → AtMost9 a → Result a
+given_result : (room : ℕ) (s : State) (a : Answer) → GivenIn room s a → AtMost9 a → Result a
 unfolding Result Given
-given-result room before (gives t s) x h = x.is_in.proper
-given-result room before (Storing.refused why s) x h = h
+given_result room before (gives t s) x h = x.is_in.proper
+given_result room before (Storing.refused why s) x h = h
 
 HasRoom : (most : ℕ) → Written → Type 0
 HasRoom most (Written.Bytes bytes) = bytes ≤ most
@@ -64,27 +64,27 @@ Ample out lines = lines ≤ 1024 → 36 * lines ≤ length out
 abbrev AmpleTraced : (out : List ℕ) (lines : ℕ) → Type 0
 AmpleTraced out lines = lines ≤ 1024 → 42 * lines ≤ length out
 
-either-written : (most : ℕ) (b : Bool) (x y : Written × List ℕ) → (b ≡ true → HasRoom most x.0) → (b ≡ false → HasRoom most y.0) → HasRoom most (cond b x y).0
-either-written most true x y p q = p refl
-either-written most false x y p q = q refl
+either_written : (most : ℕ) (b : Bool) (x y : Written × List ℕ) → (b ≡ true → HasRoom most x.0) → (b ≡ false → HasRoom most y.0) → HasRoom most (cond b x y).0
+either_written most true x y p q = p refl
+either_written most false x y p q = q refl
 
-answer-room : (out : List ℕ) (a : Answer) → Result a → Ample out (lines_in a) → HasRoom 36864 (written_answer out a).0
+answer_room : (out : List ℕ) (a : Answer) → Result a → Ample out (lines_in a) → HasRoom 36864 (written_answer out a).0
 unfolding written_answer written Result HasRoom lines_in
-answer-room out (Storing.refused why s) p ample = λ e. omega (arith, p, e)
-answer-room out (gives t s) p ample =
-    either-written 36864 (ltb 1024 (length (order t))) _ _ (λ _ e. omega (arith, e)) λ e.
+answer_room out (Storing.refused why s) p ample = λ e. omega (arith, p, e)
+answer_room out (gives t s) p ample =
+    either_written 36864 (ltb 1024 (length (order t))) _ _ (λ _ e. omega (arith, e)) λ e.
     let few = ltb-false 1024 (length (order t)) e in
     let enough = listing_length t p few in
-    either-written 36864 (ltb (length out) (length (text_of t))) _ _ (λ e' _. omega (arith, ltb-true (length out) (length (text_of t)) e', enough, ample few)) λ _. omega (arith, enough, few)
+    either_written 36864 (ltb (length out) (length (text_of t))) _ _ (λ e' _. omega (arith, ltb-true (length out) (length (text_of t)) e', enough, ample few)) λ _. omega (arith, enough, few)
 
-traced-answer-room : (given : List Tree) → length given ≤ 1024 → (out : List ℕ) (a : Answer) → Result a → AmpleTraced out (lines_in a) → HasRoom 43008 (traced_answer given out a).0
+traced_answer_room : (given : List Tree) → length given ≤ 1024 → (out : List ℕ) (a : Answer) → Result a → AmpleTraced out (lines_in a) → HasRoom 43008 (traced_answer given out a).0
 unfolding traced_answer written_traced Result HasRoom lines_in
-traced-answer-room given lately out (Storing.refused why s) p ample = λ e. omega (arith, p, e)
-traced-answer-room given lately out (gives t s) p ample =
-    either-written 43008 (ltb 1024 (length (order t))) _ _ (λ _ e. omega (arith, e)) λ e.
+traced_answer_room given lately out (Storing.refused why s) p ample = λ e. omega (arith, p, e)
+traced_answer_room given lately out (gives t s) p ample =
+    either_written 43008 (ltb 1024 (length (order t))) _ _ (λ _ e. omega (arith, e)) λ e.
     let few = ltb-false 1024 (length (order t)) e in
     let enough = traced_listing_length given lately t p few in
-    either-written 43008 (ltb (length out) (length (traced_text_of given t))) _ _ (λ e' _. omega (arith, ltb-true (length out) (length (traced_text_of given t)) e', enough, ample few)) λ _. omega (arith, enough, few)
+    either_written 43008 (ltb (length out) (length (traced_text_of given t))) _ _ (λ e' _. omega (arith, ltb-true (length out) (length (traced_text_of given t)) e', enough, ample few)) λ _. omega (arith, enough, few)
 
 -- ---- simplifying
 
@@ -97,18 +97,18 @@ SimplifiedHasRoom : (most : ℕ) → Simplified → Type 0
 SimplifiedHasRoom most (Simplified.Bytes bytes calls) = bytes ≤ most
 SimplifiedHasRoom most (Simplified.Refused why) = number_of why ≡ 13 → ⊥
 
-counted-room : (most calls : ℕ) (w : Written) → HasRoom most w → SimplifiedHasRoom most (with_calls calls w)
+counted_room : (most calls : ℕ) (w : Written) → HasRoom most w → SimplifiedHasRoom most (with_calls calls w)
 unfolding with_calls HasRoom SimplifiedHasRoom
-counted-room most calls (Written.Bytes bytes) p = p
-counted-room most calls (Written.Refused why) p = p
+counted_room most calls (Written.Bytes bytes) p = p
+counted_room most calls (Written.Refused why) p = p
 
-job-room : (room limit : ℕ) (out : List ℕ) (j : Job) → Jobbed room j → JobBy j → Ample out (simplified_lines limit j) → SimplifiedHasRoom 36864 (simplify_job limit out j).0
+job_room : (room limit : ℕ) (out : List ℕ) (j : Job) → Jobbed room j → JobBy j → Ample out (simplified_lines limit j) → SimplifiedHasRoom 36864 (simplify_job limit out j).0
 unfolding simplify_job JobBy simplified_lines SimplifiedHasRoom
-job-room room limit out (Calls.refused why) x n ample = λ e. omega (arith, job_most n, e)
-job-room room limit out (ready root store rows) x n ample =
+job_room room limit out (Calls.refused why) x n ample = λ e. omega (arith, job_most n, e)
+job_room room limit out (ready root store rows) x n ample =
     let a = simplify rows limit root store in
-    let r = given-result room store a (simplified_stored room limit root store rows x) (six_to_nine_so a (six_to_nine suc rows limit root store)) in
-    counted-room 36864 (calls_in a) (written_answer out a).0 (answer-room out a r ample)
+    let r = given_result room store a (simplified_stored room limit root store rows x) (six_to_nine_so a (six_to_nine suc rows limit root store)) in
+    counted_room 36864 (calls_in a) (written_answer out a).0 (answer_room out a r ample)
 
 module _ (room limit : ℕ) (list values out : List ℕ) where
   simplified_room : Ample out (simplified_lines limit (job room list values)) → SimplifiedHasRoom 36864 (simplify_call room limit list values out).0
@@ -116,7 +116,7 @@ module _ (room limit : ℕ) (list values out : List ℕ) where
   simplified_room ample = go (is_allowed limit)
     where
       go : (b : Bool) → SimplifiedHasRoom 36864 (cond b (simplify_job limit out (job room list values)) (Simplified.Refused Refusal.BadLimit, out)).0
-      go true = job-room room limit out (job room list values) (job_in room list values) (job_numbers room list values) ample
+      go true = job_room room limit out (job room list values) (job_in room list values) (job_numbers room list values) ample
       go false = λ e. omega (arith, e)
 
   -- an output with 36 bytes for each line of the result is not too short
@@ -153,7 +153,7 @@ module _ (room : ℕ) (list out : List ℕ) where
           → HasRoom 36864 (after_listing (λ why. (Written.Refused why, out)) l (λ root swaps store. written_answer out (substitute swaps root store))).0
       go (accepted root swaps store) x n ample =
           let a = substitute swaps root store in
-          answer-room out a (given-result room store a (substituted_is_in room swaps root store x.0 x.2 x.1) (substitutes swaps root store)) ample
+          answer_room out a (given_result room store a (substituted_is_in room swaps root store x.0 x.2 x.1) (substitutes swaps root store)) ample
       go (Listings.refused why) x n ample = λ e. omega (arith, listing_most n, e)
 
   pub substitute_room_by_lines : 36 * substituted_lines (listing true list (fresh room 0)) ≤ length out
@@ -167,14 +167,14 @@ module _ (room : ℕ) (list out : List ℕ) where
 
 -- ---- the same with origins
 
-traced-job-room : (given : List Tree) → length given ≤ 1024 → (room limit : ℕ) (out : List ℕ) (j : Job) → Jobbed room j → JobBy j → AmpleTraced out (simplified_lines limit j)
+traced_job_room : (given : List Tree) → length given ≤ 1024 → (room limit : ℕ) (out : List ℕ) (j : Job) → Jobbed room j → JobBy j → AmpleTraced out (simplified_lines limit j)
     → SimplifiedHasRoom 43008 (traced_job given limit out j).0
 unfolding traced_job JobBy simplified_lines SimplifiedHasRoom
-traced-job-room given lately room limit out (Calls.refused why) x n ample = λ e. omega (arith, job_most n, e)
-traced-job-room given lately room limit out (ready root store rows) x n ample =
+traced_job_room given lately room limit out (Calls.refused why) x n ample = λ e. omega (arith, job_most n, e)
+traced_job_room given lately room limit out (ready root store rows) x n ample =
     let a = simplify rows limit root store in
-    let r = given-result room store a (simplified_stored room limit root store rows x) (six_to_nine_so a (six_to_nine suc rows limit root store)) in
-    counted-room 43008 (calls_in a) (traced_answer given out a).0 (traced-answer-room given lately out a r ample)
+    let r = given_result room store a (simplified_stored room limit root store rows x) (six_to_nine_so a (six_to_nine suc rows limit root store)) in
+    counted_room 43008 (calls_in a) (traced_answer given out a).0 (traced_answer_room given lately out a r ample)
 
 module _ (room limit : ℕ) (list values out : List ℕ) (enough : 43008 ≤ length out) where
   simplified_origins_room : SimplifiedHasRoom 43008 (simplify_origins room limit list values out).0
@@ -186,7 +186,7 @@ module _ (room limit : ℕ) (list values out : List ℕ) (enough : 43008 ≤ len
 
       go : (b : Bool) → SimplifiedHasRoom 43008 (cond b (traced_job lines limit out (job room list values)) (Simplified.Refused Refusal.BadLimit, out)).0
       go true =
-          traced-job-room lines (given_few false list (fresh room 0)) room limit out (job room list values) (job_in room list values) (job_numbers room list values) λ few. omega (arith, few, enough)
+          traced_job_room lines (given_few false list (fresh room 0)) room limit out (job room list values) (job_in room list values) (job_numbers room list values) λ few. omega (arith, few, enough)
       go false = λ e. omega (arith, e)
 
   pub simplify_origins_room : (simplify_origins room limit list values out).0 ≡ Simplified.Refused Refusal.OutRoom → ⊥
@@ -208,5 +208,5 @@ substitute_origins_room room list out enough e = subst (HasRoom 43008) e (go (li
         → HasRoom 43008 (after_listing (λ why. (Written.Refused why, out)) l (λ root swaps store. traced_answer lines out (substitute swaps root store))).0
     go (accepted root swaps store) x n =
         let a = substitute swaps root store in
-        traced-answer-room lines (given_few true list (fresh room 0)) out a (given-result room store a (substituted_is_in room swaps root store x.0 x.2 x.1) (substitutes swaps root store)) λ few. omega (arith, few, enough)
+        traced_answer_room lines (given_few true list (fresh room 0)) out a (given_result room store a (substituted_is_in room swaps root store x.0 x.2 x.1) (substitutes swaps root store)) λ few. omega (arith, few, enough)
     go (Listings.refused why) x n = λ e. omega (arith, listing_most n, e)

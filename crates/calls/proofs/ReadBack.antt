@@ -45,10 +45,10 @@ not_written : {A : Type 0} {why : Refusal} {bytes : ℕ} {out out' : List ℕ}
     → ◌≡◌ {A = Written × List ℕ} (Written.Refused why, out) (Written.Bytes bytes, out') → A
 not_written e = let z : ◌≡◌ {A = ℕ} 0 1 = cc (ap (λ w. w.0) e) in absurd (omega arith)
 
-is-written : (t : Tree) (out : List ℕ) {bytes : ℕ} {out' : List ℕ} → written t out ≡ (Written.Bytes bytes, out')
+is_written : (t : Tree) (out : List ℕ) {bytes : ℕ} {out' : List ℕ} → written t out ≡ (Written.Bytes bytes, out')
     → (length (order t) ≤ 1024) × (take bytes out' ≡ text_of t)
 unfolding written
-is-written t out {bytes} {out'} e = go (ltb 1024 n) refl (ltb (length out) (length (text_of t))) e
+is_written t out {bytes} {out'} e = go (ltb 1024 n) refl (ltb (length out) (length (text_of t))) e
   where
     n : ℕ
     n = length (order t)
@@ -68,7 +68,7 @@ given_back : (room : ℕ) (s : State) (a : Answer) (out : List ℕ) {bytes : ℕ
 unfolding written_answer Given
 given_back room s (Storing.refused why s') out x e = not_written e
 given_back room s (gives t s') out x e =
-    let w = is-written t out e in
+    let w = is_written t out e in
     record {
       tree = t;
       after = s';

@@ -88,12 +88,12 @@ module _ {S : Type 0} (Of : ℕ → Type 0) where
   abbrev pub WholeBy : Whole S Refusal → Type 0
   WholeBy = WholeHas (λ _. Unit {0}) (λ why. Of (number_of why))
 
-  either-line : (b : Bool) (x y : Line S Refusal) → LineBy x → LineBy y → LineBy (cond b x y)
-  either-line true x y p q = p
-  either-line false x y p q = q
+  either_line : (b : Bool) (x y : Line S Refusal) → LineBy x → LineBy y → LineBy (cond b x y)
+  either_line true x y p q = p
+  either_line false x y p q = q
 
-  text-by : (line : S → ℕ → List ℕ → Line S Refusal) → ((s : S) (b : ℕ) (bs : List ℕ) → LineBy (line s b bs)) → (s : S) (bs : List ℕ) → WholeBy (lines line s bs)
-  text-by line f s bs = by_lines (λ _. Unit {0}) (λ why. Of (number_of why)) line (λ s b bs _. f s b bs) s bs tt
+  text_by : (line : S → ℕ → List ℕ → Line S Refusal) → ((s : S) (b : ℕ) (bs : List ℕ) → LineBy (line s b bs)) → (s : S) (bs : List ℕ) → WholeBy (lines line s bs)
+  text_by line f s bs = by_lines (λ _. Unit {0}) (λ why. Of (number_of why)) line (λ s b bs _. f s b bs) s bs tt
 
 -- ---- a listing: 1, 2, 6, 7, 8
 
@@ -101,79 +101,79 @@ AnswerBy : Answer → Type 0
 AnswerBy (gives t s) = Unit {0}
 AnswerBy (Storing.refused why s) = OfListing (number_of why)
 
-either-answer : (b : Bool) (x y : Answer) → AnswerBy x → AnswerBy y → AnswerBy (cond b x y)
-either-answer true x y p q = p
-either-answer false x y p q = q
+either_answer : (b : Bool) (x y : Answer) → AnswerBy x → AnswerBy y → AnswerBy (cond b x y)
+either_answer true x y p q = p
+either_answer false x y p q = q
 
-storing-by : (t : Tree) (s : State) → AnswerBy (intern t s)
+storing_by : (t : Tree) (s : State) → AnswerBy (intern t s)
 unfolding intern AnswerBy
-storing-by t (state room ts kept tally) =
-    either-answer (among ts t) _ _ tt
-    (either-answer (ltb largest (size t)) _ _ six
-    (either-answer (ltb deepest (depth t)) _ _ seven
-    (either-answer (ltb (length ts) room) _ _ tt eight)))
+storing_by t (state room ts kept tally) =
+    either_answer (among ts t) _ _ tt
+    (either_answer (ltb largest (size t)) _ _ six
+    (either_answer (ltb deepest (depth t)) _ _ seven
+    (either_answer (ltb (length ts) room) _ _ tt eight)))
 
-stored-by : (k : Known) (rest : List ℕ) (a : Answer) → AnswerBy a → LineBy OfListing (stored k rest a)
+stored_by : (k : Known) (rest : List ℕ) (a : Answer) → AnswerBy a → LineBy OfListing (stored k rest a)
 unfolding stored AnswerBy LineHas
-stored-by k rest (gives t s) x = tt
-stored-by k rest (Storing.refused why s) x = x
+stored_by k rest (gives t s) x = tt
+stored_by k rest (Storing.refused why s) x = x
 
-formed-by : (k : Known) (r : Read Tree) → LineBy OfListing (formed k r)
+formed_by : (k : Known) (r : Read Tree) → LineBy OfListing (formed k r)
 unfolding formed LineHas
-formed-by k bad = one
-formed-by k (is t rest) = stored-by k rest (intern t k.store) (storing-by t k.store)
+formed_by k bad = one
+formed_by k (is t rest) = stored_by k rest (intern t k.store) (storing_by t k.store)
 
-swapped-by : (substituting : Bool) (k : Known) (r : Read Swap) → LineBy OfListing (swapped substituting k r)
+swapped_by : (substituting : Bool) (k : Known) (r : Read Swap) → LineBy OfListing (swapped substituting k r)
 unfolding swapped LineHas
-swapped-by substituting k bad = one
-swapped-by substituting k (is s rest) = either-line OfListing (substituting && above_last above_variable k.swaps s) _ _ tt one
+swapped_by substituting k bad = one
+swapped_by substituting k (is s rest) = either_line OfListing (substituting && above_last above_variable k.swaps s) _ _ tt one
 
-listing-line-by : (substituting : Bool) (k : Known) (first : ℕ) (bs : List ℕ) → LineBy OfListing (listing_line substituting k first bs)
+listing_line_by : (substituting : Bool) (k : Known) (first : ℕ) (bs : List ℕ) → LineBy OfListing (listing_line substituting k first bs)
 unfolding listing_line swap_line node_line LineHas
-listing-line-by substituting k first bs =
-    either-line OfListing (eqb first (letter "s")) _ _
-    (either-line OfListing (ltb (length k.swaps) most_swaps) _ _ (swapped-by substituting k (swap_fields k.nodes first bs)) two)
-    (either-line OfListing (ltb (length k.nodes) most_nodes) _ _ (formed-by k (cond (none k.swaps) (node_fields k.nodes first bs) bad)) two)
+listing_line_by substituting k first bs =
+    either_line OfListing (eqb first (letter "s")) _ _
+    (either_line OfListing (ltb (length k.swaps) most_swaps) _ _ (swapped_by substituting k (swap_fields k.nodes first bs)) two)
+    (either_line OfListing (ltb (length k.nodes) most_nodes) _ _ (formed_by k (cond (none k.swaps) (node_fields k.nodes first bs) bad)) two)
 
 unfoldable pub ListingBy : Listing → Type 0
 ListingBy (accepted root swaps store) = Unit {0}
 ListingBy (Listings.refused why) = OfListing (number_of why)
 
-rooted-by : (ts : List Tree) (swaps : List Swap) (store : State) → ListingBy (rooted ts swaps store)
+rooted_by : (ts : List Tree) (swaps : List Swap) (store : State) → ListingBy (rooted ts swaps store)
 unfolding rooted ListingBy
-rooted-by [] swaps store = one
-rooted-by (t ∷ ts) swaps store = tt
+rooted_by [] swaps store = one
+rooted_by (t ∷ ts) swaps store = tt
 
 whole_by : (w : Whole Known Refusal) → WholeBy OfListing w → ListingBy (whole w)
 unfolding whole WholeHas ListingBy
-whole_by (Lines.read k) x = rooted-by k.nodes k.swaps k.store
+whole_by (Lines.read k) x = rooted_by k.nodes k.swaps k.store
 whole_by (Lines.refused why) x = x
 
 pub listing_numbers : (substituting : Bool) (bs : List ℕ) (store : State) → ListingBy (listing substituting bs store)
 unfolding listing
-listing_numbers substituting bs store = whole_by _ (text-by OfListing (listing_line substituting) (listing-line-by substituting) (known [] [] store) bs)
+listing_numbers substituting bs store = whole_by _ (text_by OfListing (listing_line substituting) (listing_line_by substituting) (known [] [] store) bs)
 
 -- ---- a sheet: 3, 4
 
 row_by : {A : Type 0} (s : Rows) (inOrder : A → Bool) (with : A → Rows) (r : Read A) → LineBy OfSheet (Rows.formed s inOrder with r)
 unfolding Rows.formed LineHas
 row_by s inOrder with bad = three
-row_by s inOrder with (is x rest) = either-line OfSheet (inOrder x) _ _ tt three
+row_by s inOrder with (is x rest) = either_line OfSheet (inOrder x) _ _ tt three
 
-counted-by : {A : Type 0} (s : Rows) (most : ℕ) (before : List A) (l : Line Rows Refusal) → LineBy OfSheet l → LineBy OfSheet (Rows.counted s most before l)
+counted_by : {A : Type 0} (s : Rows) (most : ℕ) (before : List A) (l : Line Rows Refusal) → LineBy OfSheet l → LineBy OfSheet (Rows.counted s most before l)
 unfolding Rows.counted LineHas
-counted-by s most before l x = either-line OfSheet (ltb (length before) most) _ _ x four
+counted_by s most before l x = either_line OfSheet (ltb (length before) most) _ _ x four
 
-sheet-line-by : (s : Rows) (first : ℕ) (bs : List ℕ) → LineBy OfSheet (sheet_line s first bs)
+sheet_line_by : (s : Rows) (first : ℕ) (bs : List ℕ) → LineBy OfSheet (sheet_line s first bs)
 unfolding sheet_line variable_line cell_line function_line LineHas
-sheet-line-by s first bs =
-    either-line OfSheet (eqb first (letter "v")) _ _ (counted-by s _ s.variables _ (row_by s _ _ _))
-    (either-line OfSheet (eqb first (letter "m")) _ _ (counted-by s _ s.cells _ (row_by s _ _ _))
-    (either-line OfSheet (eqb first (letter "t")) _ _ (counted-by s _ s.functions _ (row_by s _ _ _)) three))
+sheet_line_by s first bs =
+    either_line OfSheet (eqb first (letter "v")) _ _ (counted_by s _ s.variables _ (row_by s _ _ _))
+    (either_line OfSheet (eqb first (letter "m")) _ _ (counted_by s _ s.cells _ (row_by s _ _ _))
+    (either_line OfSheet (eqb first (letter "t")) _ _ (counted_by s _ s.functions _ (row_by s _ _ _)) three))
 
 pub sheet_numbers : (bs : List ℕ) → WholeBy OfSheet (sheet bs)
 unfolding sheet
-sheet_numbers bs = text-by OfSheet sheet_line sheet-line-by (rows [] [] []) bs
+sheet_numbers bs = text_by OfSheet sheet_line sheet_line_by (rows [] [] []) bs
 
 -- ---- a job: 1, 2, 3, 4, 6, 7, 8
 
@@ -181,15 +181,15 @@ unfoldable pub JobBy : Job → Type 0
 JobBy (ready root store rows) = Unit {0}
 JobBy (Calls.refused why) = OfJob (number_of why)
 
-sheet-job : (root : Tree) (store : State) (w : Whole Rows Refusal) → WholeBy OfSheet w → JobBy (with_sheet root store w)
+sheet_job : (root : Tree) (store : State) (w : Whole Rows Refusal) → WholeBy OfSheet w → JobBy (with_sheet root store w)
 unfolding with_sheet WholeHas JobBy
-sheet-job root store (Lines.read rows) x = tt
-sheet-job root store (Lines.refused why) x = of_sheet x
+sheet_job root store (Lines.read rows) x = tt
+sheet_job root store (Lines.refused why) x = of_sheet x
 
 pub job_numbers : (room : ℕ) (list values : List ℕ) → JobBy (job room list values)
 unfolding job after_listing ListingBy JobBy
 job_numbers room list values = go (listing false list (fresh room 0)) (listing_numbers false list (fresh room 0))
   where
     go : (l : Listing) → ListingBy l → JobBy (after_listing Calls.refused l λ root swaps store. with_sheet root store (sheet values))
-    go (accepted root swaps store) x = sheet-job root store (sheet values) (sheet_numbers values)
+    go (accepted root swaps store) x = sheet_job root store (sheet values) (sheet_numbers values)
     go (Listings.refused why) x = of_listing x

@@ -20,7 +20,7 @@ use Rattle.store.specs.Desk as Desk
 use Rattle.store.specs.Desk.{refused_from}
 use Rattle.store.specs.Held.{Lent, tree_in, state_in, Built}
 use Rattle.store.proofs.Building.{seen_node}
-use Rattle.store.proofs.Stored.{stored as stored-in, limited, proper}
+use Rattle.store.proofs.Stored.{stored as stored_in_lem, limited, proper}
 use Rattle.writing.specs.declared.Written.{Written}
 use Rattle.listing.specs.Listings as Listings
 use Rattle.listing.specs.Listings.{Listing, Swap, accepted, Known, known, stored, formed, most_nodes, most_swaps, node_line, swap_fields, swapped, swap_line, listing_line, rooted, whole, listing, above_variable}
@@ -67,71 +67,71 @@ stores t (state room ts kept tally) f =
 FreshKnown : Known → Type 0
 FreshKnown k = Fresh k.store
 
-line-either : (b : Bool) (x y : Line Known Refusal) → InLine FreshKnown x → InLine FreshKnown y → InLine FreshKnown (cond b x y)
-line-either true x y p q = p
-line-either false x y p q = q
+line_either : (b : Bool) (x y : Line Known Refusal) → InLine FreshKnown x → InLine FreshKnown y → InLine FreshKnown (cond b x y)
+line_either true x y p q = p
+line_either false x y p q = q
 
-stored-fresh : (k : Known) (rest : List ℕ) (a : Answer) → FreshIn a → InLine FreshKnown (stored k rest a)
+stored_fresh : (k : Known) (rest : List ℕ) (a : Answer) → FreshIn a → InLine FreshKnown (stored k rest a)
 unfolding stored FreshIn LineHas FreshKnown
-stored-fresh k rest (gives t s) x = x
-stored-fresh k rest (Storing.refused why s) x = tt
+stored_fresh k rest (gives t s) x = x
+stored_fresh k rest (Storing.refused why s) x = tt
 
-formed-fresh : (k : Known) (r : Read Tree) → Fresh k.store → InLine FreshKnown (formed k r)
+formed_fresh : (k : Known) (r : Read Tree) → Fresh k.store → InLine FreshKnown (formed k r)
 unfolding formed LineHas
-formed-fresh k bad f = tt
-formed-fresh k (is t rest) f = stored-fresh k rest (intern t k.store) (stores t k.store f)
+formed_fresh k bad f = tt
+formed_fresh k (is t rest) f = stored_fresh k rest (intern t k.store) (stores t k.store f)
 
-swapped-fresh : (substituting : Bool) (k : Known) (r : Read Swap) → Fresh k.store → InLine FreshKnown (swapped substituting k r)
+swapped_fresh : (substituting : Bool) (k : Known) (r : Read Swap) → Fresh k.store → InLine FreshKnown (swapped substituting k r)
 unfolding swapped LineHas FreshKnown
-swapped-fresh substituting k bad f = tt
-swapped-fresh substituting k (is s rest) f = line-either (substituting && above_last above_variable k.swaps s) _ _ f tt
+swapped_fresh substituting k bad f = tt
+swapped_fresh substituting k (is s rest) f = line_either (substituting && above_last above_variable k.swaps s) _ _ f tt
 
-line-fresh : (substituting : Bool) (k : Known) (first : ℕ) (bs : List ℕ) → FreshKnown k → InLine FreshKnown (listing_line substituting k first bs)
+line_fresh : (substituting : Bool) (k : Known) (first : ℕ) (bs : List ℕ) → FreshKnown k → InLine FreshKnown (listing_line substituting k first bs)
 unfolding listing_line swap_line node_line LineHas FreshKnown
-line-fresh substituting k first bs f =
-    line-either (eqb first 115) _ _
-    (line-either (ltb (length k.swaps) most_swaps) _ _ (swapped-fresh substituting k (swap_fields k.nodes first bs) f) tt)
-    (line-either (ltb (length k.nodes) most_nodes) _ _ (formed-fresh k (cond (none k.swaps) (node_fields k.nodes first bs) bad) f) tt)
+line_fresh substituting k first bs f =
+    line_either (eqb first 115) _ _
+    (line_either (ltb (length k.swaps) most_swaps) _ _ (swapped_fresh substituting k (swap_fields k.nodes first bs) f) tt)
+    (line_either (ltb (length k.nodes) most_nodes) _ _ (formed_fresh k (cond (none k.swaps) (node_fields k.nodes first bs) bad) f) tt)
 
 FreshListing : Listing → Type 0
 FreshListing (accepted root swaps store) = Fresh store
 FreshListing (Listings.refused why) = Unit {0}
 
-rooted-fresh : (ts : List Tree) (swaps : List Swap) (store : State) → Fresh store → FreshListing (rooted ts swaps store)
+rooted_fresh : (ts : List Tree) (swaps : List Swap) (store : State) → Fresh store → FreshListing (rooted ts swaps store)
 unfolding rooted FreshListing
-rooted-fresh [] swaps store f = tt
-rooted-fresh (t ∷ ts) swaps store f = f
+rooted_fresh [] swaps store f = tt
+rooted_fresh (t ∷ ts) swaps store f = f
 
 whole_fresh : (w : Whole Known Refusal) → InWhole FreshKnown w → FreshListing (whole w)
 unfolding whole WholeHas FreshKnown FreshListing
-whole_fresh (Lines.read k) f = rooted-fresh k.nodes k.swaps k.store f
+whole_fresh (Lines.read k) f = rooted_fresh k.nodes k.swaps k.store f
 whole_fresh (Lines.refused why) f = tt
 
-fresh-is : (room : ℕ) → Fresh (fresh room 0)
+fresh_is : (room : ℕ) → Fresh (fresh room 0)
 unfolding count recall marks_of
-fresh-is room = record { uncounted = refl; unkept = λ t. refl; unmarked = refl }
+fresh_is room = record { uncounted = refl; unkept = λ t. refl; unmarked = refl }
 
-listing-fresh : (substituting : Bool) (bs : List ℕ) (room : ℕ) → FreshListing (listing substituting bs (fresh room 0))
+listing_fresh : (substituting : Bool) (bs : List ℕ) (room : ℕ) → FreshListing (listing substituting bs (fresh room 0))
 unfolding listing FreshKnown
-listing-fresh substituting bs room =
+listing_fresh substituting bs room =
     whole_fresh (lines (listing_line substituting) (known [] [] (fresh room 0)) bs)
-    (to_the_end FreshKnown (listing_line substituting) (line-fresh substituting) (known [] [] (fresh room 0)) bs (fresh-is room))
+    (to_the_end FreshKnown (listing_line substituting) (line_fresh substituting) (known [] [] (fresh room 0)) bs (fresh_is room))
 
 unfoldable pub FreshJob : Job → Type 0
 FreshJob (ready root store rows) = Fresh store
 FreshJob (Calls.refused why) = Unit {0}
 
-sheet-fresh : (root : Tree) (store : State) (w : Whole Rows Refusal) → Fresh store → FreshJob (with_sheet root store w)
+sheet_fresh : (root : Tree) (store : State) (w : Whole Rows Refusal) → Fresh store → FreshJob (with_sheet root store w)
 unfolding with_sheet FreshJob
-sheet-fresh root store (Lines.read rows) f = f
-sheet-fresh root store (Lines.refused why) f = tt
+sheet_fresh root store (Lines.read rows) f = f
+sheet_fresh root store (Lines.refused why) f = tt
 
 pub job_fresh : (room : ℕ) (list values : List ℕ) → FreshJob (job room list values)
 unfolding job FreshListing after_listing with_sheet FreshJob
-job_fresh room list values = go (listing false list (fresh room 0)) (listing-fresh false list room)
+job_fresh room list values = go (listing false list (fresh room 0)) (listing_fresh false list room)
   where
     go : (l : Listing) → FreshListing l → FreshJob (after_listing Calls.refused l λ root swaps store. with_sheet root store (sheet values))
-    go (accepted root swaps store) f = sheet-fresh root store (sheet values) f
+    go (accepted root swaps store) f = sheet_fresh root store (sheet values) f
     go (Listings.refused why) f = tt
 
 -- ---- the count
@@ -140,21 +140,21 @@ unfoldable pub Within : (most : ℕ) → Simplified → Type 0
 Within most (Simplified.Bytes bytes calls) = calls ≤ most
 Within most (Simplified.Refused why) = Unit {0}
 
-answer-within : (n : ℕ) (a : Answer) (w : Written) → Below n a → Within n (with_calls (calls_in a) w)
+answer_within : (n : ℕ) (a : Answer) (w : Written) → Below n a → Within n (with_calls (calls_in a) w)
 unfolding with_calls calls_in Below count Within
-answer-within n (gives t (state room ts kept tally)) (Written.Bytes bytes) b = b
-answer-within n (gives t (state room ts kept tally)) (Written.Refused why) b = tt
-answer-within n (Storing.refused why s) (Written.Bytes bytes) b = omega arith
-answer-within n (Storing.refused why s) (Written.Refused why') b = tt
+answer_within n (gives t (state room ts kept tally)) (Written.Bytes bytes) b = b
+answer_within n (gives t (state room ts kept tally)) (Written.Refused why) b = tt
+answer_within n (Storing.refused why s) (Written.Bytes bytes) b = omega arith
+answer_within n (Storing.refused why s) (Written.Refused why') b = tt
 
-job-within : (limit : ℕ) (out : List ℕ) (j : Job) → FreshJob j → Within (most_calls limit) (simplify_job limit out j).0
+job_within : (limit : ℕ) (out : List ℕ) (j : Job) → FreshJob j → Within (most_calls limit) (simplify_job limit out j).0
 unfolding simplify_job FreshJob Within
-job-within limit out (Calls.refused why) f = tt
-job-within limit out (ready root store rows) f =
+job_within limit out (Calls.refused why) f = tt
+job_within limit out (ready root store rows) f =
     let a = simplify rows limit root store in
     let b : Below (count store + most_calls limit) a = bounded rows limit root store in
     let z : count store + most_calls limit ≡ most_calls limit = omega (arith, f.uncounted) in
-    answer-within (most_calls limit) a (written_answer out a).0 (rw z at b)
+    answer_within (most_calls limit) a (written_answer out a).0 (rw z at b)
 
 -- the bound of the limit: "1 at limit 0; else 1 plus twice the bound at 1 less plus four times the bound at 2 less, stopping at 0"
 pub calls_within : (room limit : ℕ) (list values out : List ℕ) → Within (most_calls limit) (simplify_call room limit list values out).0
@@ -162,7 +162,7 @@ unfolding simplify_call Within
 calls_within room limit list values out = go (is_allowed limit)
   where
     go : (b : Bool) → Within (most_calls limit) (cond b (simplify_job limit out (job room list values)) (Simplified.Refused Refusal.BadLimit, out)).0
-    go true = job-within limit out (job room list values) (job_fresh room list values)
+    go true = job_within limit out (job room list values) (job_fresh room list values)
     go false = tt
 
 pub at_most : (limit : ℕ) (list values out : List ℕ) (w : Work) {bytes calls : ℕ} {out' : List ℕ} {w' : Work}
@@ -182,7 +182,7 @@ module _ {want : Answer} {i : ℕ} {l l' : Lent} (b : Built want i l l') (x : i 
   result_is = sym b.answer ∙ seen_node i l' x
 
   pub result_stored : among (trees l'.rows (Desk.count l'.desk)) (tree_in l' i) ≡ true
-  result_stored = stored-in b.step.sound.holds i (b.inside x)
+  result_stored = stored_in_lem b.step.sound.holds i (b.inside x)
 
   pub result_limited : Limited (tree_in l' i)
   result_limited = limited b.step.sound.holds i (b.inside x)

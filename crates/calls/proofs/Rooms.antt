@@ -42,17 +42,17 @@ module _ {S R : Type 0} (P : S → S → Type 0) (early : R) where
   after next (both_go {s} {s'} rest p) f = f s s' rest p
   after next (both_stop why) f = both_refused why
 
-  with-fuel : (line : S → ℕ → List ℕ → Line S R) → ((s s' : S) (b : ℕ) (bs : List ℕ) → P s s' → LineBeside (line s b bs) (line s' b bs))
+  with_fuel : (line : S → ℕ → List ℕ → Line S R) → ((s s' : S) (b : ℕ) (bs : List ℕ) → P s s' → LineBeside (line s b bs) (line s' b bs))
       → (fuel : ℕ) (s s' : S) (bs : List ℕ) → P s s' → WholeBeside (lines_by fuel line s bs) (lines_by fuel line s' bs)
   unfolding lines_by at_line
-  with-fuel line f zero s s' bs p = both_read p
-  with-fuel line f (suc fuel) s s' [] p = both_read p
-  with-fuel line f (suc fuel) s s' (b ∷ bs) p = after (λ s bs. lines_by fuel line s bs) (f s s' b bs p) λ s s' bs q. with-fuel line f fuel s s' bs q
+  with_fuel line f zero s s' bs p = both_read p
+  with_fuel line f (suc fuel) s s' [] p = both_read p
+  with_fuel line f (suc fuel) s s' (b ∷ bs) p = after (λ s bs. lines_by fuel line s bs) (f s s' b bs p) λ s s' bs q. with_fuel line f fuel s s' bs q
 
   read_twice : (line : S → ℕ → List ℕ → Line S R) → ((s s' : S) (b : ℕ) (bs : List ℕ) → P s s' → LineBeside (line s b bs) (line s' b bs))
       → (s s' : S) (bs : List ℕ) → P s s' → WholeBeside (lines line s bs) (lines line s' bs)
   unfolding lines
-  read_twice line f s s' bs p = with-fuel line f (length bs) s s' bs p
+  read_twice line f s s' bs p = with_fuel line f (length bs) s s' bs p
 
 -- ---- a line of a listing, with less and with more room
 
@@ -71,12 +71,12 @@ module _ (nodes : List Tree) (swaps : List Swap) (room room' : ℕ) (ts : List T
   abbrev less_known : Known
   less_known = known nodes swaps (state room ts kept tally)
 
-  abbrev more-known : Known
-  more-known = known nodes swaps (state room' ts kept tally)
+  abbrev more_known : Known
+  more_known = known nodes swaps (state room' ts kept tally)
 
   module _ (t : Tree) (rest : List ℕ) where
     abbrev Stored : Answer → Answer → Type 0
-    Stored x x' = Lined (stored less_known rest x) (stored more-known rest x')
+    Stored x x' = Lined (stored less_known rest x) (stored more_known rest x')
 
     either_way : (b : Bool) (x x' y y' : Answer) → Stored x x' → Stored y y' → Stored (cond b x y) (cond b x' y')
     either_way true x x' y y' p q = p
@@ -91,23 +91,23 @@ module _ (nodes : List Tree) (swaps : List Swap) (room room' : ℕ) (ts : List T
     new_beside true true f = both_go rest (beside (nodes ++ (t ∷ [])) swaps room room' (ts ++ (t ∷ [])) kept tally more)
     new_beside true false f = absurd (subst T (sym (f refl)) tt)
 
-    stored-beside : Stored (intern t (state room ts kept tally)) (intern t (state room' ts kept tally))
+    stored_beside : Stored (intern t (state room ts kept tally)) (intern t (state room' ts kept tally))
     unfolding stored intern
-    stored-beside =
+    stored_beside =
         either_way (among ts t) _ _ _ _ (both_go rest (beside (nodes ++ (t ∷ [])) swaps room room' ts kept tally more))
         (either_way (ltb largest (size t)) _ _ _ _ (both_stop Refusal.Big)
         (either_way (ltb deepest (depth t)) _ _ _ _ (both_stop Refusal.Deep)
         (new_beside (ltb (length ts) room) (ltb (length ts) room') λ e. lt-ltb (length ts) room' (omega (arith, ltb-true (length ts) room e, more)))))
 
-  formed-beside : (r : Read Tree) → Lined (formed less_known r) (formed more-known r)
+  formed_beside : (r : Read Tree) → Lined (formed less_known r) (formed more_known r)
   unfolding formed
-  formed-beside bad = both_stop _
-  formed-beside (is t rest) = stored-beside t rest
+  formed_beside bad = both_stop _
+  formed_beside (is t rest) = stored_beside t rest
 
-  swapped-beside : (substituting : Bool) (r : Read Swap) → Lined (swapped substituting less_known r) (swapped substituting more-known r)
+  swapped_beside : (substituting : Bool) (r : Read Swap) → Lined (swapped substituting less_known r) (swapped substituting more_known r)
   unfolding swapped
-  swapped-beside substituting bad = both_stop _
-  swapped-beside substituting (is s rest) =
+  swapped_beside substituting bad = both_stop _
+  swapped_beside substituting (is s rest) =
       either (substituting && above_last above_variable swaps s) (both_go rest (beside nodes (swaps ++ (s ∷ [])) room room' ts kept tally more)) (both_stop _)
 
 line_beside : (substituting : Bool) (k k' : Known) (first : ℕ) (bs : List ℕ) → Beside k k'
@@ -115,9 +115,9 @@ line_beside : (substituting : Bool) (k k' : Known) (first : ℕ) (bs : List ℕ)
 unfolding listing_line swap_line node_line
 line_beside substituting k k' first bs (beside nodes swaps room room' ts kept tally more) =
     either (eqb first 115)
-    (either (ltb (length swaps) most_swaps) (swapped-beside nodes swaps room room' ts kept tally more substituting (swap_fields nodes first bs)) (both_stop _))
+    (either (ltb (length swaps) most_swaps) (swapped_beside nodes swaps room room' ts kept tally more substituting (swap_fields nodes first bs)) (both_stop _))
     (either (ltb (length nodes) most_nodes)
-    (formed-beside nodes swaps room room' ts kept tally more (cond (none swaps) (node_fields nodes first bs) bad)) (both_stop _))
+    (formed_beside nodes swaps room room' ts kept tally more (cond (none swaps) (node_fields nodes first bs) bad)) (both_stop _))
 
 -- ---- a listing
 
@@ -127,26 +127,26 @@ pub data ListingBeside : Listing → Listing → Type 0 where
   both_accepted : (root : Tree) (swaps : List Swap) {store store' : State} → ListingBeside (accepted root swaps store) (accepted root swaps store')
   both_refused_by : (why : Refusal) → ListingBeside (Listings.refused why) (Listings.refused why)
 
-rooted-beside : (ts : List Tree) (swaps : List Swap) (store store' : State) → ListingBeside (rooted ts swaps store) (rooted ts swaps store')
+rooted_beside : (ts : List Tree) (swaps : List Swap) (store store' : State) → ListingBeside (rooted ts swaps store) (rooted ts swaps store')
 unfolding rooted
-rooted-beside [] swaps store store' = both_refused_by _
-rooted-beside (t ∷ ts) swaps store store' = both_accepted _ _
+rooted_beside [] swaps store store' = both_refused_by _
+rooted_beside (t ∷ ts) swaps store store' = both_accepted _ _
 
-whole-beside : {w w' : Whole Known Refusal} → WholeBeside Beside Refusal.Room w w' → ListingBeside (whole w) (whole w')
+whole_beside : {w w' : Whole Known Refusal} → WholeBeside Beside Refusal.Room w w' → ListingBeside (whole w) (whole w')
 unfolding whole
-whole-beside ends_early = full
-whole-beside (both_read (beside nodes swaps room room' ts kept tally more)) = rooted-beside nodes swaps _ _
-whole-beside (both_refused why) = both_refused_by why
+whole_beside ends_early = full
+whole_beside (both_read (beside nodes swaps room room' ts kept tally more)) = rooted_beside nodes swaps _ _
+whole_beside (both_refused why) = both_refused_by why
 
-one-root : {root root' : Tree} {swaps swaps' : List Swap} {store store' : State} → ListingBeside (accepted root swaps store) (accepted root' swaps' store')
+one_root : {root root' : Tree} {swaps swaps' : List Swap} {store store' : State} → ListingBeside (accepted root swaps store) (accepted root' swaps' store')
     → (root ≡ root') × (swaps ≡ swaps')
-one-root (both_accepted root swaps) = (refl, refl)
+one_root (both_accepted root swaps) = (refl, refl)
 
 module _ (substituting : Bool) (bs : List ℕ) where
   pub more_room : (room room' : ℕ) → room ≤ room' → ListingBeside (listing substituting bs (fresh room 0)) (listing substituting bs (fresh room' 0))
   unfolding listing
   more_room room room' more =
-      whole-beside (read_twice Beside Refusal.Room (listing_line substituting) (line_beside substituting) _ _ bs (beside [] [] room room' [] _ _ more))
+      whole_beside (read_twice Beside Refusal.Room (listing_line substituting) (line_beside substituting) _ _ bs (beside [] [] room room' [] _ _ more))
 
   -- accepted with this root and these s lines
   abbrev pub Accepts : (room : ℕ) → Tree → List Swap → Type 0
@@ -160,9 +160,9 @@ module _ (substituting : Bool) (bs : List ℕ) where
       where
         go : Dec (room' < room) → (root ≡ root') × (swaps ≡ swaps')
         go (yes l) =
-            let r = one-root (rw (p, q) at (more_room room' room (omega (arith, l)))) in
+            let r = one_root (rw (p, q) at (more_room room' room (omega (arith, l)))) in
             (sym r.0, sym r.1)
-        go (no l) = one-root (rw (p, q) at (more_room room room' (omega (arith, l))))
+        go (no l) = one_root (rw (p, q) at (more_room room room' (omega (arith, l))))
 
     module _ {root : Tree} {swaps : List Swap} {store : State} (p : listing substituting bs (fresh room 0) ≡ accepted root swaps store) where
       -- with as much room it is accepted too

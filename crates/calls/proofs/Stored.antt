@@ -66,12 +66,12 @@ New ts (function_call f t) = In ts t
 New ts (prefixed o t) = In ts t
 New ts (infixed o l r) = In ts l × In ts r
 
-new-stays : {ts us : List Tree} → ((u : Tree) → In ts u → In us u) → (t : Tree) → New ts t → New us t
+new_stays : {ts us : List Tree} → ((u : Tree) → In ts u → In us u) → (t : Tree) → New ts t → New us t
 unfolding New
-new-stays f (leaf l) x = x
-new-stays f (function_call g t) x = f t x
-new-stays f (prefixed o t) x = f t x
-new-stays f (infixed o l r) x = (f l x.0, f r x.1)
+new_stays f (leaf l) x = x
+new_stays f (function_call g t) x = f t x
+new_stays f (prefixed o t) x = f t x
+new_stays f (infixed o l r) x = (f l x.0, f r x.1)
 
 new_in : (ts : List Tree) (t : Tree) → New ts t → among ts t ≡ true → In ts t
 unfolding New
@@ -128,7 +128,7 @@ module _ (room : ℕ) where
   unfolding Given intern stored_in room_in recall
   stores t (state r ts kept tally) g x =
       let more : (u : Tree) → In ts u → In (ts ++ (t ∷ [])) u = λ u i. record { all = all_more ts (t ∷ []) u i.all; proper = i.proper } in
-      let last = new_in (ts ++ (t ∷ [])) t (new-stays more t x) (among_last ts t) in
+      let last = new_in (ts ++ (t ∷ [])) t (new_stays more t x) (among_last ts t) in
       either_way _ (among ts t) _ _ (λ e. got (Sane room) StoredIn g (new_in ts t x e)) λ _.
       either_way _ (ltb largest (size t)) _ _ (λ _. tt) λ small.
       either_way _ (ltb deepest (depth t)) _ _ (λ _. tt) λ shallow.
@@ -186,7 +186,7 @@ module _ (room : ℕ) where
   lasting = record {
     closed = λ s. closed (stored_in s);
     value = λ s z f. f;
-    remain = new-stays;
+    remain = new_stays;
     stores = stores;
     recalls = λ t u s g. g.kept t u;
     keeps = keeps;
@@ -207,10 +207,10 @@ NamedIn : List Tree → Named → Type 0
 NamedIn ts (names t) = In ts t
 NamedIn ts Listings.nothing = Unit {0}
 
-swap-in : (ts : List Tree) (swaps : List Swap) → SwapsIn ts swaps → (v : ℕ) → NamedIn ts (swap_for v swaps)
+swap_in : (ts : List Tree) (swaps : List Swap) → SwapsIn ts swaps → (v : ℕ) → NamedIn ts (swap_for v swaps)
 unfolding swap_for NamedIn tree_of
-swap-in ts [] f v = tt
-swap-in ts (swap v' t ∷ ss) f v = go (eqb v v') (swap-in ts ss (λ k l. f (suc k) (omega (arith, l))) v)
+swap_in ts [] f v = tt
+swap_in ts (swap v' t ∷ ss) f v = go (eqb v v') (swap_in ts ss (λ k l. f (suc k) (omega (arith, l))) v)
   where
     go : (b : Bool) → NamedIn ts (swap_for v ss) → NamedIn ts (cond b (names t) (swap_for v ss))
     go true x = f 0 (omega arith)
@@ -222,7 +222,7 @@ module _ (room : ℕ) (swaps : List Swap) where
   leaf_in (number z) ts f i = i
   leaf_in pi ts f i = i
   leaf_in (cell region index) ts f i = i
-  leaf_in (variable v) ts f i = go (swap_for v swaps) (swap-in ts swaps f v)
+  leaf_in (variable v) ts f i = go (swap_for v swaps) (swap_in ts swaps f v)
     where
       go : (n : Named) → NamedIn ts n → In ts (put_in v n)
       go (names t) x = x
@@ -269,35 +269,35 @@ module _ (R : Rows) (fit : FittingRows R.functions) where
       go true g = f 0 (omega arith)
       go false g = g
 
-  asked-fits : (operation : Operation) (x y : Complex) → Gives Fitting (asked R operation x y)
+  asked_fits : (operation : Operation) (x y : Complex) → Gives Fitting (asked R operation x y)
   unfolding given Gives FittingLookup
-  asked-fits operation x y = go (function_value operation x y R.functions) (looked_up operation x y R.functions fit)
+  asked_fits operation x y = go (function_value operation x y R.functions) (looked_up operation x y R.functions fit)
     where
       go : (l : Lookup) → FittingLookup l → Gives Fitting (given operation x y l)
       go (found z) f = f
       go missing f = tt
 
-  then-fits : (a : Evaluation) (f : Complex → Evaluation) → ((z : Complex) → Gives Fitting (f z)) → Gives Fitting (Evaluating.and_then a f)
+  then_fits : (a : Evaluation) (f : Complex → Evaluation) → ((z : Complex) → Gives Fitting (f z)) → Gives Fitting (Evaluating.and_then a f)
   unfolding Evaluating.and_then Gives
-  then-fits (Evaluation.Value z) f g = g z
-  then-fits Evaluation.Incomplete f g = tt
-  then-fits (Evaluation.Need operation x y) f g = tt
+  then_fits (Evaluation.Value z) f g = g z
+  then_fits Evaluation.Incomplete f g = tt
+  then_fits (Evaluation.Need operation x y) f g = tt
 
   pub fitting_numbers : Numbers Fitting R
   unfolding calculate_function calculate_infix cis Gives
   fitting_numbers = record {
     functions = λ f x. elim f [
-      | ExpressionFunction.Sine ↦ asked-fits Operation.Sine x zero_number
-      | ExpressionFunction.Cosine ↦ asked-fits Operation.Cosine x zero_number
-      | ExpressionFunction.Exponent ↦ asked-fits Operation.Exponent x zero_number
-      | ExpressionFunction.SquareRoot ↦ asked-fits Operation.SquareRoot x zero_number
-      | ExpressionFunction.Cis ↦ then-fits (asked_one R Operation.Cosine x) _ λ c. then-fits (asked_one R Operation.Sine x) _ λ s. plus_fitting _ _
+      | ExpressionFunction.Sine ↦ asked_fits Operation.Sine x zero_number
+      | ExpressionFunction.Cosine ↦ asked_fits Operation.Cosine x zero_number
+      | ExpressionFunction.Exponent ↦ asked_fits Operation.Exponent x zero_number
+      | ExpressionFunction.SquareRoot ↦ asked_fits Operation.SquareRoot x zero_number
+      | ExpressionFunction.Cis ↦ then_fits (asked_one R Operation.Cosine x) _ λ c. then_fits (asked_one R Operation.Sine x) _ λ s. plus_fitting _ _
     ];
     infixes = λ o x y. elim o [
       | InfixOperator.Plus ↦ plus_fitting x y
       | InfixOperator.Minus ↦ minus_fitting x y
       | InfixOperator.Star ↦ times_fitting x y
       | InfixOperator.Slash ↦ over_fitting x y
-      | InfixOperator.Caret ↦ asked-fits Operation.Power x y
+      | InfixOperator.Caret ↦ asked_fits Operation.Power x y
     ];
   }

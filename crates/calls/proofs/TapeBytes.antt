@@ -46,16 +46,16 @@ pub record Source (room : ℕ) (list out : List ℕ) (bytes : ℕ) (out' : List 
   pub ample : 24 * size root ≤ length out
   pub bytes_are : take bytes out' ≡ tape root
 
-refused-or-not : {A : Type 0} {why : Refusal} {bytes : ℕ} → Written.Refused why ≡ Written.Bytes bytes → A
-refused-or-not e = absurd (subst Is-refused e tt)
+refused_or_not : {A : Type 0} {why : Refusal} {bytes : ℕ} → Written.Refused why ≡ Written.Bytes bytes → A
+refused_or_not e = absurd (subst Is-refused e tt)
   where
     Is-refused : Written → Type 0
     Is-refused (Written.Refused why) = Unit {0}
     Is-refused (Written.Bytes bytes) = ⊥
 
-bytes-in : Written → ℕ
-bytes-in (Written.Bytes bytes) = bytes
-bytes-in (Written.Refused why) = 0
+bytes_in : Written → ℕ
+bytes_in (Written.Bytes bytes) = bytes
+bytes_in (Written.Refused why) = 0
 
 abbrev Answer : Type 0
 Answer = Written × List ℕ
@@ -67,8 +67,8 @@ module _ (room : ℕ) (list out : List ℕ) {bytes : ℕ} {out' : List ℕ} {roo
     (read : listing false list (fresh room 0) ≡ accepted root swaps store) where
   fits : size root ≤ 512 → (b : Bool) → ltb (length out) (length (tape root)) ≡ b
       → ◌≡◌ {A = Answer} (cond b (Written.Refused Refusal.OutRoom, out) (fit root out)) (Written.Bytes bytes, out') → Source room list out bytes out'
-  unfolding bytes-in
-  fits small true f w = refused-or-not (ap (λ x. x.0) w)
+  unfolding bytes_in
+  fits small true f w = refused_or_not (ap (λ x. x.0) w)
   fits small false f w = record {
     root = root;
     swaps = swaps;
@@ -76,7 +76,7 @@ module _ (room : ℕ) (list out : List ℕ) {bytes : ℕ} {out' : List ℕ} {roo
     read = read;
     small = small;
     ample = omega (arith, ltb-false (length out) (length (tape root)) f, tape_length root);
-    bytes_are = ap (λ x. take bytes x.1) (sym w) ∙ take_at (tape root) _ bytes (ap (λ x. bytes-in x.0) w);
+    bytes_are = ap (λ x. take bytes x.1) (sym w) ∙ take_at (tape root) _ bytes (ap (λ x. bytes_in x.0) w);
   }
 
   not_long : (b : Bool) → ltb 512 (size root) ≡ b
@@ -84,7 +84,7 @@ module _ (room : ℕ) (list out : List ℕ) {bytes : ℕ} {out' : List ℕ} {roo
       (cond b (Written.Refused Refusal.LongTape, out) (cond (ltb (length out) (length (tape root))) (Written.Refused Refusal.OutRoom, out) (fit root out)))
       (Written.Bytes bytes, out')
       → Source room list out bytes out'
-  not_long true f w = refused-or-not (ap (λ x. x.0) w)
+  not_long true f w = refused_or_not (ap (λ x. x.0) w)
   not_long false f w = fits (ltb-false 512 (size root) f) (ltb (length out) (length (tape root))) refl w
 
 -- where compiling answers a length, this is why
@@ -96,17 +96,17 @@ written_from room list out {bytes} {out'} wrote = go (listing false list (fresh 
     go : (l : Listing) → listing false list (fresh room 0) ≡ l
         → ◌≡◌ {A = Answer} (after_listing (λ why. (Written.Refused why, out)) l (λ root swaps store. compiled root out)) (Written.Bytes bytes, out')
         → Source room list out bytes out'
-    go (Listings.refused why) e w = refused-or-not (ap (λ x. x.0) w)
+    go (Listings.refused why) e w = refused_or_not (ap (λ x. x.0) w)
     go (accepted root swaps store) e w = not_long room list out e (ltb 512 (size root)) refl w
 
 -- evaluating looks at the root and the sheet alone
 evaluated_from : Tree → Whole Rows Refusal → Evaluated
 evaluated_from root w = evaluate_job (with_sheet root (fresh 0 0) w)
 
-evaluates-from : (room : ℕ) (list values : List ℕ) {root : Tree} {swaps : List Swap} {store : State}
+evaluates_from : (room : ℕ) (list values : List ℕ) {root : Tree} {swaps : List Swap} {store : State}
     → listing false list (fresh room 0) ≡ accepted root swaps store → evaluate_call room list values ≡ evaluated_from root (sheet values)
 unfolding evaluate_job after_listing with_sheet job evaluated_from
-evaluates-from room list values {root} {swaps} {store} e =
+evaluates_from room list values {root} {swaps} {store} e =
     ap (λ x. evaluate_job (after_listing Calls.refused x λ root swaps store. with_sheet root store (sheet values))) e ∙ go (sheet values)
   where
     go : (w : Whole Rows Refusal) → evaluate_job (with_sheet root store w) ≡ evaluate_job (with_sheet root (fresh 0 0) w)
@@ -142,9 +142,9 @@ module _ (room : ℕ) (list out : List ℕ) {bytes : ℕ} {out' : List ℕ} (wro
   written_plays room' {root} read values =
       ap (λ bs. play_call bs values) (sym as_compiled)
       ∙ compiled_plays room list out from.read from.small from.ample values
-      ∙ evaluates-from room list values from.read
+      ∙ evaluates_from room list values from.read
       ∙ ap (λ t. evaluated_from t (sheet values)) (same_root false list room room' from.read read).0
-      ∙ sym (evaluates-from room' list values read)
+      ∙ sym (evaluates_from room' list values read)
 
   -- so with as much room as compiling had
   pub written_plays_with_more : (room' : ℕ) → room ≤ room' → (values : List ℕ)

@@ -41,9 +41,9 @@ use Rattle.calls.specs.Marks.{evaluate_job_marks, evaluate_marks, play_sheet_mar
 use Rattle.calls.proofs.Framing.{shown_is, marks_after_lem}
 use Rattle.calls.proofs.Results.{Fresh, FreshJob, job_fresh}
 
-no-mark : {A : Type 0} (j : ℕ) → get_or no_marks j 0 ≡ 1 → A
+no_mark : {A : Type 0} (j : ℕ) → get_or no_marks j 0 ≡ 1 → A
 unfolding noted among
-no-mark j m = absurd (false≢true (marked [] j m))
+no_mark j m = absurd (false≢true (marked [] j m))
 
 -- where none is marked
 none_renumbered : (j i : ℕ) → i ≢ j → i < most_marks → get_or no_marks (renumbered j i) 0 ≡ get_or no_marks i 0
@@ -69,8 +69,8 @@ evaluate_marked room list values j m = go (listing false list (fresh room 0)) re
   where
     go : (l : Listing) → listing false list (fresh room 0) ≡ l → (w : Whole Rows Refusal) → sheet values ≡ w
         → get_or (evaluate_job_marks (after_listing Calls.refused l λ root swaps store. with_sheet root store w)) j 0 ≡ 1 → EvaluateUses room list values j
-    go (Listings.refused why) e w f m = no-mark j m
-    go (accepted root swaps store) e (Lines.refused why) f m = no-mark j m
+    go (Listings.refused why) e w f m = no_mark j m
+    go (accepted root swaps store) e (Lines.refused why) f m = no_mark j m
     go (accepted root swaps store) e (Lines.read rows) f m =
         let u = Evaluation.marked_uses rows j root m in
         record { root = root; swaps = swaps; store = store; rows = rows; read = e; bound = f; uses = u; first = λ other. uses_foremost u other }
@@ -88,8 +88,8 @@ unfolding play_checked_marks play_sheet_marks
 play_marked tape values j m = go (check tape) refl (sheet values) refl m
   where
     go : (c : Checked) → check tape ≡ c → (w : Whole Rows Refusal) → sheet values ≡ w → get_or (play_checked_marks c tape values) j 0 ≡ 1 → PlayUses tape values j
-    go (Checked.Bad step) e w f m = no-mark j m
-    go Checked.Sound e (Lines.refused why) f m = no-mark j (rw f at m)
+    go (Checked.Bad step) e w f m = no_mark j m
+    go Checked.Sound e (Lines.refused why) f m = no_mark j (rw f at m)
     go Checked.Sound e (Lines.read rows) f m =
         let u = Tape.marked_uses rows j tape (rw f at m) in
         record { rows = rows; sound = e; bound = f; uses = u; first = λ other. uses_foremost u other }
@@ -105,19 +105,19 @@ pub record SimplifyUses (room limit : ℕ) (list values : List ℕ) (j : ℕ) : 
   pub uses : Uses rows (Simplification.Asks suc rows limit root store) j
   pub first : (other : Row) → Foremost uses.operation uses.left uses.right other rows.functions j uses.value
 
-shown-marked : (r : Simplified) (marks : List ℕ) (j : ℕ) → get_or (shown r marks) j 0 ≡ 1 → get_or marks j 0 ≡ 1
+shown_marked : (r : Simplified) (marks : List ℕ) (j : ℕ) → get_or (shown r marks) j 0 ≡ 1 → get_or marks j 0 ≡ 1
 unfolding shown is_shown
-shown-marked (Simplified.Bytes bytes calls) marks j m = m
-shown-marked (Simplified.Refused why) marks j m = go (is_lack why) m
+shown_marked (Simplified.Bytes bytes calls) marks j m = m
+shown_marked (Simplified.Refused why) marks j m = go (is_lack why) m
   where
     go : (b : Bool) → get_or (cond b marks no_marks) j 0 ≡ 1 → get_or marks j 0 ≡ 1
     go true m = m
-    go false m = no-mark j m
+    go false m = no_mark j m
 
-store-unmarked : (room : ℕ) (list values : List ℕ) {root : Tree} {swaps : List Swap} {store : State} {rows : Rows}
+store_unmarked : (room : ℕ) (list values : List ℕ) {root : Tree} {swaps : List Swap} {store : State} {rows : Rows}
     → listing false list (fresh room 0) ≡ accepted root swaps store → sheet values ≡ Lines.read rows → Marking.marks_of store ≡ no_marks
 unfolding after_listing with_sheet job FreshJob
-store-unmarked room list values {root} {swaps} {store} e f =
+store_unmarked room list values {root} {swaps} {store} e f =
     (subst FreshJob (ap (λ l. after_listing Calls.refused l λ root swaps store. with_sheet root store (sheet values)) e ∙ ap (with_sheet root store) f) (job_fresh room list values)).unmarked
 
 pub simplify_marked : (room limit : ℕ) (list values out : List ℕ) (j : ℕ) → get_or (simplify_marks room limit list values out) j 0 ≡ 1 → SimplifyUses room limit list values j
@@ -126,16 +126,16 @@ simplify_marked room limit list values out j m = allowed (is_allowed limit) m
   where
     go : (l : Listing) → listing false list (fresh room 0) ≡ l → (w : Whole Rows Refusal) → sheet values ≡ w
         → get_or (simplify_job_marks limit out (after_listing Calls.refused l λ root swaps store. with_sheet root store w)) j 0 ≡ 1 → SimplifyUses room limit list values j
-    go (Listings.refused why) e w f m = no-mark j m
-    go (accepted root swaps store) e (Lines.refused why) f m = no-mark j m
+    go (Listings.refused why) e w f m = no_mark j m
+    go (accepted root swaps store) e (Lines.refused why) f m = no_mark j m
     go (accepted root swaps store) e (Lines.read rows) f m =
         let a = simplify rows limit root store in
-        let u = Simplification.marked_uses suc rows j limit root store (store-unmarked room list values e f) (rw (marks_after_lem a) at (shown-marked (simplified_answer out a).0 (marks_in a) j m)) in
+        let u = Simplification.marked_uses suc rows j limit root store (store_unmarked room list values e f) (rw (marks_after_lem a) at (shown_marked (simplified_answer out a).0 (marks_in a) j m)) in
         record { root = root; swaps = swaps; store = store; rows = rows; read = e; bound = f; uses = u; first = λ other. uses_foremost u other }
 
     allowed : (b : Bool) → get_or (cond b (simplify_job_marks limit out (job room list values)) no_marks) j 0 ≡ 1 → SimplifyUses room limit list values j
     allowed true m = go (listing false list (fresh room 0)) refl (sheet values) refl m
-    allowed false m = no-mark j m
+    allowed false m = no_mark j m
 
 -- ---- a row that is not marked can be taken away with no change of the answer, its place aside
 
@@ -156,25 +156,25 @@ module _ (j : ℕ) (rows : Rows) (values values⁻ : List ℕ) (all : sheet valu
 
   -- ---- evaluating
 
-  job-without : {a b : Job} → Jobs a b → get_or (evaluate_job_marks a) j 0 ≡ 0 → evaluate_job b ≡ evaluate_job a
+  job_without : {a b : Job} → Jobs a b → get_or (evaluate_job_marks a) j 0 ≡ 0 → evaluate_job b ≡ evaluate_job a
   unfolding evaluate_job evaluate_job_marks
-  job-without (both_ready root store) m = ap evaluated (evaluates_unmarked rows j root few m)
-  job-without (both_refused why) m = refl
+  job_without (both_ready root store) m = ap evaluated (evaluates_unmarked rows j root few m)
+  job_without (both_refused why) m = refl
 
   pub evaluate_without : (room : ℕ) (list : List ℕ) → get_or (evaluate_marks room list values) j 0 ≡ 0 → evaluate_call room list values⁻ ≡ evaluate_call room list values
-  evaluate_without room list m = job-without (jobs room list) m
+  evaluate_without room list m = job_without (jobs room list) m
 
-  job-marks-without : {a b : Job} → Jobs a b → get_or (evaluate_job_marks a) j 0 ≡ 0 → (i : ℕ) → i ≢ j → i < most_marks
+  job_marks_without : {a b : Job} → Jobs a b → get_or (evaluate_job_marks a) j 0 ≡ 0 → (i : ℕ) → i ≢ j → i < most_marks
       → get_or (evaluate_job_marks b) (renumbered j i) 0 ≡ get_or (evaluate_job_marks a) i 0
   unfolding evaluate_job_marks
-  job-marks-without (both_ready root store) m i n l =
+  job_marks_without (both_ready root store) m i n l =
       let other = unmarked (used rows root) j few m in
       rw (uses_without rows j root other) (marks_renumbered j i (used rows root) n other l)
-  job-marks-without (both_refused why) m i n l = none_renumbered j i n l
+  job_marks_without (both_refused why) m i n l = none_renumbered j i n l
 
   pub evaluate_marks_without : (room : ℕ) (list : List ℕ) → get_or (evaluate_marks room list values) j 0 ≡ 0 → (i : ℕ) → i ≢ j → i < most_marks
       → get_or (evaluate_marks room list values⁻) (renumbered j i) 0 ≡ get_or (evaluate_marks room list values) i 0
-  evaluate_marks_without room list m = job-marks-without (jobs room list) m
+  evaluate_marks_without room list m = job_marks_without (jobs room list) m
 
   -- ---- playing
 
@@ -217,22 +217,22 @@ module _ (j : ℕ) (rows : Rows) (values values⁻ : List ℕ) (all : sheet valu
         let a = simplify rows limit root store in
         simplifies_unmarked suc rows j limit root store f.unmarked few (rw (shown_is (simplified_answer out a).0 (marks_in a) s, marks_after_lem a) at m)
 
-    simplify-job-without : {a b : Job} → Jobs a b → FreshJob a → is_shown (simplify_job limit out a).0 ≡ true → get_or (simplify_job_marks limit out a) j 0 ≡ 0
+    simplify_job_without : {a b : Job} → Jobs a b → FreshJob a → is_shown (simplify_job limit out a).0 ≡ true → get_or (simplify_job_marks limit out a) j 0 ≡ 0
         → simplify_job limit out b ≡ simplify_job limit out a
     unfolding simplify_job simplify_job_marks FreshJob
-    simplify-job-without (both_ready root store) f s m = same_answer out (simplifies root store f s m)
-    simplify-job-without (both_refused why) f s m = refl
+    simplify_job_without (both_ready root store) f s m = same_answer out (simplifies root store f s m)
+    simplify_job_without (both_refused why) f s m = refl
 
-    simplify-job-marks-without : {a b : Job} → Jobs a b → FreshJob a → is_shown (simplify_job limit out a).0 ≡ true → get_or (simplify_job_marks limit out a) j 0 ≡ 0
+    simplify_job_marks_without : {a b : Job} → Jobs a b → FreshJob a → is_shown (simplify_job limit out a).0 ≡ true → get_or (simplify_job_marks limit out a) j 0 ≡ 0
         → (i : ℕ) → i ≢ j → i < most_marks → get_or (simplify_job_marks limit out b) (renumbered j i) 0 ≡ get_or (simplify_job_marks limit out a) i 0
     unfolding simplify_job simplify_job_marks FreshJob
-    simplify-job-marks-without (both_ready root store) f s m i n l =
+    simplify_job_marks_without (both_ready root store) f s m i n l =
         let a = simplify rows limit root store in
         let b = simplify (without_row j rows) limit root store in
         let both = simplifies root store f s m in
         ap (λ r. get_or (shown r.0 (marks_in b)) (renumbered j i) 0) (same_answer out both)
         ∙ rw (shown_is (simplified_answer out a).0 (marks_in b) s, shown_is (simplified_answer out a).0 (marks_in a) s, marks_after_lem a, marks_after_lem b) (marks_without both i n l)
-    simplify-job-marks-without (both_refused why) f s m i n l = none_renumbered j i n l
+    simplify_job_marks_without (both_refused why) f s m i n l = none_renumbered j i n l
 
     pub simplify_without : (room : ℕ) (list : List ℕ) → is_shown (simplify_call room limit list values out).0 ≡ true → get_or (simplify_marks room limit list values out) j 0 ≡ 0
         → simplify_call room limit list values⁻ out ≡ simplify_call room limit list values out
@@ -241,7 +241,7 @@ module _ (j : ℕ) (rows : Rows) (values values⁻ : List ℕ) (all : sheet valu
       where
         go : (b : Bool) → is_shown (cond b (simplify_job limit out (job room list values)) beyond).0 ≡ true → get_or (cond b (simplify_job_marks limit out (job room list values)) no_marks) j 0 ≡ 0
             → cond b (simplify_job limit out (job room list values⁻)) beyond ≡ cond b (simplify_job limit out (job room list values)) beyond
-        go true s m = simplify-job-without (jobs room list) (job_fresh room list values) s m
+        go true s m = simplify_job_without (jobs room list) (job_fresh room list values) s m
         go false s m = refl
 
     pub simplify_marks_without : (room : ℕ) (list : List ℕ) → is_shown (simplify_call room limit list values out).0 ≡ true → get_or (simplify_marks room limit list values out) j 0 ≡ 0
@@ -251,5 +251,5 @@ module _ (j : ℕ) (rows : Rows) (values values⁻ : List ℕ) (all : sheet valu
       where
         go : (b : Bool) → is_shown (cond b (simplify_job limit out (job room list values)) beyond).0 ≡ true → get_or (cond b (simplify_job_marks limit out (job room list values)) no_marks) j 0 ≡ 0
             → get_or (cond b (simplify_job_marks limit out (job room list values⁻)) no_marks) (renumbered j i) 0 ≡ get_or (cond b (simplify_job_marks limit out (job room list values)) no_marks) i 0
-        go true s m = simplify-job-marks-without (jobs room list) (job_fresh room list values) s m i n l
+        go true s m = simplify_job_marks_without (jobs room list) (job_fresh room list values) s m i n l
         go false s m = none_renumbered j i n l

@@ -28,13 +28,13 @@ chosen : (test : Bool) (k : ℕ) {yes : Checked} → cond test yes (Checked.Bad 
 chosen true k e = (refl, e)
 chosen false k e = let z : ◌≡◌ {A = ℕ} 0 1 = cc in absurd (omega arith)
 
-all-begin : (n step values : ℕ) (bs : List ℕ) → check_from step values (fields_of_all n bs) ≡ Checked.Sound → (k : ℕ) → k < n → 0 < get_or bs (k * 24) 0
+all_begin : (n step values : ℕ) (bs : List ℕ) → check_from step values (fields_of_all n bs) ≡ Checked.Sound → (k : ℕ) → k < n → 0 < get_or bs (k * 24) 0
 unfolding check_from fields_of_all
-all-begin zero step values bs e k h = absurd (omega arith)
-all-begin (suc n) step values bs e zero h = known_begins bs (first_true _ _ (chosen (allowed values (fields_in bs)) step e).0)
-all-begin (suc n) step values bs e (suc k) h =
+all_begin zero step values bs e k h = absurd (omega arith)
+all_begin (suc n) step values bs e zero h = known_begins bs (first_true _ _ (chosen (allowed values (fields_in bs)) step e).0)
+all_begin (suc n) step values bs e (suc k) h =
     let z : suc k * 24 ≡ 24 + k * 24 = omega arith in
-    rw z (rw (get_or-drop 24 bs (k * 24) 0) at (all-begin n (suc step) (after values (step_of (fields_in bs))) (drop 24 bs) (chosen (allowed values (fields_in bs)) step e).1 k (omega arith)))
+    rw z (rw (get_or-drop 24 bs (k * 24) 0) at (all_begin n (suc step) (after values (step_of (fields_in bs))) (drop 24 bs) (chosen (allowed values (fields_in bs)) step e).1 k (omega arith)))
 
 pub accepted : (text : List ℕ) → check (tape_in text) ≡ Checked.Sound → text ≡ in_lines 0 (tape_in text)
 unfolding check
@@ -43,4 +43,4 @@ accepted text e =
     let c = chosen (whole tape) 0 e in
     let m : length tape % 24 ≡ 0 = eqb-true _ _ (first_true (eqb (length tape % 24) 0) _ c.0) in
     let most : length tape / 24 < 513 = ltb-true _ _ (second_true (ltb 0 (count tape)) _ (second_true (eqb (length tape % 24) 0) _ c.0)) in
-    tape_only text (omega arith) (λ k h. all-begin (count tape) 0 0 tape c.1 k (omega arith))
+    tape_only text (omega arith) (λ k h. all_begin (count tape) 0 0 tape c.1 k (omega arith))

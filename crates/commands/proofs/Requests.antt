@@ -24,15 +24,15 @@ use Rattle.commands.proofs.Choosing.{never, chosen, passed}
 
 -- ---- the words `marks` and `origins`
 
-starts-inside : (word bs : List ℕ) → starts word bs ≡ true → length word ≤ length bs
+starts_inside : (word bs : List ℕ) → starts word bs ≡ true → length word ≤ length bs
 unfolding starts
-starts-inside [] bs e = omega arith
-starts-inside (w ∷ ws) [] e = never e
-starts-inside (w ∷ ws) (b ∷ bs) e = omega (arith, starts-inside ws bs (second_true (eqb b w) (starts ws bs) e))
+starts_inside [] bs e = omega arith
+starts_inside (w ∷ ws) [] e = never e
+starts_inside (w ∷ ws) (b ∷ bs) e = omega (arith, starts_inside ws bs (second_true (eqb b w) (starts ws bs) e))
 
 module _ (words : List ℕ) (at : ℕ) (word : List ℕ) {t : Bool} (q : t ≡ starts word (drop at words)) where
   pub found_inside : t ≡ true → length word ≤ length words - at
-  found_inside o = omega (arith, starts-inside word (drop at words) (sym q ∙ o), length-drop at words)
+  found_inside o = omega (arith, starts_inside word (drop at words) (sym q ∙ o), length-drop at words)
 
   pub found_there : t ≡ true → FoundAt words at word (record { stands = true; next = at + length word })
   unfolding after

@@ -33,56 +33,56 @@ Few (with_calls text calls) = length text ≤ 64496
 Few (refused why detail) = Unit {0}
 Few too_long = Unit {0}
 
-few-short : (out : List ℕ) (o : Outcome) → Inside out o → Few (seen out o) → Short o
+few_short : (out : List ℕ) (o : Outcome) → Inside out o → Few (seen out o) → Short o
 unfolding Few
-few-short out (Outcome.Printed n) i h = omega (arith, i.1, h)
-few-short out (Outcome.Simplified n calls) i h = omega (arith, i.1, h)
-few-short out (Outcome.Refused why detail) i h = tt
-few-short out Outcome.TooLong i h = tt
+few_short out (Outcome.Printed n) i h = omega (arith, i.1, h)
+few_short out (Outcome.Simplified n calls) i h = omega (arith, i.1, h)
+few_short out (Outcome.Refused why detail) i h = tt
+few_short out Outcome.TooLong i h = tt
 
 -- ---- by the command
 
-evaluated-few : (missing : Missing) (list values : List ℕ) (a : Evaluated) → Few (of_evaluated missing list values a)
+evaluated_few : (missing : Missing) (list values : List ℕ) (a : Evaluated) → Few (of_evaluated missing list values a)
 unfolding Few of_evaluated
-evaluated-few missing list values (Evaluated.Value z) = omega (arith, value_short z)
-evaluated-few missing list values (Evaluated.Refused why) = tt
+evaluated_few missing list values (Evaluated.Value z) = omega (arith, value_short z)
+evaluated_few missing list values (Evaluated.Refused why) = tt
 
-listing-few : (list values : List ℕ) (call : Simplified × List ℕ) → ((bytes calls : ℕ) → call.0 ≡ Simplified.Bytes bytes calls → bytes ≤ 43008)
+listing_few : (list values : List ℕ) (call : Simplified × List ℕ) → ((bytes calls : ℕ) → call.0 ≡ Simplified.Bytes bytes calls → bytes ≤ 43008)
     → Few (of_simplified list values call.0 call.1)
 unfolding Few of_simplified
-listing-few list values call most = go _ refl
+listing_few list values call most = go _ refl
   where
     go : (s : Simplified) → call.0 ≡ s → Few (of_simplified list values s call.1)
     go (Simplified.Bytes bytes calls) e = omega (arith, most bytes calls e, length-take bytes call.1)
     go (Simplified.Refused why) e = tt
 
-simplified-few : (traced : Bool) (room limit : ℕ) (list values out : List ℕ) → 43008 ≤ length out → Few (simplified_with traced room limit list values out)
-simplified-few true room limit list values out h =
-    listing-few list values (simplify_origins room limit list values out) (λ bytes calls e. simplify_origins_most room limit list values out h e)
-simplified-few false room limit list values out h =
-    listing-few list values (simplify_call room limit list values out) (λ bytes calls e. omega (arith, simplify_most room limit list values out (omega (arith, h)) e))
+simplified_few : (traced : Bool) (room limit : ℕ) (list values out : List ℕ) → 43008 ≤ length out → Few (simplified_with traced room limit list values out)
+simplified_few true room limit list values out h =
+    listing_few list values (simplify_origins room limit list values out) (λ bytes calls e. simplify_origins_most room limit list values out h e)
+simplified_few false room limit list values out h =
+    listing_few list values (simplify_call room limit list values out) (λ bytes calls e. omega (arith, simplify_most room limit list values out (omega (arith, h)) e))
 
-parted-few : (room : ℕ) (command : Parted) (list values out : List ℕ) → parted_shows command ≡ true → 43008 ≤ length out → Few (parted room command list values out)
+parted_few : (room : ℕ) (command : Parted) (list values out : List ℕ) → parted_shows command ≡ true → 43008 ≤ length out → Few (parted room command list values out)
 unfolding parted parted_shows
-parted-few room (Parted.Evaluate shown) list values out e h = evaluated-few (missing_in_job room list values) list values (evaluate_call room list values)
-parted-few room (Parted.Simplify limit shown traced) list values out e h = simplified-few traced room limit list values out h
-parted-few room Parted.Played list values out e h = never e
-parted-few room (Parted.Play shown) list values out e h = evaluated-few (missing_on_tape (tape_in list) values) list values (play_call (tape_in list) values)
+parted_few room (Parted.Evaluate shown) list values out e h = evaluated_few (missing_in_job room list values) list values (evaluate_call room list values)
+parted_few room (Parted.Simplify limit shown traced) list values out e h = simplified_few traced room limit list values out h
+parted_few room Parted.Played list values out e h = never e
+parted_few room (Parted.Play shown) list values out e h = evaluated_few (missing_on_tape (tape_in list) values) list values (play_call (tape_in list) values)
 
-command-few : (room : ℕ) (command : Command) (input out : List ℕ) → shows command ≡ true → 43008 ≤ length out → Few (result_in room command input out)
+command_few : (room : ℕ) (command : Command) (input out : List ℕ) → shows command ≡ true → 43008 ≤ length out → Few (result_in room command input out)
 unfolding result_in shows
-command-few room (Command.Whole command) input out e h = never e
-command-few room (Command.Parted command) input out e h = parted-few room command (listing_in input) (sheet_in input) out e h
+command_few room (Command.Whole command) input out e h = never e
+command_few room (Command.Parted command) input out e h = parted_few room command (listing_in input) (sheet_in input) out e h
 
-result-few : (command : Command) (input out : List ℕ) → shows command ≡ true → 43008 ≤ length out → Few (result command input out)
+result_few : (command : Command) (input out : List ℕ) → shows command ≡ true → 43008 ≤ length out → Few (result command input out)
 unfolding result Few
-result-few command input out e h = go (ltb 262144 (length input))
+result_few command input out e h = go (ltb 262144 (length input))
   where
     go : (b : Bool) → Few (cond b too_long (result_in 4096 command input out))
     go true = tt
-    go false = command-few 4096 command input out e h
+    go false = command_few 4096 command input out e h
 
 pub shown_short : (command : Command) (input out : List ℕ) {shown : Bool} {o : Outcome} {out' : List ℕ} → Comes (result command input out) o out' → shown ≡ shows command
     → 65536 ≤ length out → shown ≡ true → Short o
 shown_short command input out {shown} {o} {out'} c e h t =
-    few-short out' o c.inside (subst Few (sym c.answer) (result-few command input out (sym e ∙ t) (omega (arith, h))))
+    few_short out' o c.inside (subst Few (sym c.answer) (result_few command input out (sym e ∙ t) (omega (arith, h))))

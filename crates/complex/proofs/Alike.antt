@@ -26,19 +26,19 @@ left_or : (b : Bool) → T b → T (b || false)
 left_or true h = tt
 left_or false h = absurd h
 
-sign-of-test : (s t : Bool) (a : ℕ) → T (beq s t || eqb a 0) → (s ≡ t) ⊎ (a ≡ 0)
-sign-of-test true true a h = inl refl
-sign-of-test false false a h = inl refl
-sign-of-test true false a h = inr (eqb→eq a 0 h)
-sign-of-test false true a h = inr (eqb→eq a 0 h)
+sign_of_test : (s t : Bool) (a : ℕ) → T (beq s t || eqb a 0) → (s ≡ t) ⊎ (a ≡ 0)
+sign_of_test true true a h = inl refl
+sign_of_test false false a h = inl refl
+sign_of_test true false a h = inr (eqb→eq a 0 h)
+sign_of_test false true a h = inr (eqb→eq a 0 h)
 
-test-of-sign : (s t : Bool) (a : ℕ) → (s ≡ t) ⊎ (a ≡ 0) → T (beq s t || eqb a 0)
-test-of-sign true true a h = tt
-test-of-sign false false a h = tt
-test-of-sign true false a (inl e) = absurd (subst T e tt)
-test-of-sign true false a (inr z) = eq→eqb z
-test-of-sign false true a (inl e) = absurd (subst T (sym e) tt)
-test-of-sign false true a (inr z) = eq→eqb z
+test_of_sign : (s t : Bool) (a : ℕ) → (s ≡ t) ⊎ (a ≡ 0) → T (beq s t || eqb a 0)
+test_of_sign true true a h = tt
+test_of_sign false false a h = tt
+test_of_sign true false a (inl e) = absurd (subst T e tt)
+test_of_sign true false a (inr z) = eq→eqb z
+test_of_sign false true a (inl e) = absurd (subst T (sym e) tt)
+test_of_sign false true a (inr z) = eq→eqb z
 
 cancelled : {s t : Bool} (a : ℕ) (d : ℤ) → (s ≡ t) ⊎ (a * down d ≡ 0) → (s ≡ t) ⊎ (a ≡ 0)
 cancelled a d (inl e) = inl e
@@ -48,11 +48,11 @@ scaled : {s t : Bool} (a : ℕ) (d : ℤ) → (s ≡ t) ⊎ (a ≡ 0) → (s ≡
 scaled a d (inl e) = inl e
 scaled a d (inr z) = inr (ap (λ (n : ℕ). n * down d) z ∙ zero-mul (down d))
 
-inf-of-test : (s t : Bool) → T (beq s t || false) → Alike (inf s) (inf t)
-inf-of-test true true h = infs
-inf-of-test false false h = infs
-inf-of-test true false h = absurd h
-inf-of-test false true h = absurd h
+inf_of_test : (s t : Bool) → T (beq s t || false) → Alike (inf s) (inf t)
+inf_of_test true true h = infs
+inf_of_test false false h = infs
+inf_of_test true false h = absurd h
+inf_of_test false true h = absurd h
 
 pub alike : (x y : Float) → T (equal_doubles x y) → Alike x y
 unfolding equal_doubles eq is_nan
@@ -60,7 +60,7 @@ alike nan nan h = nans
 alike nan (inf t) h = absurd h
 alike nan (fin t n d) h = absurd h
 alike (inf s) nan h = absurd h
-alike (inf s) (inf t) h = inf-of-test s t h
+alike (inf s) (inf t) h = inf_of_test s t h
 alike (inf s) (fin t n d) h = absurd h
 alike (fin s m e) nan h = absurd h
 alike (fin s m e) (inf t) h = absurd h
@@ -68,20 +68,20 @@ alike (fin s m e) (fin t n d) h =
     let a = m * up e * down d in
     let b = n * up d * down e in
     let l = or_left (eqb a b && (beq s t || eqb a 0)) h in
-    fins (eqb→eq a b (and_l (eqb a b) (beq s t || eqb a 0) l)) (cancelled (m * up e) d (sign-of-test s t a (and_r (eqb a b) (beq s t || eqb a 0) l)))
+    fins (eqb→eq a b (and_l (eqb a b) (beq s t || eqb a 0) l)) (cancelled (m * up e) d (sign_of_test s t a (and_r (eqb a b) (beq s t || eqb a 0) l)))
 
-inf-equals-itself : (s : Bool) → T (beq s s || false)
-inf-equals-itself true = tt
-inf-equals-itself false = tt
+inf_equals_itself : (s : Bool) → T (beq s s || false)
+inf_equals_itself true = tt
+inf_equals_itself false = tt
 
 pub equal_of : {x y : Float} → Alike x y → T (equal_doubles x y)
 unfolding equal_doubles eq is_nan
 equal_of nans = tt
-equal_of (infs {s}) = inf-equals-itself s
+equal_of (infs {s}) = inf_equals_itself s
 equal_of (fins {s} {m} {e} {t} {n} {d} v g) =
     let a = m * up e * down d in
     let b = n * up d * down e in
-    left_or (eqb a b && (beq s t || eqb a 0)) (and_i (eqb a b) (beq s t || eqb a 0) (eq→eqb v) (test-of-sign s t a (scaled (m * up e) d g)))
+    left_or (eqb a b && (beq s t || eqb a 0)) (and_i (eqb a b) (beq s t || eqb a 0) (eq→eqb v) (test_of_sign s t a (scaled (m * up e) d g)))
 
 -- ---- an equivalence
 
@@ -94,11 +94,11 @@ alike_refl (fin s m e) = fins refl (inl refl)
 other_zero : (a b : ℕ) (c d : ℤ) → a * down d ≡ b * down c → a ≡ 0 → b ≡ 0
 other_zero a b c d v z = zero_of b c (sym v ∙ ap (λ (n : ℕ). n * down d) z ∙ zero-mul (down d))
 
-alike-sym : {x y : Float} → Alike x y → Alike y x
-alike-sym nans = nans
-alike-sym infs = infs
-alike-sym (fins {s} {m} {e} {t} {n} {d} v (inl g)) = fins (sym v) (inl (sym g))
-alike-sym (fins {s} {m} {e} {t} {n} {d} v (inr z)) = fins (sym v) (inr (other_zero (m * up e) (n * up d) e d v z))
+alike_sym : {x y : Float} → Alike x y → Alike y x
+alike_sym nans = nans
+alike_sym infs = infs
+alike_sym (fins {s} {m} {e} {t} {n} {d} v (inl g)) = fins (sym v) (inl (sym g))
+alike_sym (fins {s} {m} {e} {t} {n} {d} v (inr z)) = fins (sym v) (inr (other_zero (m * up e) (n * up d) e d v z))
 
 -- a / c = b / d and b / d = f / g
 cross_trans : (a b f : ℕ) (c d g : ℤ) → a * down d ≡ b * down c → b * down g ≡ f * down d → a * down g ≡ f * down c
@@ -112,17 +112,17 @@ same_sign a b c d v (inl p) (inl q) = inl (p ∙ q)
 same_sign a b c d v (inl p) (inr z) = inr (other_zero b a d c (sym v) z)
 same_sign a b c d v (inr z) h = inr z
 
-alike-trans : {x y z : Float} → Alike x y → Alike y z → Alike x z
-alike-trans nans nans = nans
-alike-trans infs infs = infs
-alike-trans (fins {s} {m} {e} {t} {n} {d} v g) (fins {t = u} {n = k} {d = c} w h) =
+alike_trans : {x y z : Float} → Alike x y → Alike y z → Alike x z
+alike_trans nans nans = nans
+alike_trans infs infs = infs
+alike_trans (fins {s} {m} {e} {t} {n} {d} v g) (fins {t = u} {n = k} {d = c} w h) =
     fins (cross_trans (m * up e) (n * up d) (k * up c) e d c v w) (same_sign (m * up e) (n * up d) e d v g h)
 
 pub equal_refl : (x : Float) → T (equal_doubles x x)
 equal_refl x = equal_of (alike_refl x)
 
 pub equal_sym : (x y : Float) → T (equal_doubles x y) → T (equal_doubles y x)
-equal_sym x y h = equal_of (alike-sym (alike x y h))
+equal_sym x y h = equal_of (alike_sym (alike x y h))
 
 pub equal_trans : (x y z : Float) → T (equal_doubles x y) → T (equal_doubles y z) → T (equal_doubles x z)
-equal_trans x y z g h = equal_of (alike-trans (alike x y g) (alike y z h))
+equal_trans x y z g h = equal_of (alike_trans (alike x y g) (alike y z h))

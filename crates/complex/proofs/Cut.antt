@@ -28,30 +28,30 @@ cut_below x y z d p h =
 abbrev pub Placed : ℕ → ℕ → ℕ → Type 0
 Placed U h A = ((a : ℕ) × (A ≡ a * U)) ⊎ (A < h)
 
-abbrev cut-square : ℕ → ℕ → ℕ
-cut-square U A = A * A / (U * U)
+abbrev cut_square_lem : ℕ → ℕ → ℕ
+cut_square_lem U A = A * A / (U * U)
 
 module _ (U n h : ℕ) (p : 0 < U) (half : 2 * (h * h) ≤ n * U * (n * U)) where
-  whole : (A B a : ℕ) → A ≡ a * U → ltb (A * A + B * B) (n * U * (n * U)) ≡ ltb (cut-square U A + cut-square U B) (n * n)
+  whole : (A B a : ℕ) → A ≡ a * U → ltb (A * A + B * B) (n * U * (n * U)) ≡ ltb (cut_square_lem U A + cut_square_lem U B) (n * n)
   whole A B a e =
       let s : A * A ≡ a * a * (U * U) = (λ i. e i * e i) ∙ squares a U in
       let c : A * A / (U * U) ≡ a * a = ap (λ (x : ℕ). x / (U * U)) s ∙ mul-div_cancel (a * a) (mul-pos p p) in
       (λ i. ltb (s i + B * B) (squares n U i)) ∙ cut_test (a * a) (B * B) (n * n) (U * U) (mul-pos p p) ∙ ap (λ (x : ℕ). ltb (x + B * B / (U * U)) (n * n)) (sym c)
 
-  small : (A B : ℕ) → A < h → B < h → ltb (A * A + B * B) (n * U * (n * U)) ≡ ltb (cut-square U A + cut-square U B) (n * n)
+  small : (A B : ℕ) → A < h → B < h → ltb (A * A + B * B) (n * U * (n * U)) ≡ ltb (cut_square_lem U A + cut_square_lem U B) (n * n)
   small A B a b =
       let s : A * A + B * B < n * U * (n * U) = omega (arith, square_lt A h a, square_lt B h b) in
       let t : A * A + B * B < n * n * (U * U) = subst (λ (x : ℕ). A * A + B * B < x) (squares n U) s in
       lt-ltb (A * A + B * B) (n * U * (n * U)) s
-      ∙ sym (lt-ltb (cut-square U A + cut-square U B) (n * n) (cut_below (A * A) (B * B) (n * n) (U * U) (mul-pos p p) t))
+      ∙ sym (lt-ltb (cut_square_lem U A + cut_square_lem U B) (n * n) (cut_below (A * A) (B * B) (n * n) (U * U) (mul-pos p p) t))
 
   -- the law: both squares may be cut off at T's last place
-  pub cut : (A B : ℕ) → Placed U h A → Placed U h B → ltb (A * A + B * B) (n * U * (n * U)) ≡ ltb (cut-square U A + cut-square U B) (n * n)
+  pub cut : (A B : ℕ) → Placed U h A → Placed U h B → ltb (A * A + B * B) (n * U * (n * U)) ≡ ltb (cut_square_lem U A + cut_square_lem U B) (n * n)
   cut A B (inl a) b = whole A B a.0 a.1
   cut A B (inr a) (inl b) =
       ap (λ (x : ℕ). ltb x (n * U * (n * U))) (add_comm (A * A) (B * B))
       ∙ whole B A b.0 b.1
-      ∙ ap (λ (x : ℕ). ltb x (n * n)) (add_comm (cut-square U B) (cut-square U A))
+      ∙ ap (λ (x : ℕ). ltb x (n * n)) (add_comm (cut_square_lem U B) (cut_square_lem U A))
   cut A B (inr a) (inr b) = small A B a b
 
 -- a number that is a significand s, K below U, has its square cut off with s's

@@ -25,17 +25,17 @@ half_bits = 0x3DCB_7CDF_D9D7_BDBB
 abbrev pub significand : ℕ
 significand = 0x1B_7CDF_D9D7_BDBB
 
-t-magnitude : magnitude threshold ≡ significand * 2 ^ 988
+t_magnitude : magnitude threshold ≡ significand * 2 ^ 988
 unfolding magnitude of_bits
-t-magnitude = refl
+t_magnitude = refl
 
-t-by-bits : magnitude threshold ≡ magnitude_of_bits t_bits
+t_by_bits : magnitude threshold ≡ magnitude_of_bits t_bits
 unfolding magnitude of_bits magnitude_of_bits magnitude_of_fields
-t-by-bits = refl
+t_by_bits = refl
 
-t-by-half : magnitude threshold ≡ 2 * magnitude_of_bits half_bits
+t_by_half : magnitude threshold ≡ 2 * magnitude_of_bits half_bits
 unfolding magnitude of_bits magnitude_of_bits magnitude_of_fields
-t-by-half = refl
+t_by_half = refl
 
 -- the square of T's significand, by its two limbs
 pub t_squared : value (limbs 0x2F3_9421_9248 0x447B_2941_42B7_A699) ≡ significand * significand
@@ -66,16 +66,16 @@ at_t t e A B p q a b ha hb =
 pub by_cut_squares : (A B : ℕ) (p q : Part) → Scaled A p → Scaled B q → A < magnitude threshold → B < magnitude threshold
     → squares_below A B ≡ ltb (cut_square p + cut_square q) (significand * significand)
 unfolding squares_below
-by_cut_squares = at_t (magnitude threshold) t-magnitude
+by_cut_squares = at_t (magnitude threshold) t_magnitude
 
 -- ---- by the bits alone
 
-sum-from : (A B t : ℕ) → t ≤ A → t * t ≤ A * A + B * B
-sum-from A B t h = le_trans (mul-le-mul h h) (le-add_right (A * A) (B * B))
+sum_from : (A B t : ℕ) → t ≤ A → t * t ≤ A * A + B * B
+sum_from A B t h = le_trans (mul-le-mul h h) (le-add_right (A * A) (B * B))
 
-too-big : (A B : ℕ) → magnitude threshold ≤ A → squares_below A B ≡ false
+too_big : (A B : ℕ) → magnitude threshold ≤ A → squares_below A B ≡ false
 unfolding squares_below
-too-big A B h = le-ltb (A * A + B * B) (magnitude threshold * magnitude threshold) (sum-from A B (magnitude threshold) h)
+too_big A B h = le-ltb (A * A + B * B) (magnitude threshold * magnitude threshold) (sum_from A B (magnitude threshold) h)
 
 swapped : (A B : ℕ) → squares_below A B ≡ squares_below B A
 unfolding squares_below
@@ -84,16 +84,16 @@ swapped A B = ap (λ (n : ℕ). ltb n (magnitude threshold * magnitude threshold
 halved : (A B h : ℕ) → A < h → B < h → A * A + B * B < 2 * h * (2 * h)
 halved A B h a b = omega (arith, square_lt A h a, square_lt B h b)
 
-small-enough : (A B : ℕ) → A < magnitude_of_bits half_bits → B < magnitude_of_bits half_bits → squares_below A B ≡ true
+small_enough : (A B : ℕ) → A < magnitude_of_bits half_bits → B < magnitude_of_bits half_bits → squares_below A B ≡ true
 unfolding squares_below
-small-enough A B a b =
+small_enough A B a b =
     lt-ltb (A * A + B * B) (magnitude threshold * magnitude threshold)
-    (subst (λ (t : ℕ). A * A + B * B < t * t) (sym t-by-half) (halved A B (magnitude_of_bits half_bits) a b))
+    (subst (λ (t : ℕ). A * A + B * B < t * t) (sym t_by_half) (halved A B (magnitude_of_bits half_bits) a b))
 
 -- ---- the test of two doubles
 
-abbrev zeroTest : Float → Float → Bool
-zeroTest x y = finite x && finite y && squares_below (magnitude x) (magnitude y)
+abbrev zero_test : Float → Float → Bool
+zero_test x y = finite x && finite y && squares_below (magnitude x) (magnitude y)
 
 -- below T's bits there is no infinity and no NaN
 below_is_finite : (x : Float) → bits_of x % 2 ^ 63 < t_bits → T (finite x)
@@ -103,11 +103,11 @@ below_is_finite (inf true) h = absurd (omega arith)
 below_is_finite (inf false) h = absurd (omega arith)
 below_is_finite (fin s m e) h = tt
 
-from-t : (x : Float) → T (fits binary64 x) → t_bits ≤ bits_of x % 2 ^ 63 → T (finite x) → magnitude threshold ≤ magnitude x
-from-t x f h g = le_trans (le_of_eq t-by-bits) (le_trans (rises_le t_bits (bits_of x % 2 ^ 63) h) (le_of_eq (sym (magnitude_by_bits x f g))))
+from_t : (x : Float) → T (fits binary64 x) → t_bits ≤ bits_of x % 2 ^ 63 → T (finite x) → magnitude threshold ≤ magnitude x
+from_t x f h g = le_trans (le_of_eq t_by_bits) (le_trans (rises_le t_bits (bits_of x % 2 ^ 63) h) (le_of_eq (sym (magnitude_by_bits x f g))))
 
-below-t : (b : ℕ) → b < t_bits → magnitude_of_bits b < magnitude threshold
-below-t b h = lt_of_lt_of_le (rises b t_bits h) (le_of_eq (sym t-by-bits))
+below_t : (b : ℕ) → b < t_bits → magnitude_of_bits b < magnitude threshold
+below_t b h = lt_of_lt_of_le (rises b t_bits h) (le_of_eq (sym t_by_bits))
 
 below_half : (x : Float) → T (fits binary64 x) → bits_of x % 2 ^ 63 < half_bits → magnitude x < magnitude_of_bits half_bits
 below_half x f h =
@@ -121,31 +121,31 @@ pub record Measured (x y : Float) (a b : ℕ) : Type 0 where
   pub bits_y : b ≡ bits_of y % 2 ^ 63
 
 module _ {x y : Float} {a b : ℕ} (m : Measured x y a b) where
-  pub first_from_t : t_bits ≤ a → false ≡ zeroTest x y
+  pub first_from_t : t_bits ≤ a → false ≡ zero_test x y
   first_from_t h =
       let k = subst (λ (n : ℕ). t_bits ≤ n) m.bits_x h in
-      last_no (finite x) (finite y) (squares_below (magnitude x) (magnitude y)) (λ t u. too-big (magnitude x) (magnitude y) (from-t x m.fits_x k t))
+      last_no (finite x) (finite y) (squares_below (magnitude x) (magnitude y)) (λ t u. too_big (magnitude x) (magnitude y) (from_t x m.fits_x k t))
 
-  pub second_from_t : t_bits ≤ b → false ≡ zeroTest x y
+  pub second_from_t : t_bits ≤ b → false ≡ zero_test x y
   second_from_t h =
       let k = subst (λ (n : ℕ). t_bits ≤ n) m.bits_y h in
       last_no (finite x) (finite y) (squares_below (magnitude x) (magnitude y))
-      (λ t u. swapped (magnitude x) (magnitude y) ∙ too-big (magnitude y) (magnitude x) (from-t y m.fits_y k u))
+      (λ t u. swapped (magnitude x) (magnitude y) ∙ too_big (magnitude y) (magnitude x) (from_t y m.fits_y k u))
 
-  pub both_below_half : a < half_bits → b < half_bits → true ≡ zeroTest x y
+  pub both_below_half : a < half_bits → b < half_bits → true ≡ zero_test x y
   both_below_half h k =
       let hx = subst (λ (n : ℕ). n < half_bits) m.bits_x h in
       let hy = subst (λ (n : ℕ). n < half_bits) m.bits_y k in
       let fx = below_is_finite x (lt_of_lt_of_le hx (lit≤ tt)) in
       let fy = below_is_finite y (lt_of_lt_of_le hy (lit≤ tt)) in
-      sym (small-enough (magnitude x) (magnitude y) (below_half x m.fits_x hx) (below_half y m.fits_y hy))
+      sym (small_enough (magnitude x) (magnitude y) (below_half x m.fits_x hx) (below_half y m.fits_y hy))
       ∙ last_decides (finite x) (finite y) (squares_below (magnitude x) (magnitude y)) fx fy
 
   -- what `squares_below` is handed and says, where both are below T
   pub by_squares : (r : Bool) → a < t_bits → b < t_bits
       → (magnitude_of_bits (a % 2 ^ 63) < magnitude threshold → magnitude_of_bits (b % 2 ^ 63) < magnitude threshold
       → r ≡ squares_below (magnitude_of_bits (a % 2 ^ 63)) (magnitude_of_bits (b % 2 ^ 63)))
-      → r ≡ zeroTest x y
+      → r ≡ zero_test x y
   by_squares r h k e =
       let fx = below_is_finite x (subst (λ (n : ℕ). n < t_bits) m.bits_x h) in
       let fy = below_is_finite y (subst (λ (n : ℕ). n < t_bits) m.bits_y k) in
@@ -153,5 +153,5 @@ module _ {x y : Float} {a b : ℕ} (m : Measured x y a b) where
       let t : b % 2 ^ 63 ≡ b = omega arith in
       let u : magnitude_of_bits (a % 2 ^ 63) ≡ magnitude x = ap magnitude_of_bits (s ∙ m.bits_x) ∙ sym (magnitude_by_bits x m.fits_x fx) in
       let v : magnitude_of_bits (b % 2 ^ 63) ≡ magnitude y = ap magnitude_of_bits (t ∙ m.bits_y) ∙ sym (magnitude_by_bits y m.fits_y fy) in
-      e (below-t (a % 2 ^ 63) (omega arith)) (below-t (b % 2 ^ 63) (omega arith)) ∙ (λ i. squares_below (u i) (v i))
+      e (below_t (a % 2 ^ 63) (omega arith)) (below_t (b % 2 ^ 63) (omega arith)) ∙ (λ i. squares_below (u i) (v i))
       ∙ last_decides (finite x) (finite y) (squares_below (magnitude x) (magnitude y)) fx fy

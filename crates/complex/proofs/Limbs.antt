@@ -85,12 +85,12 @@ multiplied h l k m = omega arith
 dropped : (x : ℕ) → x % 2 ^ 64 * 2 ^ 32 % 2 ^ 64 ≡ x * 2 ^ 32 % 2 ^ 64
 dropped x = omega arith
 
-dropped-above : (h y l : ℕ) → (l + y % 2 ^ 64) % 2 ^ 64 ≡ (h * 2 ^ 64 + y + l) % 2 ^ 64
-dropped-above h y l = omega arith
+dropped_above : (h y l : ℕ) → (l + y % 2 ^ 64) % 2 ^ 64 ≡ (h * 2 ^ 64 + y + l) % 2 ^ 64
+dropped_above h y l = omega arith
 
 lower : (h m n l : ℕ) {s r : ℕ} → s ≡ (m + n) % 2 ^ 64 → r ≡ (l + s * 2 ^ 32 % 2 ^ 64) % 2 ^ 64 → r ≡ top n m l % 2 ^ 32 * 2 ^ 32 + l % 2 ^ 32
 lower h m n l es er =
-    er ∙ ap (λ (x : ℕ). (l + x * 2 ^ 32 % 2 ^ 64) % 2 ^ 64) es ∙ ap (λ (x : ℕ). (l + x) % 2 ^ 64) (dropped (m + n)) ∙ dropped-above h ((m + n) * 2 ^ 32) l
+    er ∙ ap (λ (x : ℕ). (l + x * 2 ^ 32 % 2 ^ 64) % 2 ^ 64) es ∙ ap (λ (x : ℕ). (l + x) % 2 ^ 64) (dropped (m + n)) ∙ dropped_above h ((m + n) * 2 ^ 32) l
     ∙ ap (λ (x : ℕ). x % 2 ^ 64) (sym (columns h m n l)) ∙ digits_mod (h + mid m l / 2 ^ 32 + top n m l / 2 ^ 32) (omega arith)
 
 pub product_law : (a b : ℕ) {s r : ℕ} → a < 2 ^ 64 → b < 2 ^ 64
@@ -127,8 +127,8 @@ shift_limbs P Q h l p =
 shifted_up : (P Q h : ℕ) → 0 < P → 0 < Q → h * Q % (P * Q) ≡ h % P * Q
 shifted_up P Q h p q = mod-mul (h * Q) p q ∙ (λ i. mul-div_cancel h q i % P * Q + mul-mod_left h Q i) ∙ add-zero (h % P * Q)
 
-low-limb : (P Q h l : ℕ) → 0 < P → l < P * Q → h % P * Q + l / P < P * Q
-low-limb P Q h l p b = digits_lt (mod-lt h p) ((div-lt_iff_lt-mul p).1 (lt_of_lt_of_le b (le_of_eq (mul_comm P Q))))
+low_limb : (P Q h l : ℕ) → 0 < P → l < P * Q → h % P * Q + l / P < P * Q
+low_limb P Q h l p b = digits_lt (mod-lt h p) ((div-lt_iff_lt-mul p).1 (lt_of_lt_of_le b (le_of_eq (mul_comm P Q))))
 
 base : (j : ℕ) → j < 64 → 2 ^ j * 2 ^ (64 - j) ≡ 2 ^ 64
 base j h =
@@ -139,20 +139,20 @@ module _ (w : Wide) (hb : w.hi < 2 ^ 64) (lb : w.lo < 2 ^ 64) (j : ℕ) where
   low : ℕ
   low = w.hi * 2 ^ (64 - j) % 2 ^ 64 + w.lo / 2 ^ j
 
-  low-is : j < 64 → low ≡ w.hi % 2 ^ j * 2 ^ (64 - j) + w.lo / 2 ^ j
+  low_is : j < 64 → low ≡ w.hi % 2 ^ j * 2 ^ (64 - j) + w.lo / 2 ^ j
   unfolding low
-  low-is s =
+  low_is s =
       ap (λ (n : ℕ). n + w.lo / 2 ^ j)
       (ap (λ (n : ℕ). w.hi * 2 ^ (64 - j) % n) (sym (base j s)) ∙ shifted_up (2 ^ j) (2 ^ (64 - j)) w.hi (pow_pos j) (pow_pos (64 - j)))
 
-  low-lt : j < 64 → low < 2 ^ 64
-  low-lt s =
-      subst (λ (n : ℕ). n < 2 ^ 64) (sym (low-is s))
-      (lt_of_lt_of_le (low-limb (2 ^ j) (2 ^ (64 - j)) w.hi w.lo (pow_pos j) (lt_of_lt_of_le lb (le_of_eq (sym (base j s))))) (le_of_eq (base j s)))
+  low_lt : j < 64 → low < 2 ^ 64
+  low_lt s =
+      subst (λ (n : ℕ). n < 2 ^ 64) (sym (low_is s))
+      (lt_of_lt_of_le (low_limb (2 ^ j) (2 ^ (64 - j)) w.hi w.lo (pow_pos j) (lt_of_lt_of_le lb (le_of_eq (sym (base j s))))) (le_of_eq (base j s)))
 
   pub shift_fits : j < 64 → w.hi * 2 ^ (64 - j) % 2 ^ 64 + w.lo / 2 ^ j < 2 ^ 64
   unfolding low
-  shift_fits s = low-lt s
+  shift_fits s = low_lt s
 
   pub shift_none : j ≡ 0 → w ≡ wide (value w / 2 ^ j)
   shift_none e = wide_value w hb lb ∙ ap wide (sym (ap (λ (n : ℕ). value w / 2 ^ n) e ∙ div-one (value w)))
@@ -160,8 +160,8 @@ module _ (w : Wide) (hb : w.hi < 2 ^ 64) (lb : w.lo < 2 ^ 64) (j : ℕ) where
   pub shift_some : j < 64 → limbs (w.hi / 2 ^ j) (w.hi * 2 ^ (64 - j) % 2 ^ 64 + w.lo / 2 ^ j) ≡ wide (value w / 2 ^ j)
   unfolding low value
   shift_some s =
-      wide_of (w.hi / 2 ^ j) low (value w / 2 ^ j) (lt_of_le_of_lt (shr_le w.hi j) hb) (low-lt s)
-      (ap (λ (n : ℕ). w.hi / 2 ^ j * 2 ^ 64 + n) (low-is s)
+      wide_of (w.hi / 2 ^ j) low (value w / 2 ^ j) (lt_of_le_of_lt (shr_le w.hi j) hb) (low_lt s)
+      (ap (λ (n : ℕ). w.hi / 2 ^ j * 2 ^ 64 + n) (low_is s)
       ∙ sym (subst (λ (n : ℕ). (w.hi * n + w.lo) / 2 ^ j ≡ w.hi / 2 ^ j * n + (w.hi % 2 ^ j * 2 ^ (64 - j) + w.lo / 2 ^ j)) (base j s)
       (shift_limbs (2 ^ j) (2 ^ (64 - j)) w.hi w.lo (pow_pos j))))
 

@@ -20,46 +20,46 @@ use Rattle.complex.proofs.Classes.{equal_is_same_class, identical_equal}
 abbrev parts : (Float → Float → Bool) → Complex → Complex → Bool
 parts r x y = r x.re y.re && r x.im y.im
 
-parts-refl : (r : Float → Float → Bool) → ((x : Float) → T (r x x)) → (z : Complex) → T (parts r z z)
-parts-refl r f z = and_i (r z.re z.re) (r z.im z.im) (f z.re) (f z.im)
+parts_refl : (r : Float → Float → Bool) → ((x : Float) → T (r x x)) → (z : Complex) → T (parts r z z)
+parts_refl r f z = and_i (r z.re z.re) (r z.im z.im) (f z.re) (f z.im)
 
-parts-sym : (r : Float → Float → Bool) → ((x y : Float) → T (r x y) → T (r y x)) → (x y : Complex) → T (parts r x y) → T (parts r y x)
-parts-sym r f x y h =
+parts_sym : (r : Float → Float → Bool) → ((x y : Float) → T (r x y) → T (r y x)) → (x y : Complex) → T (parts r x y) → T (parts r y x)
+parts_sym r f x y h =
     and_i (r y.re x.re) (r y.im x.im)
     (f x.re y.re (and_l (r x.re y.re) (r x.im y.im) h))
     (f x.im y.im (and_r (r x.re y.re) (r x.im y.im) h))
 
-parts-trans : (r : Float → Float → Bool) → ((x y z : Float) → T (r x y) → T (r y z) → T (r x z)) → (x y z : Complex) → T (parts r x y) → T (parts r y z) → T (parts r x z)
-parts-trans r f x y z g h =
+parts_trans : (r : Float → Float → Bool) → ((x y z : Float) → T (r x y) → T (r y z) → T (r x z)) → (x y z : Complex) → T (parts r x y) → T (parts r y z) → T (parts r x z)
+parts_trans r f x y z g h =
     and_i (r x.re z.re) (r x.im z.im)
     (f x.re y.re z.re (and_l (r x.re y.re) (r x.im y.im) g) (and_l (r y.re z.re) (r y.im z.im) h))
     (f x.im y.im z.im (and_r (r x.re y.re) (r x.im y.im) g) (and_r (r y.re z.re) (r y.im z.im) h))
 
 -- ---- identical
 
-identical-doubles-refl : (x : Float) → T (identical_doubles x x)
+identical_doubles_refl : (x : Float) → T (identical_doubles x x)
 unfolding identical_doubles
-identical-doubles-refl x = eqb_refl (bits_of x)
+identical_doubles_refl x = eqb_refl (bits_of x)
 
-identical-doubles-sym : (x y : Float) → T (identical_doubles x y) → T (identical_doubles y x)
+identical_doubles_sym : (x y : Float) → T (identical_doubles x y) → T (identical_doubles y x)
 unfolding identical_doubles
-identical-doubles-sym x y h = eq→eqb (sym (eqb→eq (bits_of x) (bits_of y) h))
+identical_doubles_sym x y h = eq→eqb (sym (eqb→eq (bits_of x) (bits_of y) h))
 
-identical-doubles-trans : (x y z : Float) → T (identical_doubles x y) → T (identical_doubles y z) → T (identical_doubles x z)
+identical_doubles_trans : (x y z : Float) → T (identical_doubles x y) → T (identical_doubles y z) → T (identical_doubles x z)
 unfolding identical_doubles
-identical-doubles-trans x y z g h = eq→eqb (eqb→eq (bits_of x) (bits_of y) g ∙ eqb→eq (bits_of y) (bits_of z) h)
+identical_doubles_trans x y z g h = eq→eqb (eqb→eq (bits_of x) (bits_of y) g ∙ eqb→eq (bits_of y) (bits_of z) h)
 
 pub identical_refl : (x : Complex) → T (identical x x)
 unfolding identical
-identical_refl = parts-refl identical_doubles identical-doubles-refl
+identical_refl = parts_refl identical_doubles identical_doubles_refl
 
 pub identical_sym : (x y : Complex) → T (identical x y) → T (identical y x)
 unfolding identical
-identical_sym = parts-sym identical_doubles identical-doubles-sym
+identical_sym = parts_sym identical_doubles identical_doubles_sym
 
 pub identical_trans : (x y z : Complex) → T (identical x y) → T (identical y z) → T (identical x z)
 unfolding identical
-identical_trans = parts-trans identical_doubles identical-doubles-trans
+identical_trans = parts_trans identical_doubles identical_doubles_trans
 
 -- identical pairs of doubles are one
 pub identical_same : (x y : Complex) → Fitting x → Fitting y → T (identical x y) → x ≡ y
@@ -75,15 +75,15 @@ identical_same x y p q h =
 
 pub equal_refl : (x : Complex) → T (equal x x)
 unfolding equal
-equal_refl = parts-refl equal_doubles Alike.equal_refl
+equal_refl = parts_refl equal_doubles Alike.equal_refl
 
 pub equal_sym : (x y : Complex) → T (equal x y) → T (equal y x)
 unfolding equal
-equal_sym = parts-sym equal_doubles Alike.equal_sym
+equal_sym = parts_sym equal_doubles Alike.equal_sym
 
 pub equal_trans : (x y z : Complex) → T (equal x y) → T (equal y z) → T (equal x z)
 unfolding equal
-equal_trans = parts-trans equal_doubles Alike.equal_trans
+equal_trans = parts_trans equal_doubles Alike.equal_trans
 
 module _ (x y : Complex) (p : Fitting x) (q : Fitting y) where
   pub identical_is_equal : T (identical x y) → T (equal x y)

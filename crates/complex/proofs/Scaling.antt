@@ -31,8 +31,8 @@ eleven (suc m) h =
 value_of : (m e d l : ℕ) → d + l ≡ 53 → m * 2 ^ e * 2 ^ 53 ≡ m * 2 ^ d * 2 ^ (e + l)
 value_of m e d l q = subst (λ (n : ℕ). m * 2 ^ e * 2 ^ n ≡ m * 2 ^ d * 2 ^ (e + l)) q (simp (pow-add, mul_assoc, mul_left_comm))
 
-scaled-nonzero : (m e : ℕ) → 0 < m → m < 2 ^ 53 → Scaled (m * 2 ^ e) (placed m e)
-scaled-nonzero m e p h = at (count_leading_zeros 64 m) (eleven m h) (leading_top 64 m p (omega arith))
+scaled_nonzero : (m e : ℕ) → 0 < m → m < 2 ^ 53 → Scaled (m * 2 ^ e) (placed m e)
+scaled_nonzero m e p h = at (count_leading_zeros 64 m) (eleven m h) (leading_top 64 m p (omega arith))
   where
     at : (z : ℕ) → 11 ≤ z → (j : ℕ) × (z + suc j ≡ 64) × (2 ^ j ≤ m) × (m < 2 ^ suc j) → Scaled (m * 2 ^ e) (part (m * 2 ^ (z - 11) % 2 ^ 64) (e + (64 - z)))
     at z g t =
@@ -51,15 +51,15 @@ scaled-nonzero m e p h = at (count_leading_zeros 64 m) (eleven m h) (leading_top
           top = λ _. subst (λ (n : ℕ). 2 ^ 52 ≤ n) (sym exact) (subst (λ (n : ℕ). 2 ^ n ≤ m * 2 ^ d) jd jm);
         }
 
-scaled-zero : (e : ℕ) → e ≡ 0 → Scaled (zero * 2 ^ e) (placed zero e)
-scaled-zero e z =
+scaled_zero : (e : ℕ) → e ≡ 0 → Scaled (zero * 2 ^ e) (placed zero e)
+scaled_zero e z =
     subst (λ (k : ℕ). Scaled (zero * 2 ^ k) (placed zero k)) (sym z)
     (subst (λ (n : ℕ). Scaled 0 (part (zero * 2 ^ (n - 11) % 2 ^ 64) (0 + (64 - n)))) (sym (leading_of_zero 64))
     (record { value = refl; small = omega arith; top = λ h. absurd (omega arith) }))
 
 scaled : (m e : ℕ) → m < 2 ^ 53 → (m ≡ 0 → e ≡ 0) → Scaled (m * 2 ^ e) (placed m e)
-scaled zero e h z = scaled-zero e (z refl)
-scaled (suc m) e h z = scaled-nonzero (suc m) e (zero-lt-suc m) h
+scaled zero e h z = scaled_zero e (z refl)
+scaled (suc m) e h z = scaled_nonzero (suc m) e (zero-lt-suc m) h
 
 -- ---- the fields of a double's bits
 
@@ -86,8 +86,8 @@ module _ (m e : ℕ) (exponent : e ≡ m / 2 ^ 52 - 1) where
 
 -- ---- a magnitude has one such form, so a contract that says `Scaled` determines the answer
 
-no-smaller : (n : ℕ) (p q : Part) → Scaled n p → Scaled n q → p.scale < q.scale → ⊥
-no-smaller n p q a b h =
+no_smaller : (n : ℕ) (p q : Part) → Scaled n p → Scaled n q → p.scale < q.scale → ⊥
+no_smaller n p q a b h =
     let d = q.scale - suc p.scale in
     let e : q.scale ≡ suc d + p.scale = omega arith in
     let c : p.significand * 2 ^ p.scale ≡ q.significand * 2 ^ suc d * 2 ^ p.scale =
@@ -101,8 +101,8 @@ pub scaled_unique : (n : ℕ) (p q : Part) → Scaled n p → Scaled n q → p �
 scaled_unique n p q a b = go (dec_lt p.scale q.scale) (dec_lt q.scale p.scale)
   where
     go : Dec (p.scale < q.scale) → Dec (q.scale < p.scale) → p ≡ q
-    go (yes h) y = absurd (no-smaller n p q a b h)
-    go (no f) (yes h) = absurd (no-smaller n q p b a h)
+    go (yes h) y = absurd (no_smaller n p q a b h)
+    go (no f) (yes h) = absurd (no_smaller n q p b a h)
     go (no f) (no g) =
         let e : p.scale ≡ q.scale = omega arith in
         let s : p.significand ≡ q.significand =
@@ -112,8 +112,8 @@ scaled_unique n p q a b = go (dec_lt p.scale q.scale) (dec_lt q.scale p.scale)
 
 -- ---- where a magnitude A lies that is below T = n * 2 ^ u. T's scale is u + 53.
 
-past-scale : (u : ℕ) → 2 ^ 52 * 2 ^ suc (u + 53) ≡ 2 ^ 53 * 2 ^ u * 2 ^ 53
-past-scale u =
+past_scale : (u : ℕ) → 2 ^ 52 * 2 ^ suc (u + 53) ≡ 2 ^ 53 * 2 ^ u * 2 ^ 53
+past_scale u =
     let e : 2 ^ 52 * (2 ^ u * 2 ^ 53 * 2) ≡ 2 ^ 53 * 2 ^ u * 2 ^ 53 = omega arith in
     ap (λ (k : ℕ). 2 ^ 52 * k) (pow-suc 2 (u + 53) ∙ ap (λ (k : ℕ). k * 2) (pow-add 2 u 53)) ∙ e
 
@@ -129,7 +129,7 @@ module _ (u n T : ℕ) (t : T ≡ n * 2 ^ u) (small : n < 2 ^ 53) (A : ℕ) (p :
           le_trans (mul-le-mul (a.top (omega arith)) (pow_mono {i = suc (u + 53)} {j = p.scale} h)) (le_of_eq (sym a.value)) in
           let y : A * 2 ^ 53 < n * 2 ^ u * 2 ^ 53 = mul-lt-mul_of_pos_right (subst (λ (k : ℕ). A < k) t below) (pow_pos 53) in
           let z : n * 2 ^ u * 2 ^ 53 < 2 ^ 53 * 2 ^ u * 2 ^ 53 = mul-lt-mul_of_pos_right (mul-lt-mul_of_pos_right small (pow_pos u)) (pow_pos 53) in
-          absurd (not-le_of_lt (lt_trans y z) (le_trans (le_of_eq (sym (past-scale u))) x))
+          absurd (not-le_of_lt (lt_trans y z) (le_trans (le_of_eq (sym (past_scale u))) x))
 
   -- its significand counts in places of which 2 ^ (u + 53 - scale) make T's last one
   pub in_places : A * 2 ^ (u + 53 - p.scale) ≡ p.significand * 2 ^ u

@@ -47,8 +47,8 @@ stands {e} {x} {xs} {r} (p, k) =
 abbrev pub ending : List ℕ → ℕ → List ℕ
 ending field stop = field ++ (stop ∷ [])
 
-then-rest : (a : List ℕ) (x : ℕ) (b : List ℕ) → a ++ (x ∷ b) ≡ ending a x ++ b
-then-rest a x b = sym (append_assoc a (x ∷ []) b)
+then_rest : (a : List ℕ) (x : ℕ) (b : List ℕ) → a ++ (x ∷ b) ≡ ending a x ++ b
+then_rest a x b = sym (append_assoc a (x ∷ []) b)
 
 pub ending_length : (a : List ℕ) (x : ℕ) → length (ending a x) ≡ length a + 1
 ending_length a x = length-append a (x ∷ [])
@@ -83,7 +83,7 @@ decimal_short n h = few_digits 19 n (omega (arith, h))
 
 pub value_text : (z : Complex) → value_line z ≡ (118 ∷ 97 ∷ 108 ∷ 117 ∷ 101 ∷ 9 ∷ []) ++ parts z 10
 unfolding value_line line
-value_text z = rw (then-rest (in_hex (bits_of z.re)) 9 (ending (in_hex (bits_of z.im)) 10))
+value_text z = rw (then_rest (in_hex (bits_of z.re)) 9 (ending (in_hex (bits_of z.im)) 10))
 
 pub value_short : (z : Complex) → length (value_line z) ≤ 96
 value_short z = rw (value_text z) (omega (arith, parts_length z 10))
@@ -97,7 +97,7 @@ real_short x = rw (real_text x) (omega (arith, ending_length (in_hex (bits_of x)
 
 pub refused_text_lem : (n p : ℕ) → refused_line n p ≡ (114 ∷ 101 ∷ 102 ∷ 117 ∷ 115 ∷ 101 ∷ 100 ∷ 9 ∷ []) ++ (ending (in_decimal n) 9 ++ ending (in_decimal p) 10)
 unfolding refused_line line
-refused_text_lem n p = rw (then-rest (in_decimal n) 9 (ending (in_decimal p) 10))
+refused_text_lem n p = rw (then_rest (in_decimal n) 9 (ending (in_decimal p) 10))
 
 pub refused_short : (n p : ℕ) → n < 18446744073709551616 → p < 18446744073709551616 → length (refused_line n p) ≤ 96
 refused_short n p h o = rw (refused_text_lem n p) (omega (arith, two_fields (in_decimal n) (in_decimal p) 9 10, decimal_short n h, decimal_short p o))
@@ -107,9 +107,9 @@ unfolding need_line line
 need_text o x y =
     rw (
       append_assoc (ending (in_hex (bits_of x.re)) 9) (ending (in_hex (bits_of x.im)) 9) (parts y 10),
-      ← then-rest (in_hex (bits_of x.re)) 9 (ending (in_hex (bits_of x.im)) 9 ++ parts y 10),
-      ← then-rest (in_hex (bits_of x.im)) 9 (parts y 10),
-      ← then-rest (in_hex (bits_of y.re)) 9 (ending (in_hex (bits_of y.im)) 10),
+      ← then_rest (in_hex (bits_of x.re)) 9 (ending (in_hex (bits_of x.im)) 9 ++ parts y 10),
+      ← then_rest (in_hex (bits_of x.im)) 9 (parts y 10),
+      ← then_rest (in_hex (bits_of y.re)) 9 (ending (in_hex (bits_of y.im)) 10),
     )
 
 pub need_short : (o : Operation) (x y : Complex) → length (need_line o x y) ≤ 96

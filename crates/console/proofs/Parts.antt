@@ -87,20 +87,20 @@ not_both before b n = elim (ℕ_discrete before lf) [
   | no e ↦ rw (ne_eqb before lf e)
 ]
 
-parts-after : (before : ℕ) (bs : List ℕ) (n : ℕ) → n ≤ length bs → PartedAfter before bs n
+parts_after : (before : ℕ) (bs : List ℕ) (n : ℕ) → n ≤ length bs → PartedAfter before bs n
     → (take n bs ≡ listing_after before bs) × (drop 1 (drop n bs) ≡ sheet_after before bs)
 unfolding listing_after sheet_after
-parts-after before [] zero h p = (refl, refl)
-parts-after before [] (suc n) h p = absurd (omega (arith, h))
-parts-after before (b ∷ bs) zero h p =
+parts_after before [] zero h p = (refl, refl)
+parts_after before [] (suc n) h p = absurd (omega (arith, h))
+parts_after before (b ∷ bs) zero h p =
     let e = p.followed (omega arith) in
     rw (eq-eqb before lf e.0, eq-eqb b lf e.1) (refl, refl)
-parts-after before (b ∷ bs) (suc n) h p =
-    let rest = parts-after b bs n (omega (arith, h)) (record { without = λ k l. p.without (suc k) (omega (arith, l)); followed = λ l. p.followed (omega (arith, l)) }) in
+parts_after before (b ∷ bs) (suc n) h p =
+    let rest = parts_after b bs n (omega (arith, h)) (record { without = λ k l. p.without (suc k) (omega (arith, l)); followed = λ l. p.followed (omega (arith, l)) }) in
     rw (not_both before b (p.without 0 (omega arith))) (ap (λ l. b ∷ l) rest.0, rest.1)
 
 pub parted_in : {text : List ℕ} {n : ℕ} → Parted text n → (take n text ≡ listing_in text) × (drop 1 (drop n text) ≡ sheet_in text)
-parted_in {text} {n} p = parts-after lf text n p.counts.0 (record { without = p.without; followed = p.followed })
+parted_in {text} {n} p = parts_after lf text n p.counts.0 (record { without = p.without; followed = p.followed })
 
 -- ---- as many bytes as a text has
 

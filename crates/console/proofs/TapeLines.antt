@@ -35,10 +35,10 @@ module _ {e : List ℕ} {at a c : ℕ} (b : ℕ) (p : a ≡ byte_of (b / 16)) (q
       stopping-some zero h = absurd (h refl)
       stopping-some (suc s) h = refl
 
-digits-length : (b stop : ℕ) → length (in_digits b stop) ≤ 3
+digits_length : (b stop : ℕ) → length (in_digits b stop) ≤ 3
 unfolding in_digits stopping
-digits-length b zero = omega arith
-digits-length b (suc s) = omega arith
+digits_length b zero = omega arith
+digits_length b (suc s) = omega arith
 
 -- ---- a tape is written
 
@@ -52,7 +52,7 @@ lines_snoc k (x ∷ xs) b =
 pub lines_length : (k : ℕ) (xs : List ℕ) → length (in_lines k xs) ≤ 3 * length xs
 unfolding in_lines
 lines_length k [] = omega arith
-lines_length k (x ∷ xs) = omega (arith, length-append (in_digits x (stop_after (k % 24))) (in_lines (suc k) xs), digits-length x (stop_after (k % 24)), lines_length (suc k) xs)
+lines_length k (x ∷ xs) = omega (arith, length-append (in_digits x (stop_after (k % 24))) (in_lines (suc k) xs), digits_length x (stop_after (k % 24)), lines_length (suc k) xs)
 
 pub record Written (entry tape out : List ℕ) (at i : ℕ) : Type 0 where
   pub few : i ≤ length tape
@@ -91,31 +91,31 @@ digit_in s at h = elim (dec_lt at (length s)) [
   | no nlt ↦ let e : get_or s at 0 ≡ 0 = get_or-eq_default s 0 (omega arith) in absurd (omega (arith, rw e at h))
 ]
 
-digit-some : (s : List ℕ) (at k v : ℕ) → digit_of (get_or s at 0) ≤ 15 → hex_from (suc k) v (drop at s) ≡ hex_from k (v * 16 + digit_of (get_or s at 0)) (drop (at + 1) s)
+digit_some : (s : List ℕ) (at k v : ℕ) → digit_of (get_or s at 0) ≤ 15 → hex_from (suc k) v (drop at s) ≡ hex_from k (v * 16 + digit_of (get_or s at 0)) (drop (at + 1) s)
 unfolding hex_from
-digit-some s at k v h = rw (here s at (digit_in s at h), lt-ltb (digit_of (get_or s at 0)) 16 (omega arith))
+digit_some s at k v h = rw (here s at (digit_in s at h), lt-ltb (digit_of (get_or s at 0)) 16 (omega arith))
 
-stopped-bad : (stop : ℕ) → stopped stop bad ≡ bad
+stopped_bad : (stop : ℕ) → stopped stop bad ≡ bad
 unfolding stopped
-stopped-bad zero = refl
-stopped-bad (suc s) = ended_bad (suc s)
+stopped_bad zero = refl
+stopped_bad (suc s) = ended_bad (suc s)
 
 pub byte_none : (s : List ℕ) (at stop : ℕ) {high b : ℕ} → b ≡ get_or s at 0 → high ≡ digit_of b → 15 < high → bad ≡ byte_from stop (drop at s)
 unfolding byte_from
-byte_none s at stop p q h = sym (ap (stopped stop) (digit_none s at 1 0 (rw (q, p) at h)) ∙ stopped-bad stop)
+byte_none s at stop p q h = sym (ap (stopped stop) (digit_none s at 1 0 (rw (q, p) at h)) ∙ stopped_bad stop)
 
 module _ (s : List ℕ) (at stop : ℕ) {high low b c : ℕ} (p : b ≡ get_or s at 0) (q : high ≡ digit_of b) (h : high ≤ 15) (t : c ≡ get_or s (at + 1) 0) (u : low ≡ digit_of c) where
   first : hex_from 2 0 (drop at s) ≡ hex_from 1 high (drop (at + 1) s)
-  first = let z : 0 * 16 + digit_of (get_or s at 0) ≡ high = omega (arith, q, ap digit_of p) in rw (digit-some s at 1 0 (rw (q, p) at h), z)
+  first = let z : 0 * 16 + digit_of (get_or s at 0) ≡ high = omega (arith, q, ap digit_of p) in rw (digit_some s at 1 0 (rw (q, p) at h), z)
 
   pub byte_half : 15 < low → bad ≡ byte_from stop (drop at s)
   unfolding byte_from
-  byte_half o = sym (ap (stopped stop) (first ∙ digit_none s (at + 1) 0 high (rw (u, t) at o)) ∙ stopped-bad stop)
+  byte_half o = sym (ap (stopped stop) (first ∙ digit_none s (at + 1) 0 high (rw (u, t) at o)) ∙ stopped_bad stop)
 
   module _ (o : low ≤ 15) where
     both : hex_from 2 0 (drop at s) ≡ is (high * 16 + low) (drop (at + 2) s)
     unfolding hex_from
-    both = let z : at + 1 + 1 ≡ at + 2 = omega arith in first ∙ rw (digit-some s (at + 1) 0 high (rw (u, t) at o), z, u, t)
+    both = let z : at + 1 + 1 ≡ at + 2 = omega arith in first ∙ rw (digit_some s (at + 1) 0 high (rw (u, t) at o), z, u, t)
 
     pub byte_alone : stop ≡ 0 → is (high * 16 + low) (drop (at + 2) s) ≡ byte_from stop (drop at s)
     unfolding byte_from stopped
@@ -142,19 +142,19 @@ record Digit (k v : ℕ) (bs : List ℕ) (x : ℕ) (rest : List ℕ) : Type 0 wh
   here : bs ≡ byte_of d ∷ more
   then : hex_from k (v * 16 + d) more ≡ is x rest
 
-digit-only : (k v : ℕ) (bs : List ℕ) {x : ℕ} {rest : List ℕ} → hex_from (suc k) v bs ≡ is x rest → Digit k v bs x rest
+digit_only : (k v : ℕ) (bs : List ℕ) {x : ℕ} {rest : List ℕ} → hex_from (suc k) v bs ≡ is x rest → Digit k v bs x rest
 unfolding hex_from
-digit-only k v [] e = never e
-digit-only k v (b ∷ bs) e = elim (dec_lt (digit_of b) 16) [
+digit_only k v [] e = never e
+digit_only k v (b ∷ bs) e = elim (dec_lt (digit_of b) 16) [
   | yes lt ↦ record { d = digit_of b; more = bs; small = lt; here = ap (λ y. y ∷ bs) (sym (byte_digit b lt)); then = rw (lt-ltb (digit_of b) 16 lt) at e }
   | no ge ↦ never (rw (le-ltb (digit_of b) 16 (omega arith)) at e)
 ]
 
-two-only : (bs : List ℕ) {x : ℕ} {rest : List ℕ} → hex_from 2 0 bs ≡ is x rest → (x < 256) × (bs ≡ byte_of (x / 16) ∷ byte_of (x % 16) ∷ rest)
+two_only : (bs : List ℕ) {x : ℕ} {rest : List ℕ} → hex_from 2 0 bs ≡ is x rest → (x < 256) × (bs ≡ byte_of (x / 16) ∷ byte_of (x % 16) ∷ rest)
 unfolding hex_from
-two-only bs {x} {rest} e =
-    let a = digit-only 1 0 bs e in
-    let b = digit-only 0 (0 * 16 + a.d) a.more a.then in
+two_only bs {x} {rest} e =
+    let a = digit_only 1 0 bs e in
+    let b = digit_only 0 (0 * 16 + a.d) a.more a.then in
     let o : is ((0 * 16 + a.d) * 16 + b.d) b.more ≡ is x rest = b.then in
     let z : x ≡ (0 * 16 + a.d) * 16 + b.d = cc in
     let t : b.more ≡ rest = cc in
@@ -164,8 +164,8 @@ two-only bs {x} {rest} e =
 
 pub byte_only : (stop : ℕ) (bs : List ℕ) {x : ℕ} {rest : List ℕ} → byte_from stop bs ≡ is x rest → (x < 256) × (bs ≡ in_digits x stop ++ rest)
 unfolding byte_from stopped in_digits stopping
-byte_only zero bs e = two-only bs e
-byte_only (suc s) bs {x} {rest} e = two-only bs (ended_only (suc s) (hex_from 2 0 bs) x rest e)
+byte_only zero bs e = two_only bs e
+byte_only (suc s) bs {x} {rest} e = two_only bs (ended_only (suc s) (hex_from 2 0 bs) x rest e)
 
 -- ---- a step is read
 

@@ -30,17 +30,17 @@ record Read24 (k left : ℕ) (before bs all rest : List ℕ) : Type 0 where
   long : length xs ≡ left
   text : bs ≡ in_lines k xs ++ rest
 
-step-only : (j i left : ℕ) (before bs : List ℕ) {all rest : List ℕ} → i + left ≡ 24 → step_from left before bs ≡ is all rest → Read24 (j * 24 + i) left before bs all rest
+step_only : (j i left : ℕ) (before bs : List ℕ) {all rest : List ℕ} → i + left ≡ 24 → step_from left before bs ≡ is all rest → Read24 (j * 24 + i) left before bs all rest
 unfolding step_from in_lines
-step-only j i zero before bs {all} {rest} h e =
+step_only j i zero before bs {all} {rest} h e =
     let o : is before bs ≡ is all rest = e in
     let p : all ≡ before = cc in
     let q : bs ≡ rest = cc in
     record { xs = []; whole = p ∙ sym (append-nil before); long = refl; text = q }
-step-only j i (suc left) before bs {all} {rest} h e =
+step_only j i (suc left) before bs {all} {rest} h e =
     let a = then_only (byte_from (stop_after (23 - left)) bs) (λ b more. step_from left (before ++ (b ∷ [])) more) e in
     let b = byte_only (stop_after (23 - left)) bs a.first in
-    let c = step-only j (suc i) left (before ++ (a.x ∷ [])) a.mid (omega arith) a.second in
+    let c = step_only j (suc i) left (before ++ (a.x ∷ [])) a.mid (omega arith) a.second in
     let z : 23 - left ≡ (j * 24 + i) % 24 = omega arith in
     let o : j * 24 + suc i ≡ suc (j * 24 + i) = omega arith in
     record {
@@ -66,14 +66,14 @@ record Line24 (j : ℕ) (bs : List ℕ) : Type 0 where
   said : or_zeros (step_from 24 [] bs) ≡ step
   text : bs ≡ in_lines (j * 24) step ++ next_line bs
 
-line-only : (j : ℕ) (bs tail : List ℕ) → Begun (or_zeros (step_from 24 [] bs) ++ tail) → Line24 j bs
+line_only : (j : ℕ) (bs tail : List ℕ) → Begun (or_zeros (step_from 24 [] bs) ++ tail) → Line24 j bs
 unfolding or_zeros
-line-only j bs tail h = go (step_from 24 [] bs) refl h
+line_only j bs tail h = go (step_from 24 [] bs) refl h
   where
     go : (r : Read (List ℕ)) → step_from 24 [] bs ≡ r → Begun (or_zeros r ++ tail) → Line24 j bs
     go bad e h = absurd (omega (arith, h 0 (omega arith)))
     go (is step rest) e h =
-        let a = step-only j 0 24 [] bs refl e in
+        let a = step_only j 0 24 [] bs refl e in
         let z : j * 24 + 0 ≡ j * 24 = omega arith in
         let t : bs ≡ in_lines (j * 24) step ++ rest = rw (a.whole, ← z) a.text in
         record {
@@ -88,21 +88,21 @@ tails first tail long h k l =
     let z : suc k * 24 ≡ length first + k * 24 = omega (arith, long) in
     rw (get_or-append-add first tail (k * 24) 0) at (rw z at (h (suc k) (omega (arith, length-append first tail, long, l))))
 
-lines-only : (most j : ℕ) (bs : List ℕ) → length (read_steps most bs) < most * 24 → Begun (read_steps most bs) → bs ≡ in_lines (j * 24) (read_steps most bs)
+lines_only : (most j : ℕ) (bs : List ℕ) → length (read_steps most bs) < most * 24 → Begun (read_steps most bs) → bs ≡ in_lines (j * 24) (read_steps most bs)
 unfolding read_steps in_lines
-lines-only zero j bs l h = absurd (omega arith)
-lines-only (suc most) j [] l h = refl
-lines-only (suc most) j (b ∷ bs) l h =
+lines_only zero j bs l h = absurd (omega arith)
+lines_only (suc most) j [] l h = refl
+lines_only (suc most) j (b ∷ bs) l h =
     let tail = read_steps most (next_line (b ∷ bs)) in
     let first = or_zeros (step_from 24 [] (b ∷ bs)) in
-    let a = line-only j (b ∷ bs) tail h in
+    let a = line_only j (b ∷ bs) tail h in
     let long : length first ≡ 24 = ap length a.said ∙ a.long in
     let o : j * 24 + length first ≡ suc j * 24 = omega (arith, long) in
     let rest : next_line (b ∷ bs) ≡ in_lines (suc j * 24) tail =
-    lines-only most (suc j) (next_line (b ∷ bs)) (omega (arith, l, length-append first tail, long)) (tails first tail long h) in
+    lines_only most (suc j) (next_line (b ∷ bs)) (omega (arith, l, length-append first tail, long)) (tails first tail long h) in
     a.text ∙ ap (λ l. in_lines (j * 24) l ++ next_line (b ∷ bs)) (sym a.said) ∙ ap (λ l. in_lines (j * 24) first ++ l) (rest ∙ ap (λ k. in_lines k tail) (sym o)) ∙ sym (lines_append (j * 24) first tail)
 
 -- A text that says at most 512 steps, of which none begins with 0.
 pub tape_only : (text : List ℕ) → length (tape_in text) ≤ 12288 → Begun (tape_in text) → text ≡ in_lines 0 (tape_in text)
 unfolding tape_in
-tape_only text l h = lines-only 513 0 text (omega arith) h
+tape_only text l h = lines_only 513 0 text (omega arith) h

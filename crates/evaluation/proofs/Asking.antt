@@ -86,35 +86,35 @@ record AfterValue (e : Evaluation) (next : Complex → List ℕ) (j : ℕ) : Typ
   pub is : e ≡ Evaluation.Value value
   pub among_next : among j (next value) ≡ true
 
-after-value : (e : Evaluation) (next : Complex → List ℕ) (j : ℕ) → among j (after_value e next) ≡ true → AfterValue e next j
+after_value_law : (e : Evaluation) (next : Complex → List ℕ) (j : ℕ) → among j (after_value e next) ≡ true → AfterValue e next j
 unfolding after_value among
-after-value (Evaluation.Value z) next j p = record { value = z; is = refl; among_next = p }
-after-value Evaluation.Incomplete next j p = absurd (false≢true p)
-after-value (Evaluation.Need operation x y) next j p = absurd (false≢true p)
+after_value_law (Evaluation.Value z) next j p = record { value = z; is = refl; among_next = p }
+after_value_law Evaluation.Incomplete next j p = absurd (false≢true p)
+after_value_law (Evaluation.Need operation x y) next j p = absurd (false≢true p)
 
-among-after : {e : Evaluation} {z : Complex} (u : List ℕ) (next : Complex → List ℕ) (j : ℕ) → e ≡ Evaluation.Value z → among j (next z) ≡ true → among j (u ++ after_value e next) ≡ true
+among_after : {e : Evaluation} {z : Complex} (u : List ℕ) (next : Complex → List ℕ) (j : ℕ) → e ≡ Evaluation.Value z → among j (next z) ≡ true → among j (u ++ after_value e next) ≡ true
 unfolding after_value
-among-after u next j q p = among_right j u _ (rw q p)
+among_after u next j q p = among_right j u _ (rw q p)
 
 module _ (rows : Rows) (j : ℕ) where
   -- ---- what is used was found for what is asked
 
-  asked-uses : {asks : Operation → (x y : Complex) → Type 0} (o : Operation) (x y : Complex) → asks o x y → among j (used_for rows o x y) ≡ true → Uses rows asks j
-  asked-uses o x y a p =
+  asked_uses : {asks : Operation → (x y : Complex) → Type 0} (o : Operation) (x y : Complex) → asks o x y → among j (used_for rows o x y) ≡ true → Uses rows asks j
+  asked_uses o x y a p =
       let f = found_at (function_row o x y rows.functions) j p in
       record { operation = o; left = x; right = y; value = f.value; asked = a; row = f.is }
 
   pub function_uses : (f : ExpressionFunction) (z : Complex) → among j (used_by_function rows f z) ≡ true → Uses rows (ByFunction rows z f) j
   unfolding used_by_function
-  function_uses ExpressionFunction.Sine z p = asked-uses Operation.Sine z zero_number sine p
-  function_uses ExpressionFunction.Cosine z p = asked-uses Operation.Cosine z zero_number cosine p
-  function_uses ExpressionFunction.Exponent z p = asked-uses Operation.Exponent z zero_number exponent p
-  function_uses ExpressionFunction.SquareRoot z p = asked-uses Operation.SquareRoot z zero_number square_root p
+  function_uses ExpressionFunction.Sine z p = asked_uses Operation.Sine z zero_number sine p
+  function_uses ExpressionFunction.Cosine z p = asked_uses Operation.Cosine z zero_number cosine p
+  function_uses ExpressionFunction.Exponent z p = asked_uses Operation.Exponent z zero_number exponent p
+  function_uses ExpressionFunction.SquareRoot z p = asked_uses Operation.SquareRoot z zero_number square_root p
   function_uses ExpressionFunction.Cis z p = elim (among_either j (used_for rows Operation.Cosine z zero_number) _ p) [
-    | inl q ↦ asked-uses Operation.Cosine z zero_number cis_cosine q
+    | inl q ↦ asked_uses Operation.Cosine z zero_number cis_cosine q
     | inr q ↦
-        let v = after-value (asked_one rows Operation.Cosine z) _ j q in
-        asked-uses Operation.Sine z zero_number (cis_sine v.is) v.among_next
+        let v = after_value_law (asked_one rows Operation.Cosine z) _ j q in
+        asked_uses Operation.Sine z zero_number (cis_sine v.is) v.among_next
   ]
 
   pub infix_uses : (s : InfixOperator) (a b : Complex) → among j (used_by_infix rows s a b) ≡ true → Uses rows (ByInfix a b s) j
@@ -123,24 +123,24 @@ module _ (rows : Rows) (j : ℕ) where
   infix_uses InfixOperator.Minus a b p = absurd (false≢true p)
   infix_uses InfixOperator.Star a b p = absurd (false≢true p)
   infix_uses InfixOperator.Slash a b p = absurd (false≢true p)
-  infix_uses InfixOperator.Caret a b p = asked-uses Operation.Power a b power p
+  infix_uses InfixOperator.Caret a b p = asked_uses Operation.Power a b power p
 
   pub tree_uses : (t : Tree) → among j (used rows t) ≡ true → Uses rows (Asks rows t) j
   unfolding used among
   tree_uses (leaf l) p = absurd (false≢true p)
   tree_uses (function_call f t) p = elim (among_either j (used rows t) _ p) [
     | inl q ↦ uses_more (tree_uses t q) λ o x y a. in_argument a
-    | inr q ↦ let v = after-value (evaluate rows t) _ j q in uses_more (function_uses f v.value v.among_next) λ o x y a. by_function v.is a
+    | inr q ↦ let v = after_value_law (evaluate rows t) _ j q in uses_more (function_uses f v.value v.among_next) λ o x y a. by_function v.is a
   ]
   tree_uses (prefixed s t) p = uses_more (tree_uses t p) λ o x y a. in_prefixed a
   tree_uses (infixed s l r) p = elim (among_either j (used rows l) _ p) [
     | inl q ↦ uses_more (tree_uses l q) λ o x y a. in_left a
     | inr q ↦
-        let v = after-value (evaluate rows l) _ j q in
+        let v = after_value_law (evaluate rows l) _ j q in
         elim (among_either j (used rows r) _ v.among_next) [
           | inl q ↦ uses_more (tree_uses r q) λ o x y a. in_right v.is a
           | inr q ↦
-              let w = after-value (evaluate rows r) _ j q in
+              let w = after_value_law (evaluate rows r) _ j q in
               uses_more (infix_uses s v.value w.value w.among_next) λ o x y a. by_infix v.is w.is a
         ]
   ]
@@ -159,7 +159,7 @@ module _ (rows : Rows) (j : ℕ) where
   function_used exponent e = found_among e
   function_used square_root e = found_among e
   function_used cis_cosine e = among_left j _ _ (found_among e)
-  function_used {z = z} (cis_sine q) e = among-after (used_for rows Operation.Cosine z zero_number) (λ c. used_for rows Operation.Sine z zero_number) j q (found_among e)
+  function_used {z = z} (cis_sine q) e = among_after (used_for rows Operation.Cosine z zero_number) (λ c. used_for rows Operation.Sine z zero_number) j q (found_among e)
 
   pub infix_used : {s : InfixOperator} {o : Operation} {x y a b value : Complex} → ByInfix a b s o x y → function_row o x y rows.functions ≡ at j value → among j (used_by_infix rows s a b) ≡ true
   unfolding used_by_infix
@@ -172,9 +172,9 @@ module _ (rows : Rows) (j : ℕ) where
   pub tree_used : {t : Tree} {o : Operation} {x y value : Complex} → Asks rows t o x y → function_row o x y rows.functions ≡ at j value → among j (used rows t) ≡ true
   unfolding used
   tree_used (in_argument a) e = among_left j _ _ (tree_used a e)
-  tree_used (by_function {f = f} {t = t} q a) e = among-after (used rows t) (λ x. used_by_function rows f x) j q (function_used a e)
+  tree_used (by_function {f = f} {t = t} q a) e = among_after (used rows t) (λ x. used_by_function rows f x) j q (function_used a e)
   tree_used (in_prefixed a) e = tree_used a e
   tree_used (in_left a) e = among_left j _ _ (tree_used a e)
-  tree_used (in_right {s = s} {l = l} {r = r} q a) e = among-after (used rows l) (after_left s r) j q (among_left j (used rows r) _ (tree_used a e))
+  tree_used (in_right {s = s} {l = l} {r = r} q a) e = among_after (used rows l) (after_left s r) j q (among_left j (used rows r) _ (tree_used a e))
   tree_used (by_infix {s = s} {l = l} {r = r} {a = a} q q' h) e =
-      among-after (used rows l) (after_left s r) j q (among-after (used rows r) (λ y. used_by_infix rows s a y) j q' (infix_used h e))
+      among_after (used rows l) (after_left s r) j q (among_after (used rows r) (λ y. used_by_infix rows s a y) j q' (infix_used h e))

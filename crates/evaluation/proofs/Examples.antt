@@ -35,9 +35,9 @@ left_lack : evaluate nothing_bound (infixed InfixOperator.Plus a (function_call 
 unfolding evaluate and_then leaf_value bound value_of a nothing_bound
 left_lack = refl
 
-left-need : evaluate nothing_bound (infixed InfixOperator.Plus (function_call ExpressionFunction.Sine one) a) ≡ Evaluation.Need Operation.Sine one_number zero_number
+left_need : evaluate nothing_bound (infixed InfixOperator.Plus (function_call ExpressionFunction.Sine one) a) ≡ Evaluation.Need Operation.Sine one_number zero_number
 unfolding evaluate and_then leaf_value calculate_function given function_value one nothing_bound
-left-need = refl
+left_need = refl
 
 -- cis asks cos, then sin
 cis_cosine : evaluate nothing_bound (function_call ExpressionFunction.Cis one) ≡ Evaluation.Need Operation.Cosine one_number zero_number
@@ -65,13 +65,13 @@ at_the_limit : to_real (leaf (number (of_parts 0x3FF0_0000_0000_0000 0x3C9C_D2B2
 unfolding to_real real_part lt neg of_bits
 at_the_limit = refl
 
-below-the-limit : to_real (leaf (number (of_parts 0x3FF0_0000_0000_0000 0xBC9C_D2B2_97D8_89BB))) ≡ Real.Number one_number.re
+below_the_limit : to_real (leaf (number (of_parts 0x3FF0_0000_0000_0000 0xBC9C_D2B2_97D8_89BB))) ≡ Real.Number one_number.re
 unfolding to_real real_part lt neg of_bits
-below-the-limit = refl
+below_the_limit = refl
 
-nan-imaginary : to_real (leaf (number (of_parts 0 0x7FF8_0000_0000_0000))) ≡ Real.Refused Refusal.NotReal
+nan_imaginary : to_real (leaf (number (of_parts 0 0x7FF8_0000_0000_0000))) ≡ Real.Refused Refusal.NotReal
 unfolding to_real real_part lt neg of_bits
-nan-imaginary = refl
+nan_imaginary = refl
 
 no_number : to_real a ≡ Real.Refused Refusal.NotANumber
 unfolding to_real a

@@ -12,28 +12,28 @@ Known (Evaluation.Value z) = Unit {0}
 Known Evaluation.Incomplete = ⊥
 Known (Evaluation.Need operation x y) = Unit {0}
 
-given-known : (operation : Operation) (x y : Complex) (l : Lookup) → Known (given operation x y l)
+given_known : (operation : Operation) (x y : Complex) (l : Lookup) → Known (given operation x y l)
 unfolding given
-given-known operation x y (found z) = tt
-given-known operation x y missing = tt
+given_known operation x y (found z) = tt
+given_known operation x y missing = tt
 
-then-known : (a : Evaluation) (f : Complex → Evaluation) → Known a → ((z : Complex) → Known (f z)) → Known (and_then a f)
+then_known : (a : Evaluation) (f : Complex → Evaluation) → Known a → ((z : Complex) → Known (f z)) → Known (and_then a f)
 unfolding and_then
-then-known (Evaluation.Value z) f p q = q z
-then-known Evaluation.Incomplete f p q = p
-then-known (Evaluation.Need operation x y) f p q = tt
+then_known (Evaluation.Value z) f p q = q z
+then_known Evaluation.Incomplete f p q = p
+then_known (Evaluation.Need operation x y) f p q = tt
 
 module _ (R : Rows) where
   cis_known : (x : Complex) → Known (cis R x)
   unfolding cis
-  cis_known x = then-known (asked_one R Operation.Cosine x) _ (given-known Operation.Cosine x _ _) λ c. then-known (asked_one R Operation.Sine x) _ (given-known Operation.Sine x _ _) λ s. tt
+  cis_known x = then_known (asked_one R Operation.Cosine x) _ (given_known Operation.Cosine x _ _) λ c. then_known (asked_one R Operation.Sine x) _ (given_known Operation.Sine x _ _) λ s. tt
 
   pub function_known : (f : ExpressionFunction) (x : Complex) → Known (calculate_function R f x)
   unfolding calculate_function
-  function_known ExpressionFunction.Sine x = given-known Operation.Sine x _ _
-  function_known ExpressionFunction.Cosine x = given-known Operation.Cosine x _ _
-  function_known ExpressionFunction.Exponent x = given-known Operation.Exponent x _ _
-  function_known ExpressionFunction.SquareRoot x = given-known Operation.SquareRoot x _ _
+  function_known ExpressionFunction.Sine x = given_known Operation.Sine x _ _
+  function_known ExpressionFunction.Cosine x = given_known Operation.Cosine x _ _
+  function_known ExpressionFunction.Exponent x = given_known Operation.Exponent x _ _
+  function_known ExpressionFunction.SquareRoot x = given_known Operation.SquareRoot x _ _
   function_known ExpressionFunction.Cis x = cis_known x
 
   pub infix_known : (o : InfixOperator) (x y : Complex) → Known (calculate_infix R o x y)
@@ -42,4 +42,4 @@ module _ (R : Rows) where
   infix_known InfixOperator.Minus x y = tt
   infix_known InfixOperator.Star x y = tt
   infix_known InfixOperator.Slash x y = tt
-  infix_known InfixOperator.Caret x y = given-known Operation.Power x y _
+  infix_known InfixOperator.Caret x y = given_known Operation.Power x y _

@@ -57,16 +57,16 @@ module _ (rows : Rows) where
       passed _ _ k ∙ ap (λ x. and_then (evaluate rows (look x)) λ x. Evaluation.Value (calculate_prefix o x)) (sym (one_under (Expression.Prefix o b) a q))
   one_lacks look (Expression.Infix o b c) a q k = absurd (one_under (Expression.Infix o b c) a q)
 
-  left-lacks : (look : ℕ → Tree) (e : Expression) (a b : ℕ) → operands_of e ≡ Operands.Two a b → NoValue (evaluate rows (look a))
+  left_lacks : (look : ℕ → Tree) (e : Expression) (a b : ℕ) → operands_of e ≡ Operands.Two a b → NoValue (evaluate rows (look a))
       → evaluate rows (look a) ≡ evaluate rows (grown look e)
   unfolding operands_of IsTwo evaluate grown
-  left-lacks look (Expression.Number z) a b q k = absurd (two_under (Expression.Number z) a b q)
-  left-lacks look Expression.PiConstant a b q k = absurd (two_under Expression.PiConstant a b q)
-  left-lacks look (Expression.Variable v) a b q k = absurd (two_under (Expression.Variable v) a b q)
-  left-lacks look (Expression.Address region index) a b q k = absurd (two_under (Expression.Address region index) a b q)
-  left-lacks look (Expression.FunctionCall f c) a b q k = absurd (two_under (Expression.FunctionCall f c) a b q)
-  left-lacks look (Expression.Prefix o c) a b q k = absurd (two_under (Expression.Prefix o c) a b q)
-  left-lacks look (Expression.Infix o c d) a b q k =
+  left_lacks look (Expression.Number z) a b q k = absurd (two_under (Expression.Number z) a b q)
+  left_lacks look Expression.PiConstant a b q k = absurd (two_under Expression.PiConstant a b q)
+  left_lacks look (Expression.Variable v) a b q k = absurd (two_under (Expression.Variable v) a b q)
+  left_lacks look (Expression.Address region index) a b q k = absurd (two_under (Expression.Address region index) a b q)
+  left_lacks look (Expression.FunctionCall f c) a b q k = absurd (two_under (Expression.FunctionCall f c) a b q)
+  left_lacks look (Expression.Prefix o c) a b q k = absurd (two_under (Expression.Prefix o c) a b q)
+  left_lacks look (Expression.Infix o c d) a b q k =
       passed _ _ k ∙ ap (λ x. and_then (evaluate rows (look x)) λ x. and_then (evaluate rows (look d)) λ y. calculate_infix rows o x y) (sym (two_under (Expression.Infix o c d) a b q).0)
 
   -- or, where the left one has a value, of its right one
@@ -195,8 +195,8 @@ module _ (rows : Rows) where
     some_marked : (marks : List ℕ) {w marks' : List ℕ} → marks' ≡ noted w marks → Begins w (used rows (grown (tree_at m) (expression_at m node))) → noted (used rows (tree_at m node)) marks' ≡ noted (used rows (tree_at m node)) marks
     some_marked marks e b = rw own (ap (noted _) e ∙ begun_covered marks b)
 
-    every-marked : (marks : List ℕ) {w marks' : List ℕ} → marks' ≡ noted w marks → used rows (grown (tree_at m) (expression_at m node)) ≡ w → marks' ≡ noted (used rows (tree_at m node)) marks
-    every-marked marks e u = e ∙ ap (λ x. noted x marks) (sym u ∙ ap (used rows) (sym own))
+    every_marked : (marks : List ℕ) {w marks' : List ℕ} → marks' ≡ noted w marks → used rows (grown (tree_at m) (expression_at m node)) ≡ w → marks' ≡ noted (used rows (tree_at m node)) marks
+    every_marked marks e u = e ∙ ap (λ x. noted x marks) (sym u ∙ ap (used rows) (sym own))
 
     module _ {m' : Memory} {a r : ℕ} {marks marks' : List ℕ} (s : Settled rows n a r m m' (IsNumber m' a) marks marks') (i : a < n) where
       pub one_operand : operands ≡ Operands.One a → Settled rows n node r m m' (OverNumbers m' node) marks marks'
@@ -205,18 +205,18 @@ module _ (rows : Rows) where
         covered = some_marked marks (settled_marks s i) (one_begins rows (tree_at m) (expression_at m node) a (sym is ∙ told));
         done = λ x. over_numbers s.settling node (subst (Numbers m') (sym told ∙ is) (s.done x));
         lack = λ q. of_operand marks' s.settling i (one_lacks (tree_at m) (expression_at m node) a (sym is ∙ told)) (s.lack q);
-        all = λ q. every-marked marks (settled_marks s i) (one_all rows (tree_at m) (expression_at m node) a (sym is ∙ told) (lacking marks' s.settling i (s.lack q)));
+        all = λ q. every_marked marks (settled_marks s i) (one_all rows (tree_at m) (expression_at m node) a (sym is ∙ told) (lacking marks' s.settling i (s.lack q)));
       }
 
       module _ {b : ℕ} (told : operands ≡ Operands.Two a b) where
         pub left_operand : (r ≡ 0 → ⊥) → Settled rows n node r m m' (OverNumbers m' node) marks marks'
         left_operand q =
-            let whole = every-marked marks (settled_marks s i) (left_all rows (tree_at m) (expression_at m node) a b (sym is ∙ told) (lacking marks' s.settling i (s.lack q))) in
+            let whole = every_marked marks (settled_marks s i) (left_all rows (tree_at m) (expression_at m node) a b (sym is ∙ told) (lacking marks' s.settling i (s.lack q))) in
             record {
               settling = s.settling;
               covered = ap (noted (used rows (tree_at m node))) whole ∙ noted_again (used rows (tree_at m node)) marks;
               done = λ x. absurd (q x);
-              lack = λ q. of_operand marks' s.settling i (left-lacks (tree_at m) (expression_at m node) a b (sym is ∙ told)) (s.lack q);
+              lack = λ q. of_operand marks' s.settling i (left_lacks (tree_at m) (expression_at m node) a b (sym is ∙ told)) (s.lack q);
               all = λ q. whole;
             }
 
@@ -236,5 +236,5 @@ module _ (rows : Rows) where
             covered = some_marked marks both-marked (both_begin rows (tree_at m) (expression_at m node) a b (sym is ∙ told) left-value);
             done = λ x. over_numbers both node (subst (Numbers m'') (sym told ∙ is) (stays_number t.settling a (s.done z), t.done x));
             lack = λ q. of_operand marks'' both j (right_lacks (tree_at m) (expression_at m node) a b (sym is ∙ told) (number_at m' a) left-value) (t.lack q);
-            all = λ q. every-marked marks both-marked (both_all rows (tree_at m) (expression_at m node) a b (sym is ∙ told) left-value (lacking marks'' both j (t.lack q)));
+            all = λ q. every_marked marks both-marked (both_all rows (tree_at m) (expression_at m node) a b (sym is ∙ told) left-value (lacking marks'' both j (t.lack q)));
           }

@@ -49,9 +49,9 @@ module _ (j : ℕ) {next next' : Complex → Evaluation} {rows rows' : Complex �
   after_value_lem Evaluation.Incomplete n = record { answer = refl; used = refl }
   after_value_lem (Evaluation.Need operation x y) n = record { answer = refl; used = refl }
 
-  in-turn : {e e' : Evaluation} {u u' : List ℕ} → (among j u ≡ false → Same j e e' u u') → among j (u ++ after_value e rows) ≡ false
+  in_turn : {e e' : Evaluation} {u u' : List ℕ} → (among j u ≡ false → Same j e e' u u') → among j (u ++ after_value e rows) ≡ false
       → Same j (and_then e next) (and_then e' next') (u ++ after_value e rows) (u' ++ after_value e' rows')
-  in-turn {e} {u = u} first n =
+  in_turn {e} {u = u} first n =
       let b = among_neither j u (after_value e rows) n in
       let s = first b.0 in
       let a = after_value_lem e b.1 in
@@ -74,7 +74,7 @@ module _ (rows : Rows) (j : ℕ) where
   function_same ExpressionFunction.Cosine x n = asked_same Operation.Cosine x zero_number n
   function_same ExpressionFunction.Exponent x n = asked_same Operation.Exponent x zero_number n
   function_same ExpressionFunction.SquareRoot x n = asked_same Operation.SquareRoot x zero_number n
-  function_same ExpressionFunction.Cis x n = in-turn j (λ c n. then_plain j _ (asked_same Operation.Sine x zero_number n)) (λ n. asked_same Operation.Cosine x zero_number n) n
+  function_same ExpressionFunction.Cis x n = in_turn j (λ c n. then_plain j _ (asked_same Operation.Sine x zero_number n)) (λ n. asked_same Operation.Cosine x zero_number n) n
 
   pub infix_same : (o : InfixOperator) (x y : Complex) → among j (used_by_infix rows o x y) ≡ false
       → Same j (calculate_infix rows o x y) (calculate_infix (without_row j rows) o x y) (used_by_infix rows o x y) (used_by_infix (without_row j rows) o x y)
@@ -92,19 +92,19 @@ module _ (rows : Rows) (j : ℕ) where
   leaf_same (variable v) = refl
   leaf_same (cell region index) = refl
 
-  tree-same : (t : Tree) → among j (used rows t) ≡ false → Same j (evaluate rows t) (evaluate (without_row j rows) t) (used rows t) (used (without_row j rows) t)
+  tree_same : (t : Tree) → among j (used rows t) ≡ false → Same j (evaluate rows t) (evaluate (without_row j rows) t) (used rows t) (used (without_row j rows) t)
   unfolding evaluate used
-  tree-same (leaf l) n = record { answer = leaf_same l; used = refl }
-  tree-same (function_call f t) n = in-turn j (λ x n. function_same f x n) (λ n. tree-same t n) n
-  tree-same (prefixed o t) n = then_plain j _ (tree-same t n)
-  tree-same (infixed o l r) n = in-turn j (λ x n. in-turn j (λ y n. infix_same o x y n) (λ n. tree-same r n) n) (λ n. tree-same l n) n
+  tree_same (leaf l) n = record { answer = leaf_same l; used = refl }
+  tree_same (function_call f t) n = in_turn j (λ x n. function_same f x n) (λ n. tree_same t n) n
+  tree_same (prefixed o t) n = then_plain j _ (tree_same t n)
+  tree_same (infixed o l r) n = in_turn j (λ x n. in_turn j (λ y n. infix_same o x y n) (λ n. tree_same r n) n) (λ n. tree_same l n) n
 
   -- a row that is not used can be taken away with no change of the answer
   pub evaluates_without : (t : Tree) → among j (used rows t) ≡ false → evaluate (without_row j rows) t ≡ evaluate rows t
-  evaluates_without t n = (tree-same t n).answer
+  evaluates_without t n = (tree_same t n).answer
 
   pub uses_without : (t : Tree) → among j (used rows t) ≡ false → used (without_row j rows) t ≡ map (renumbered j) (used rows t)
-  uses_without t n = (tree-same t n).used
+  uses_without t n = (tree_same t n).used
 
   -- so it is where the row's mark is 0
   pub evaluates_unmarked : (t : Tree) → j < most_marks → get_or (marks_of (used rows t)) j 0 ≡ 0 → evaluate (without_row j rows) t ≡ evaluate rows t

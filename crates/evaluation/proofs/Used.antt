@@ -68,41 +68,41 @@ module _ (rows : Rows) where
     called : ExpressionFunction → Evaluation × List ℕ → Evaluation × List ℕ
     called f w = (and_then w.0 (λ x. calculate_function rows f x), noted (after_value w.0 λ x. used_by_function rows f x) w.1)
 
-    call-given : (f : ExpressionFunction) (t : Tree) → given rows marks (function_call f t) ≡ called f (given rows marks t)
+    call_given : (f : ExpressionFunction) (t : Tree) → given rows marks (function_call f t) ≡ called f (given rows marks t)
     unfolding evaluate used called given
-    call-given f t = ap (λ x. (and_then (evaluate rows t) (λ x. calculate_function rows f x), x)) (noted_append (used rows t) _ marks)
+    call_given f t = ap (λ x. (and_then (evaluate rows t) (λ x. calculate_function rows f x), x)) (noted_append (used rows t) _ marks)
 
     signed : PrefixOperator → Evaluation × List ℕ → Evaluation × List ℕ
     signed o w = (and_then w.0 (λ x. Evaluation.Value (calculate_prefix o x)), w.1)
 
-    sign-given : (o : PrefixOperator) (t : Tree) → given rows marks (prefixed o t) ≡ signed o (given rows marks t)
+    sign_given : (o : PrefixOperator) (t : Tree) → given rows marks (prefixed o t) ≡ signed o (given rows marks t)
     unfolding evaluate used signed given
-    sign-given o t = refl
+    sign_given o t = refl
 
     before : InfixOperator → Tree → Evaluation × List ℕ → Evaluation × List ℕ
     before o t w =
         (and_then w.0 (λ x. and_then (evaluate rows t) λ y. calculate_infix rows o x y), noted (after_value w.0 λ x. used rows t ++ after_value (evaluate rows t) λ y. used_by_infix rows o x y) w.1)
 
-    infix-given : (o : InfixOperator) (s t : Tree) → given rows marks (infixed o s t) ≡ before o t (given rows marks s)
+    infix_given : (o : InfixOperator) (s t : Tree) → given rows marks (infixed o s t) ≡ before o t (given rows marks s)
     unfolding evaluate used before given
-    infix-given o s t = ap (λ x. (and_then (evaluate rows s) (λ x. and_then (evaluate rows t) λ y. calculate_infix rows o x y), x)) (noted_append (used rows s) _ marks)
+    infix_given o s t = ap (λ x. (and_then (evaluate rows s) (λ x. and_then (evaluate rows t) λ y. calculate_infix rows o x y), x)) (noted_append (used rows s) _ marks)
 
     last : InfixOperator → Complex → Evaluation × List ℕ → Evaluation × List ℕ
     last o x w = (and_then w.0 (λ y. calculate_infix rows o x y), noted (after_value w.0 λ y. used_by_infix rows o x y) w.1)
 
-    same-last : (t v : Tree) (a : List ℕ) → given rows marks t ≡ given rows marks v → given rows (noted a marks) t ≡ given rows (noted a marks) v
+    same_last : (t v : Tree) (a : List ℕ) → given rows marks t ≡ given rows marks v → given rows (noted a marks) t ≡ given rows (noted a marks) v
     unfolding given
-    same-last t v a q = λ i. ((q i).0, noted_more (used rows t) (used rows v) a marks (λ j. (q j).1) i)
+    same_last t v a q = λ i. ((q i).0, noted_more (used rows t) (used rows v) a marks (λ j. (q j).1) i)
 
-    of-last : (o : InfixOperator) (x : Complex) (t : Tree) (m : List ℕ)
+    of_last : (o : InfixOperator) (x : Complex) (t : Tree) (m : List ℕ)
         → ◌≡◌ {A = Evaluation × List ℕ} (and_then (evaluate rows t) (λ y. calculate_infix rows o x y), noted (used rows t ++ after_value (evaluate rows t) λ y. used_by_infix rows o x y) m)
         (last o x (given rows m t))
     unfolding last given
-    of-last o x t m = ap (λ u. (and_then (evaluate rows t) (λ y. calculate_infix rows o x y), u)) (noted_append (used rows t) _ m)
+    of_last o x t m = ap (λ u. (and_then (evaluate rows t) (λ y. calculate_infix rows o x y), u)) (noted_append (used rows t) _ m)
 
     right : (o : InfixOperator) (t v : Tree) (w : Evaluation) (a : List ℕ) → given rows marks t ≡ given rows marks v → before o t (w, noted a marks) ≡ before o v (w, noted a marks)
     unfolding before and_then after_value
-    right o t v (Evaluation.Value x) a q = of-last o x t (noted a marks) ∙ ap (last o x) (same-last t v a q) ∙ sym (of-last o x v (noted a marks))
+    right o t v (Evaluation.Value x) a q = of_last o x t (noted a marks) ∙ ap (last o x) (same_last t v a q) ∙ sym (of_last o x v (noted a marks))
     right o t v Evaluation.Incomplete a q = refl
     right o t v (Evaluation.Need operation x y) a q = refl
 
@@ -110,9 +110,9 @@ module _ (rows : Rows) where
     pub by_parts : Compositional (given rows marks)
     unfolding given
     by_parts = record {
-      calls = λ f t u p. call-given f t ∙ ap (called f) p ∙ sym (call-given f u);
-      prefixes = λ o t u p. sign-given o t ∙ ap (signed o) p ∙ sym (sign-given o u);
-      infixes = λ o s t u v p q. infix-given o s t ∙ ap (before o t) p ∙ right o t v (evaluate rows u) (used rows u) q ∙ sym (infix-given o u v);
+      calls = λ f t u p. call_given f t ∙ ap (called f) p ∙ sym (call_given f u);
+      prefixes = λ o t u p. sign_given o t ∙ ap (signed o) p ∙ sym (sign_given o u);
+      infixes = λ o s t u v p q. infix_given o s t ∙ ap (before o t) p ∙ right o t v (evaluate rows u) (used rows u) q ∙ sym (infix_given o u v);
     }
 
   -- where more is marked the same nodes give the same

@@ -64,23 +64,23 @@ module _ (rows : Rows) (x : Complex) where
   from_both : (cosine sine : Complex) → Evaluation
   from_both cosine sine = Evaluation.Value (plus cosine (times imaginary_unit sine))
 
-  from-cosine : Complex → Evaluation
-  from-cosine cosine = and_then (asked rows Operation.Sine x zero_number) (from_both cosine)
+  from_cosine : Complex → Evaluation
+  from_cosine cosine = and_then (asked rows Operation.Sine x zero_number) (from_both cosine)
 
   module _ {zero₁ : Complex} {first : Evaluation} (z₁ : zero₁ ≡ zero_number) (p : first ≡ asked rows Operation.Cosine x zero₁) where
     pub cis_lacks_cosine : Lacks first → first ≡ cis rows x
-    unfolding cis from-cosine from_both
-    cis_lacks_cosine k = passed_on from-cosine (rw z₁ at p) k
+    unfolding cis from_cosine from_both
+    cis_lacks_cosine k = passed_on from_cosine (rw z₁ at p) k
 
     module _ {cosine zero₂ : Complex} {second : Evaluation} (v : first ≡ Evaluation.Value cosine) (z₂ : zero₂ ≡ zero_number) (q : second ≡ asked rows Operation.Sine x zero₂) where
       pub cis_lacks_sine : Lacks second → second ≡ cis rows x
-      unfolding cis from-cosine from_both
-      cis_lacks_sine k = passed_on (from_both cosine) (rw z₂ at q) k ∙ goes_on from-cosine (rw z₁ at p) v
+      unfolding cis from_cosine from_both
+      cis_lacks_sine k = passed_on (from_both cosine) (rw z₂ at q) k ∙ goes_on from_cosine (rw z₁ at p) v
 
       pub cis_is : {sine unit product value : Complex} → second ≡ Evaluation.Value sine → unit ≡ imaginary_unit → product ≡ times unit sine → value ≡ plus cosine product
           → Evaluation.Value value ≡ cis rows x
-      unfolding cis from-cosine from_both
-      cis_is u i t s = rw (s, t, i) (goes_on (from_both cosine) (rw z₂ at q) u ∙ goes_on from-cosine (rw z₁ at p) v)
+      unfolding cis from_cosine from_both
+      cis_is u i t s = rw (s, t, i) (goes_on (from_both cosine) (rw z₂ at q) u ∙ goes_on from_cosine (rw z₁ at p) v)
 
 -- ---- the rows that were used
 
@@ -117,19 +117,19 @@ module _ (rows : Rows) (x : Complex) {zero₁ : Complex} (z₁ : zero₁ ≡ zer
   cosine_asked : a.value ≡ asked_one rows Operation.Cosine x
   cosine_asked = rw z₁ at p.0
 
-  cosine-used : numbered a.used.first ≡ used_for_one rows Operation.Cosine x
-  cosine-used = rw z₁ at p.1
+  cosine_used : numbered a.used.first ≡ used_for_one rows Operation.Cosine x
+  cosine_used = rw z₁ at p.1
 
   pub cis_without_cosine : Lacks a.value → Answers (cis rows x) (used_by_function rows ExpressionFunction.Cis x) a
   unfolding used_by_function
   cis_without_cosine k =
-      (cis_lacks_cosine rows x z₁ p.0 k, one_row a.used cosine-used p.2 ∙ sym (append-nil _) ∙ ap (λ l. used_for_one rows Operation.Cosine x ++ l) (sym (none_after a.value _ k) ∙ ap (λ w. after_value w λ cosine. used_for_one rows Operation.Sine x) cosine_asked))
+      (cis_lacks_cosine rows x z₁ p.0 k, one_row a.used cosine_used p.2 ∙ sym (append-nil _) ∙ ap (λ l. used_for_one rows Operation.Cosine x ++ l) (sym (none_after a.value _ k) ∙ ap (λ w. after_value w λ cosine. used_for_one rows Operation.Sine x) cosine_asked))
 
   module _ {cosine zero₂ : Complex} (v : a.value ≡ Evaluation.Value cosine) (z₂ : zero₂ ≡ zero_number) (b : Asked)
       (q : AnswersOne (asked rows Operation.Sine x zero₂) (used_for rows Operation.Sine x zero₂) b) where
     cis_used : numbered a.used.first ++ numbered b.used.first ≡ used_by_function rows ExpressionFunction.Cis x
     unfolding used_by_function after_value
-    cis_used = (λ i. cosine-used i ++ (rw z₂ at q.1) i) ∙ ap (λ w. used_for_one rows Operation.Cosine x ++ after_value w λ cosine. used_for_one rows Operation.Sine x) (sym v ∙ cosine_asked)
+    cis_used = (λ i. cosine_used i ++ (rw z₂ at q.1) i) ∙ ap (λ w. used_for_one rows Operation.Cosine x ++ after_value w λ cosine. used_for_one rows Operation.Sine x) (sym v ∙ cosine_asked)
 
     pub cis_without_sine : {r : Evaluation} → r ≡ b.value → Lacks r → (r ≡ cis rows x) × (numbered a.used.first ++ numbered b.used.first ≡ used_by_function rows ExpressionFunction.Cis x)
     cis_without_sine e k = (cis_lacks_sine rows x z₁ p.0 v z₂ (e ∙ q.0) k, cis_used)

@@ -15,10 +15,10 @@ use Rattle.calls.proofs.Refusing.{refusal_some}
 use Rattle.calls.proofs.TapeBytes.{written_plays_with_more, written_plays_unless_full}
 use Rattle.exports.specs.Words.{carried_words, evaluated_words, written_words, first_word, Evaluates, Compiles, Plays}
 
-first-carried : (number : ℕ) (c : Carried) → first_word (carried_words number c) ≡ number
+first_carried : (number : ℕ) (c : Carried) → first_word (carried_words number c) ≡ number
 unfolding carried_words first_word
-first-carried number (place k) = refl
-first-carried number (lacking operation x y) = refl
+first_carried number (place k) = refl
+first_carried number (lacking operation x y) = refl
 
 -- compiling answered 0: the tape is the start of the output, as long as the second word says
 module _ {list out answer out' : List ℕ} {w w' : Work} (compiled : Compiles list out w 0 answer out' w') where
@@ -26,7 +26,7 @@ module _ {list out answer out' : List ℕ} {w w' : Work} (compiled : Compiles li
   unfolding written_words
   length_is (Written.Bytes bytes) e = ap Written.Bytes (sym (ap (λ a. get_or a 1 0) (compiled.answered.words ∙ ap written_words e)))
   length_is (Written.Refused why) e =
-      let z = compiled.answered.number ∙ ap (λ x. first_word (written_words x)) e ∙ first-carried (number_of why) (carries why) in
+      let z = compiled.answered.number ∙ ap (λ x. first_word (written_words x)) e ∙ first_carried (number_of why) (carries why) in
       absurd (omega (arith, z, (refusal_some why).0))
 
   wrote : compile_call (capacity w) list out ≡ (Written.Bytes (get_or answer 1 0), out')

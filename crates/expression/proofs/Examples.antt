@@ -47,22 +47,22 @@ sizes = tt
 zero : Tree
 zero = leaf (number (of_parts 0 0))
 
-minusZero : Tree
-minusZero = leaf (number (of_parts 0x8000_0000_0000_0000 0))
+minus_zero : Tree
+minus_zero = leaf (number (of_parts 0x8000_0000_0000_0000 0))
 
 -- 0 and -0 are equal trees and not identical, also inside others; NaN is identical to NaN, whatever its bits were
 likenesses : T (all
-    (equal zero minusZero
-    ∷ not (identical zero minusZero)
-    ∷ equal (infixed InfixOperator.Plus a zero) (infixed InfixOperator.Plus a minusZero)
-    ∷ not (identical (infixed InfixOperator.Plus a zero) (infixed InfixOperator.Plus a minusZero))
+    (equal zero minus_zero
+    ∷ not (identical zero minus_zero)
+    ∷ equal (infixed InfixOperator.Plus a zero) (infixed InfixOperator.Plus a minus_zero)
+    ∷ not (identical (infixed InfixOperator.Plus a zero) (infixed InfixOperator.Plus a minus_zero))
     ∷ identical (leaf (number (of_parts 0x7FF8_0000_0000_0000 0))) (leaf (number (of_parts 0xFFF0_0000_0000_0001 0)))
     ∷ not (equal neighbour turned)
     ∷ not (equal (infixed InfixOperator.Plus a b) (infixed InfixOperator.Plus b a))
     ∷ not (equal (leaf (cell 0 1)) (leaf (cell 1 0)))
     ∷ not (equal (leaf (variable 0)) (leaf (cell 0 0)))
     ∷ []))
-unfolding all a b neighbour turned zero minusZero alike alike_leaves Numbers.identical Numbers.equal Numbers.identical_doubles Numbers.equal_doubles eq is_nan to_bits of_bits
+unfolding all a b neighbour turned zero minus_zero alike alike_leaves Numbers.identical Numbers.equal Numbers.identical_doubles Numbers.equal_doubles eq is_nan to_bits of_bits
 likenesses = tt
 
 -- 01's table and 02's five: the number of each, and the place that it carries

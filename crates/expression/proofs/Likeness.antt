@@ -40,33 +40,33 @@ module _ {R : Complex → Complex → Type 0} where
   like_refl f (prefixed o t) = prefixes o (like_refl f t)
   like_refl f (infixed o l r) = infixes o (like_refl f l) (like_refl f r)
 
-  like-sym : ((x y : Complex) → R x y → R y x) → {s t : Tree} → Like R s t → Like R t s
-  like-sym f (numbers p) = numbers (f _ _ p)
-  like-sym f pis = pis
-  like-sym f (variables v) = variables v
-  like-sym f (cells r i) = cells r i
-  like-sym f (functions g p) = functions g (like-sym f p)
-  like-sym f (prefixes o p) = prefixes o (like-sym f p)
-  like-sym f (infixes o p q) = infixes o (like-sym f p) (like-sym f q)
+  like_sym : ((x y : Complex) → R x y → R y x) → {s t : Tree} → Like R s t → Like R t s
+  like_sym f (numbers p) = numbers (f _ _ p)
+  like_sym f pis = pis
+  like_sym f (variables v) = variables v
+  like_sym f (cells r i) = cells r i
+  like_sym f (functions g p) = functions g (like_sym f p)
+  like_sym f (prefixes o p) = prefixes o (like_sym f p)
+  like_sym f (infixes o p q) = infixes o (like_sym f p) (like_sym f q)
 
-  like-trans : ((x y z : Complex) → R x y → R y z → R x z) → {s t u : Tree} → Like R s t → Like R t u → Like R s u
-  like-trans f (numbers p) (numbers q) = numbers (f _ _ _ p q)
-  like-trans f pis pis = pis
-  like-trans f (variables v) (variables w) = variables v
-  like-trans f (cells r i) (cells q j) = cells r i
-  like-trans f (functions g p) (functions h q) = functions g (like-trans f p q)
-  like-trans f (prefixes o p) (prefixes o' q) = prefixes o (like-trans f p q)
-  like-trans f (infixes o p q) (infixes o' p' q') = infixes o (like-trans f p p') (like-trans f q q')
+  like_trans : ((x y z : Complex) → R x y → R y z → R x z) → {s t u : Tree} → Like R s t → Like R t u → Like R s u
+  like_trans f (numbers p) (numbers q) = numbers (f _ _ _ p q)
+  like_trans f pis pis = pis
+  like_trans f (variables v) (variables w) = variables v
+  like_trans f (cells r i) (cells q j) = cells r i
+  like_trans f (functions g p) (functions h q) = functions g (like_trans f p q)
+  like_trans f (prefixes o p) (prefixes o' q) = prefixes o (like_trans f p q)
+  like_trans f (infixes o p q) (infixes o' p' q') = infixes o (like_trans f p p') (like_trans f q q')
 
-  like-measure : (both : ℕ → ℕ → ℕ) {s t : Tree} → Like R s t → measure both s ≡ measure both t
+  like_measure : (both : ℕ → ℕ → ℕ) {s t : Tree} → Like R s t → measure both s ≡ measure both t
   unfolding measure
-  like-measure both (numbers p) = refl
-  like-measure both pis = refl
-  like-measure both (variables v) = refl
-  like-measure both (cells r i) = refl
-  like-measure both (functions g p) = ap (λ k. 1 + k) (like-measure both p)
-  like-measure both (prefixes o p) = ap (λ k. 1 + k) (like-measure both p)
-  like-measure both (infixes o p q) = let a = like-measure both p in let b = like-measure both q in λ i. 1 + both (a i) (b i)
+  like_measure both (numbers p) = refl
+  like_measure both pis = refl
+  like_measure both (variables v) = refl
+  like_measure both (cells r i) = refl
+  like_measure both (functions g p) = ap (λ k. 1 + k) (like_measure both p)
+  like_measure both (prefixes o p) = ap (λ k. 1 + k) (like_measure both p)
+  like_measure both (infixes o p q) = let a = like_measure both p in let b = like_measure both q in λ i. 1 + both (a i) (b i)
 
 -- ---- from the test to the relation, and back
 
@@ -141,11 +141,11 @@ module _ (same : Complex → Complex → Bool) where
   alike_refl : ((x : Complex) → R x x) → (t : Tree) → T (alike same t t)
   alike_refl f t = test_of (like_refl f t)
 
-  alike-sym : ((x y : Complex) → R x y → R y x) → (s t : Tree) → T (alike same s t) → T (alike same t s)
-  alike-sym f s t p = test_of (like-sym f (like_of s t p))
+  alike_sym : ((x y : Complex) → R x y → R y x) → (s t : Tree) → T (alike same s t) → T (alike same t s)
+  alike_sym f s t p = test_of (like_sym f (like_of s t p))
 
-  alike-trans : ((x y z : Complex) → R x y → R y z → R x z) → (s t u : Tree) → T (alike same s t) → T (alike same t u) → T (alike same s u)
-  alike-trans f s t u p q = test_of (like-trans f (like_of s t p) (like_of t u q))
+  alike_trans : ((x y z : Complex) → R x y → R y z → R x z) → (s t u : Tree) → T (alike same s t) → T (alike same t u) → T (alike same s u)
+  alike_trans f s t u p q = test_of (like_trans f (like_of s t p) (like_of t u q))
 
 -- ---- identical trees
 
@@ -153,10 +153,10 @@ pub identical_refl : (t : Tree) → T (identical t t)
 identical_refl = alike_refl Numbers.identical Pairs.identical_refl
 
 pub identical_sym : (s t : Tree) → T (identical s t) → T (identical t s)
-identical_sym = alike-sym Numbers.identical Pairs.identical_sym
+identical_sym = alike_sym Numbers.identical Pairs.identical_sym
 
 pub identical_trans : (s t u : Tree) → T (identical s t) → T (identical t u) → T (identical s u)
-identical_trans = alike-trans Numbers.identical Pairs.identical_trans
+identical_trans = alike_trans Numbers.identical Pairs.identical_trans
 
 -- ---- equal trees
 
@@ -164,16 +164,16 @@ pub equal_refl : (t : Tree) → T (equal t t)
 equal_refl = alike_refl Numbers.equal Pairs.equal_refl
 
 pub equal_sym : (s t : Tree) → T (equal s t) → T (equal t s)
-equal_sym = alike-sym Numbers.equal Pairs.equal_sym
+equal_sym = alike_sym Numbers.equal Pairs.equal_sym
 
 pub equal_trans : (s t u : Tree) → T (equal s t) → T (equal t u) → T (equal s u)
-equal_trans = alike-trans Numbers.equal Pairs.equal_trans
+equal_trans = alike_trans Numbers.equal Pairs.equal_trans
 
 pub equal_size : (s t : Tree) → T (equal s t) → size s ≡ size t
-equal_size s t h = size_is s ∙ like-measure ◌+◌ (like_of Numbers.equal s t h) ∙ sym (size_is t)
+equal_size s t h = size_is s ∙ like_measure ◌+◌ (like_of Numbers.equal s t h) ∙ sym (size_is t)
 
 pub equal_depth : (s t : Tree) → T (equal s t) → depth s ≡ depth t
-equal_depth s t h = depth_is s ∙ like-measure max (like_of Numbers.equal s t h) ∙ sym (depth_is t)
+equal_depth s t h = depth_is s ∙ like_measure max (like_of Numbers.equal s t h) ∙ sym (depth_is t)
 
 -- equal trees pass the same tests of equality
 pub equal_tests : (s t : Tree) → T (equal s t) → (u : Tree) → equal s u ≡ equal t u

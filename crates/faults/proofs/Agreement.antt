@@ -41,9 +41,9 @@ differ e = let z : ◌≡◌ {A = ℕ} 0 1 = cc in absurd (omega arith)
 abbrev Any : Rows.Rows → Type 0
 Any s = Unit {0}
 
-sheet-next : (before : Rows.Rows) (b : ℕ) (bs : List ℕ) (after : Rows.Rows) (rest : List ℕ) → Any before → sheet_line before b bs ≡ goes after rest
+sheet_next : (before : Rows.Rows) (b : ℕ) (bs : List ℕ) (after : Rows.Rows) (rest : List ℕ) → Any before → sheet_line before b bs ≡ goes after rest
     → Next Rows.line_number Any before after (b ∷ bs) rest
-sheet-next before b bs after rest f e =
+sheet_next before b bs after rest f e =
     let t = sheet_took before b bs e in
     let h = sheet_feedless b (b ∷ bs) in
     record { ends = ends_at t.passes h.0 h.1; one = t.line; fine = tt }
@@ -57,32 +57,32 @@ module _ (s : Rows.Rows) {k : ℕ} where
   long_sheet : {A : Type 0} {n : ℕ} → ◌≡◌ {A = Line Rows.Rows Refusal} (stops (Refusal.LongSheet n)) (stops (Refusal.BadSheet k)) → A
   long_sheet e = let z : ◌≡◌ {A = ℕ} 0 1 = cc in absurd (omega arith)
 
-  bad-formed : {A : Type 0} (inOrder : A → Bool) (with : A → Rows.Rows) (r : Read A) → Rows.formed s inOrder with r ≡ stops (Refusal.BadSheet k) → Rows.line_number s ≡ k
+  bad_formed : {A : Type 0} (inOrder : A → Bool) (with : A → Rows.Rows) (r : Read A) → Rows.formed s inOrder with r ≡ stops (Refusal.BadSheet k) → Rows.line_number s ≡ k
   unfolding Rows.formed
-  bad-formed inOrder with bad e = cc
-  bad-formed inOrder with (is x rest) e = go (inOrder x) e
+  bad_formed inOrder with bad e = cc
+  bad_formed inOrder with (is x rest) e = go (inOrder x) e
     where
       go : (b : Bool) → cond b (goes (with x) rest) (stops (Refusal.BadSheet (Rows.line_number s))) ≡ stops (Refusal.BadSheet k) → Rows.line_number s ≡ k
       go true e = differ e
       go false e = cc
 
-  bad-counted : {A B : Type 0} (most : ℕ) (those : List B) (inOrder : A → Bool) (with : A → Rows.Rows) (r : Read A)
+  bad_counted : {A B : Type 0} (most : ℕ) (those : List B) (inOrder : A → Bool) (with : A → Rows.Rows) (r : Read A)
       → Rows.counted s most those (Rows.formed s inOrder with r) ≡ stops (Refusal.BadSheet k) → Rows.line_number s ≡ k
   unfolding Rows.counted
-  bad-counted most those inOrder with r e = go (ltb (length those) most) e
+  bad_counted most those inOrder with r e = go (ltb (length those) most) e
     where
       go : (b : Bool) → cond b (Rows.formed s inOrder with r) (stops (Refusal.LongSheet (Rows.line_number s))) ≡ stops (Refusal.BadSheet k) → Rows.line_number s ≡ k
-      go true e = bad-formed inOrder with r e
+      go true e = bad_formed inOrder with r e
       go false e = long_sheet e
 
-  bad-sheet : (first : ℕ) (bs : List ℕ) → sheet_line s first bs ≡ stops (Refusal.BadSheet k) → Rows.line_number s ≡ k
+  bad_sheet : (first : ℕ) (bs : List ℕ) → sheet_line s first bs ≡ stops (Refusal.BadSheet k) → Rows.line_number s ≡ k
   unfolding sheet_line Rows.variable_line Rows.cell_line Rows.function_line
-  bad-sheet first bs e = elim (ℕ_discrete first 118) [
-    | yes q ↦ bad-counted 256 s.variables _ _ (fields_after first bs Rows.variable_fields) (rw (eq-eqb first 118 q) at e)
+  bad_sheet first bs e = elim (ℕ_discrete first 118) [
+    | yes q ↦ bad_counted 256 s.variables _ _ (fields_after first bs Rows.variable_fields) (rw (eq-eqb first 118 q) at e)
     | no v ↦ elim (ℕ_discrete first 109) [
-      | yes q ↦ bad-counted 1024 s.cells _ _ (fields_after first bs Rows.cell_fields) (rw (ne_eqb first 118 v, eq-eqb first 109 q) at e)
+      | yes q ↦ bad_counted 1024 s.cells _ _ (fields_after first bs Rows.cell_fields) (rw (ne_eqb first 118 v, eq-eqb first 109 q) at e)
       | no m ↦ elim (ℕ_discrete first 116) [
-        | yes q ↦ bad-counted 256 s.functions _ _ (fields_after first bs Rows.row_fields) (rw (ne_eqb first 118 v, ne_eqb first 109 m, eq-eqb first 116 q) at e)
+        | yes q ↦ bad_counted 256 s.functions _ _ (fields_after first bs Rows.row_fields) (rw (ne_eqb first 118 v, ne_eqb first 109 m, eq-eqb first 116 q) at e)
         | no n ↦ let f = rw (ne_eqb first 118 v, ne_eqb first 109 m, ne_eqb first 116 n) at e in cc
       ]
     ]
@@ -101,8 +101,8 @@ pub record SheetLine (text : List ℕ) (k : ℕ) : Type 0 where
 pub sheet_fault_of : (text : List ℕ) (k : ℕ) → sheet text ≡ Lines.refused (Refusal.BadSheet k) → SheetLine text k
 unfolding sheet
 sheet_fault_of text k e =
-    let r = refused_at sheet_line Rows.line_number Any sheet-next (Refusal.BadSheet k) (rows [] [] []) text tt e in
-    let n = bad-sheet r.known r.first r.rest r.stop in
+    let r = refused_at sheet_line Rows.line_number Any sheet_next (Refusal.BadSheet k) (rows [] [] []) text tt e in
+    let n = bad_sheet r.known r.first r.rest r.stop in
     let m : r.taken ≡ k = omega (arith, r.counted, n) in
     let t : from_line k text ≡ r.first ∷ r.rest = rw m at r.there in
     record { known = r.known; first = r.first; rest = r.rest; there = t; number = n; not_taken = r.stop; fault = sheet_told text k r.first r.rest t }
@@ -112,9 +112,9 @@ sheet_fault_of text k e =
 abbrev Few : Known → Type 0
 Few k = length k.nodes ≤ most_nodes
 
-listing-next : (substituting : Bool) (before : Known) (b : ℕ) (bs : List ℕ) (after : Known) (rest : List ℕ) → Few before → listing_line substituting before b bs ≡ goes after rest
+listing_next : (substituting : Bool) (before : Known) (b : ℕ) (bs : List ℕ) (after : Known) (rest : List ℕ) → Few before → listing_line substituting before b bs ≡ goes after rest
     → Next line_number Few before after (b ∷ bs) rest
-listing-next substituting before b bs after rest f e =
+listing_next substituting before b bs after rest f e =
     let t = listing_took substituting before b bs f e in
     let h = listing_feedless b (b ∷ bs) in
     record { ends = ends_at t.passes h.0 h.1; one = t.line; fine = t.few }
@@ -142,30 +142,30 @@ module _ (s : Known) {k : ℕ} where
       go false false false true e = differ e
       go false false false false e = let z : ◌≡◌ {A = ℕ} 0 1 = cc in absurd (omega arith)
 
-  bad-node : (r : Read Tree) → formed s r ≡ stops (Refusal.BadList k) → line_number s ≡ k
+  bad_node : (r : Read Tree) → formed s r ≡ stops (Refusal.BadList k) → line_number s ≡ k
   unfolding formed
-  bad-node (is t rest) e = bad_stored rest t s.store e
-  bad-node bad e = cc
+  bad_node (is t rest) e = bad_stored rest t s.store e
+  bad_node bad e = cc
 
-  bad-swap : (substituting : Bool) (r : Read Swap) → swapped substituting s r ≡ stops (Refusal.BadList k) → line_number s ≡ k
+  bad_swap : (substituting : Bool) (r : Read Swap) → swapped substituting s r ≡ stops (Refusal.BadList k) → line_number s ≡ k
   unfolding swapped
-  bad-swap substituting (is x rest) e = go (substituting && above_last above_variable s.swaps x) e
+  bad_swap substituting (is x rest) e = go (substituting && above_last above_variable s.swaps x) e
     where
       go : (b : Bool) → cond b (goes (known s.nodes (s.swaps ++ (x ∷ [])) s.store) rest) (stops (Refusal.BadList (line_number s))) ≡ stops (Refusal.BadList k) → line_number s ≡ k
       go true e = differ e
       go false e = cc
-  bad-swap substituting bad e = cc
+  bad_swap substituting bad e = cc
 
   not_long : {l : Line Known Refusal} (b : Bool) → (l ≡ stops (Refusal.BadList k) → line_number s ≡ k) → cond b l (stops (Refusal.LongList (line_number s))) ≡ stops (Refusal.BadList k)
       → line_number s ≡ k
   not_long true on e = on e
   not_long false on e = let z : ◌≡◌ {A = ℕ} 0 1 = cc in absurd (omega arith)
 
-  bad-list : (substituting : Bool) (first : ℕ) (bs : List ℕ) → listing_line substituting s first bs ≡ stops (Refusal.BadList k) → line_number s ≡ k
+  bad_list : (substituting : Bool) (first : ℕ) (bs : List ℕ) → listing_line substituting s first bs ≡ stops (Refusal.BadList k) → line_number s ≡ k
   unfolding listing_line swap_line node_line
-  bad-list substituting first bs e = elim (ℕ_discrete first 115) [
-    | yes q ↦ not_long (ltb (length s.swaps) most_swaps) (bad-swap substituting (swap_fields s.nodes first bs)) (rw (eq-eqb first 115 q) at e)
-    | no n ↦ not_long (ltb (length s.nodes) most_nodes) (bad-node (cond (none s.swaps) (node_fields s.nodes first bs) bad)) (rw (ne_eqb first 115 n) at e)
+  bad_list substituting first bs e = elim (ℕ_discrete first 115) [
+    | yes q ↦ not_long (ltb (length s.swaps) most_swaps) (bad_swap substituting (swap_fields s.nodes first bs)) (rw (eq-eqb first 115 q) at e)
+    | no n ↦ not_long (ltb (length s.nodes) most_nodes) (bad_node (cond (none s.swaps) (node_fields s.nodes first bs) bad)) (rw (ne_eqb first 115 n) at e)
   ]
 
 -- a line of a listing that is refused, and its fault
@@ -181,8 +181,8 @@ pub record ListingLine (substituting : Bool) (text : List ℕ) (k : ℕ) : Type 
 pub listing_fault_of : (substituting : Bool) (text : List ℕ) (k : ℕ) (store : State) → lines (listing_line substituting) (known [] [] store) text ≡ Lines.refused (Refusal.BadList k)
     → ListingLine substituting text k
 listing_fault_of substituting text k store e =
-    let r = refused_at (listing_line substituting) line_number Few (listing-next substituting) (Refusal.BadList k) (known [] [] store) text (omega arith) e in
-    let n = bad-list r.known substituting r.first r.rest r.stop in
+    let r = refused_at (listing_line substituting) line_number Few (listing_next substituting) (Refusal.BadList k) (known [] [] store) text (omega arith) e in
+    let n = bad_list r.known substituting r.first r.rest r.stop in
     let m : r.taken ≡ k = omega (arith, r.counted, n) in
     let t : from_line k text ≡ r.first ∷ r.rest = rw m at r.there in
     record { known = r.known; first = r.first; rest = r.rest; there = t; number = n; not_taken = r.stop; fault = listing_told text k r.first r.rest t }
@@ -192,23 +192,23 @@ module _ (substituting : Bool) {k : Known} where
   refused_not_read : {A : Type 0} {why : Refusal} → ◌≡◌ {A = Whole Known Refusal} (Lines.refused why) (Lines.read k) → A
   refused_not_read e = let z : ◌≡◌ {A = ℕ} 0 1 = cc in absurd (omega arith)
 
-  node-after : (line : Line Known Refusal) (fuel : ℕ) (before : Known) (b : ℕ) (bs : List ℕ) → Few before → listing_line substituting before b bs ≡ line
+  node_after : (line : Line Known Refusal) (fuel : ℕ) (before : Known) (b : ℕ) (bs : List ℕ) → Few before → listing_line substituting before b bs ≡ line
       → ((after : Known) (rest : List ℕ) → Few after → 0 < length after.nodes → lines_by fuel (listing_line substituting) after rest ≡ Lines.read k → 0 < length k.nodes)
       → Lines.after_line line (λ s rest. lines_by fuel (listing_line substituting) s rest) ≡ Lines.read k → 0 < length k.nodes
   unfolding Lines.after_line
-  node-after (goes after rest) fuel before b bs f q on e = let t = listing_took substituting before b bs f q in on after rest t.few t.some e
-  node-after (stops why) fuel before b bs f q on e = refused_not_read e
+  node_after (goes after rest) fuel before b bs f q on e = let t = listing_took substituting before b bs f q in on after rest t.few t.some e
+  node_after (stops why) fuel before b bs f q on e = refused_not_read e
 
   some_node : (fuel : ℕ) (before : Known) (bs : List ℕ) → Few before → 0 < length before.nodes → lines_by fuel (listing_line substituting) before bs ≡ Lines.read k → 0 < length k.nodes
   unfolding lines_by at_line
   some_node zero before bs f h e = let q : before ≡ k = cc in rw q at h
   some_node (suc fuel) before [] f h e = let q : before ≡ k = cc in rw q at h
   some_node (suc fuel) before (b ∷ bs) f h e =
-      node-after (listing_line substituting before b bs) fuel before b bs f refl (λ after rest g i e. some_node fuel after rest g i e) e
+      node_after (listing_line substituting before b bs) fuel before b bs f refl (λ after rest g i e. some_node fuel after rest g i e) e
 
-  first-node : (fuel : ℕ) (before : Known) (b : ℕ) (bs : List ℕ) → Few before → lines_by (suc fuel) (listing_line substituting) before (b ∷ bs) ≡ Lines.read k → 0 < length k.nodes
+  first_node : (fuel : ℕ) (before : Known) (b : ℕ) (bs : List ℕ) → Few before → lines_by (suc fuel) (listing_line substituting) before (b ∷ bs) ≡ Lines.read k → 0 < length k.nodes
   unfolding lines_by at_line
-  first-node fuel before b bs f e = node-after (listing_line substituting before b bs) fuel before b bs f refl (λ after rest g i e. some_node fuel after rest g i e) e
+  first_node fuel before b bs f e = node_after (listing_line substituting before b bs) fuel before b bs f refl (λ after rest g i e. some_node fuel after rest g i e) e
 
 -- a listing that is refused at a line: it has that line, or it is empty
 pub data Explained (substituting : Bool) (text : List ℕ) (k : ℕ) : Type 0 where
@@ -219,10 +219,10 @@ no_text : (substituting : Bool) (text : List ℕ) (k : ℕ) → text ≡ [] → 
 unfolding listing_fault line_fault
 no_text substituting text k q = empty q (rw (q, nothing_left k))
 
-no-root : {A : Type 0} (nodes : List Tree) (swaps : List Swap) (s : State) {why : Refusal} → 0 < length nodes → rooted nodes swaps s ≡ Listings.refused why → A
+no_root : {A : Type 0} (nodes : List Tree) (swaps : List Swap) (s : State) {why : Refusal} → 0 < length nodes → rooted nodes swaps s ≡ Listings.refused why → A
 unfolding rooted
-no-root [] swaps s h e = absurd (omega arith)
-no-root (t ∷ ts) swaps s h e = let z : ◌≡◌ {A = ℕ} 0 1 = cc in absurd (omega arith)
+no_root [] swaps s h e = absurd (omega arith)
+no_root (t ∷ ts) swaps s h e = let z : ◌≡◌ {A = ℕ} 0 1 = cc in absurd (omega arith)
 
 pub listing_explained : (substituting : Bool) (text : List ℕ) (k : ℕ) (store : State) → listing substituting text store ≡ Listings.refused (Refusal.BadList k)
     → Explained substituting text k
@@ -231,7 +231,7 @@ listing_explained substituting [] k store e = no_text substituting [] k refl
 listing_explained substituting (b ∷ bs) k store e = go (lines (listing_line substituting) (known [] [] store) (b ∷ bs)) refl e
   where
     go : (w : Whole Known Refusal) → lines (listing_line substituting) (known [] [] store) (b ∷ bs) ≡ w → whole w ≡ Listings.refused (Refusal.BadList k) → Explained substituting (b ∷ bs) k
-    go (Lines.read s) q e = no-root s.nodes s.swaps s.store (first-node substituting (length bs) (known [] [] store) b bs (omega arith) q) e
+    go (Lines.read s) q e = no_root s.nodes s.swaps s.store (first_node substituting (length bs) (known [] [] store) b bs (omega arith) q) e
     go (Lines.refused why) q e =
         let y : why ≡ Refusal.BadList k = cc in
         at_line_lem (listing_fault_of substituting (b ∷ bs) k store (q ∙ ap Lines.refused y))

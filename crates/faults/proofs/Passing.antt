@@ -76,17 +76,17 @@ taken {x = x} {rest = rest} = record { thing = x; rest = rest; read_as = refl }
 
 -- ---- a number below a limit is one below a greater limit
 
-spelt-wider : (limit limit' : ℕ) (ds bs : List ℕ) {v : ℕ} {rest : List ℕ} → limit ≤ limit' → spelt limit ds bs ≡ is v rest → spelt limit' ds bs ≡ is v rest
+spelt_wider : (limit limit' : ℕ) (ds bs : List ℕ) {v : ℕ} {rest : List ℕ} → limit ≤ limit' → spelt limit ds bs ≡ is v rest → spelt limit' ds bs ≡ is v rest
 unfolding spelt
-spelt-wider limit limit' [] bs h e = never e
-spelt-wider limit limit' (d ∷ ds) bs h e = elim (dec_lt (value 0 (d ∷ ds)) limit) [
+spelt_wider limit limit' [] bs h e = never e
+spelt_wider limit limit' (d ∷ ds) bs h e = elim (dec_lt (value 0 (d ∷ ds)) limit) [
   | no ge ↦ never (sym (too_large limit (d ∷ ds) bs (omega arith)) ∙ e)
   | yes lt ↦ rw (lt-ltb (value 0 (d ∷ ds)) limit' (omega arith)) (rw (lt-ltb (value 0 (d ∷ ds)) limit lt) at e)
 ]
 
 pub wider_number : (limit limit' : ℕ) (bs : List ℕ) {v : ℕ} {rest : List ℕ} → limit ≤ limit' → decimal limit bs ≡ is v rest → decimal limit' bs ≡ is v rest
 unfolding decimal
-wider_number limit limit' bs h e = spelt-wider limit limit' (run bs) (drop (length (run bs)) bs) h e
+wider_number limit limit' bs h e = spelt_wider limit limit' (run bs) (drop (length (run bs)) bs) h e
 
 pub wider : (stop limit limit' : ℕ) (bs : List ℕ) {v : ℕ} {rest : List ℕ} → limit ≤ limit' → decimal_field stop limit bs ≡ is v rest → decimal_field stop limit' bs ≡ is v rest
 wider stop limit limit' bs {v} {rest} h e = ap (ended stop) (wider_number limit limit' bs h (ended_only stop (decimal limit bs) v rest e)) ∙ ended_here stop v rest
@@ -139,23 +139,23 @@ data Other : Fault → Type 0 where
   carriage_return : Other Fault.CarriageReturn
   no_line_feed : Other Fault.NoLineFeed
 
-other-if : (b : Bool) {f g : Fault} → Other f → Other g → Other (cond b f g)
-other-if true o p = o
-other-if false o p = p
+other_if : (b : Bool) {f g : Fault} → Other f → Other g → Other (cond b f g)
+other_if true o p = o
+other_if false o p = p
 
-told-other : (base left : ℕ) (bs : List ℕ) → Other (told base left bs)
+told_other : (base left : ℕ) (bs : List ℕ) → Other (told base left bs)
 unfolding told
-told-other base left [] = other-if (eqb left 0) no_line_feed field_missing
-told-other base left (b ∷ bs) =
-    other-if (eqb b (letter "\r")) carriage_return
-    (other-if (ltb 0 base && is_from "a" "f" b) hex_case
-    (other-if (ltb 0 left && (eqb b tab || eqb b lf)) field_missing
+told_other base left [] = other_if (eqb left 0) no_line_feed field_missing
+told_other base left (b ∷ bs) =
+    other_if (eqb b (letter "\r")) carriage_return
+    (other_if (ltb 0 base && is_from "a" "f" b) hex_case
+    (other_if (ltb 0 left && (eqb b tab || eqb b lf)) field_missing
     wrong_byte))
 
-field-other : (kind left : ℕ) (bs : List ℕ) (r : Read ℕ) → Other (field_fault kind left bs r)
+field_other : (kind left : ℕ) (bs : List ℕ) (r : Read ℕ) → Other (field_fault kind left bs r)
 unfolding field_fault
-field-other kind left bs (is v rest) = told-other 0 left rest
-field-other kind left bs bad = told-other (base_of kind) (suc left) (no_digit (base_of kind) bs)
+field_other kind left bs (is v rest) = told_other 0 left rest
+field_other kind left bs bad = told_other (base_of kind) (suc left) (no_digit (base_of kind) bs)
 
 no_order : {A : Type 0} {f : Fault} → Other f → f ≡ Fault.Order → A
 no_order wrong_byte e = let z : ◌≡◌ {A = ℕ} 0 1 = cc in absurd (omega arith)
@@ -172,4 +172,4 @@ order_reads {P} kind kinds bs e on = go (ended (stop_of (length kinds)) (read ki
   where
     go : (r : Read ℕ) → ended (stop_of (length kinds)) (read kind bs) ≡ r → P
     go (is v rest) q = on v rest q (rw q at e)
-    go bad q = no_order (field-other kind (length kinds) bs (read kind bs)) (rw q at e)
+    go bad q = no_order (field_other kind (length kinds) bs (read kind bs)) (rw q at e)

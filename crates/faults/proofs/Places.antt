@@ -35,17 +35,17 @@ no_feed b bs e = elim (ℕ_discrete b 10) [
   | no n ↦ (n, rw (ne_eqb b 10 n) at e)
 ]
 
-feedless-more : (b : ℕ) (bs : List ℕ) → (b ≡ 10 → ⊥) → feedless bs ≡ true → feedless (b ∷ bs) ≡ true
+feedless_more : (b : ℕ) (bs : List ℕ) → (b ≡ 10 → ⊥) → feedless bs ≡ true → feedless (b ∷ bs) ≡ true
 unfolding feedless
-feedless-more b bs n e = rw (ne_eqb b 10 n) e
+feedless_more b bs n e = rw (ne_eqb b 10 n) e
 
-feedless-append : (xs ys : List ℕ) → feedless xs ≡ true → feedless ys ≡ true → feedless (xs ++ ys) ≡ true
-feedless-append [] ys e f = f
-feedless-append (x ∷ xs) ys e f = feedless-more x (xs ++ ys) (no_feed x xs e).0 (feedless-append xs ys (no_feed x xs e).1 f)
+feedless_append : (xs ys : List ℕ) → feedless xs ≡ true → feedless ys ≡ true → feedless (xs ++ ys) ≡ true
+feedless_append [] ys e f = f
+feedless_append (x ∷ xs) ys e f = feedless_more x (xs ++ ys) (no_feed x xs e).0 (feedless_append xs ys (no_feed x xs e).1 f)
 
-form-if : (b : Bool) (xs ys : List ℕ) → (feedless xs ≡ true) × (0 < length xs) → (feedless ys ≡ true) × (0 < length ys) → (feedless (cond b xs ys) ≡ true) × (0 < length (cond b xs ys))
-form-if true xs ys e f = e
-form-if false xs ys e f = f
+form_if : (b : Bool) (xs ys : List ℕ) → (feedless xs ≡ true) × (0 < length xs) → (feedless ys ≡ true) × (0 < length ys) → (feedless (cond b xs ys) ≡ true) × (0 < length (cond b xs ys))
+form_if true xs ys e f = e
+form_if false xs ys e f = f
 
 -- they are passed over
 over : (xs bs : List ℕ) → feedless xs ≡ true → after_line (xs ++ bs) ≡ after_line bs
@@ -59,9 +59,9 @@ unfoldable pub clean : List ℕ → Bool
 clean [] = true
 clean (b ∷ bs) = cond (eqb b lf) false (cond (eqb b (letter "@")) false (clean bs))
 
-no-mark : (b : ℕ) (bs : List ℕ) → clean (b ∷ bs) ≡ true → (b ≡ 10 → ⊥) × (b ≡ 64 → ⊥) × (clean bs ≡ true)
+no_mark : (b : ℕ) (bs : List ℕ) → clean (b ∷ bs) ≡ true → (b ≡ 10 → ⊥) × (b ≡ 64 → ⊥) × (clean bs ≡ true)
 unfolding clean
-no-mark b bs e = elim (ℕ_discrete b 10) [
+no_mark b bs e = elim (ℕ_discrete b 10) [
   | yes q ↦ apart (rw (eq-eqb b 10 q) at e)
   | no n ↦ elim (ℕ_discrete b 64) [
     | yes q ↦ apart (rw (ne_eqb b 10 n, eq-eqb b 64 q) at e)
@@ -69,51 +69,51 @@ no-mark b bs e = elim (ℕ_discrete b 10) [
   ]
 ]
 
-clean-more : (b : ℕ) (bs : List ℕ) → (b ≡ 10 → ⊥) → (b ≡ 64 → ⊥) → clean bs ≡ true → clean (b ∷ bs) ≡ true
+clean_more : (b : ℕ) (bs : List ℕ) → (b ≡ 10 → ⊥) → (b ≡ 64 → ⊥) → clean bs ≡ true → clean (b ∷ bs) ≡ true
 unfolding clean
-clean-more b bs n m e = rw (ne_eqb b 10 n, ne_eqb b 64 m) e
+clean_more b bs n m e = rw (ne_eqb b 10 n, ne_eqb b 64 m) e
 
-clean-append : (xs ys : List ℕ) → clean xs ≡ true → clean ys ≡ true → clean (xs ++ ys) ≡ true
-clean-append [] ys e f = f
-clean-append (x ∷ xs) ys e f = let k = no-mark x xs e in clean-more x (xs ++ ys) k.0 k.1 (clean-append xs ys k.2 f)
+clean_append : (xs ys : List ℕ) → clean xs ≡ true → clean ys ≡ true → clean (xs ++ ys) ≡ true
+clean_append [] ys e f = f
+clean_append (x ∷ xs) ys e f = let k = no_mark x xs e in clean_more x (xs ++ ys) k.0 k.1 (clean_append xs ys k.2 f)
 
 pub clean_feedless : (xs : List ℕ) → clean xs ≡ true → feedless xs ≡ true
 unfolding feedless
 clean_feedless [] e = refl
-clean_feedless (x ∷ xs) e = let k = no-mark x xs e in feedless-more x xs k.0 (clean_feedless xs k.2)
+clean_feedless (x ∷ xs) e = let k = no_mark x xs e in feedless_more x xs k.0 (clean_feedless xs k.2)
 
 -- they are passed over where an `@` is looked for
 at_over : (xs bs : List ℕ) → clean xs ≡ true → has_at (xs ++ bs) ≡ has_at bs
 unfolding has_at
 at_over [] bs e = refl
-at_over (x ∷ xs) bs e = let k = no-mark x xs e in rw (ne_eqb x 10 k.0, ne_eqb x 64 k.1) (at_over xs bs k.2)
+at_over (x ∷ xs) bs e = let k = no_mark x xs e in rw (ne_eqb x 10 k.0, ne_eqb x 64 k.1) (at_over xs bs k.2)
 
 -- ---- digits and names are such
 
-byte-clean : (d : ℕ) → (byte_of d ≡ 10 → ⊥) × (byte_of d ≡ 64 → ⊥)
+byte_clean : (d : ℕ) → (byte_of d ≡ 10 → ⊥) × (byte_of d ≡ 64 → ⊥)
 unfolding byte_of
-byte-clean d = elim (dec_lt d 10) [
+byte_clean d = elim (dec_lt d 10) [
   | yes lt ↦ rw (lt-ltb d 10 lt) (λ e. omega (arith, e), λ e. omega (arith, e, lt))
   | no ge ↦ rw (le-ltb d 10 (omega arith)) (λ e. omega (arith, e), λ e. omega (arith, e))
 ]
 
-digits-clean : (ds : List ℕ) → clean (map byte_of ds) ≡ true
+digits_clean : (ds : List ℕ) → clean (map byte_of ds) ≡ true
 unfolding clean
-digits-clean [] = refl
-digits-clean (d ∷ ds) = clean-more (byte_of d) (map byte_of ds) (byte-clean d).0 (byte-clean d).1 (digits-clean ds)
+digits_clean [] = refl
+digits_clean (d ∷ ds) = clean_more (byte_of d) (map byte_of ds) (byte_clean d).0 (byte_clean d).1 (digits_clean ds)
 
-decimal-clean : (n : ℕ) → clean (in_decimal n) ≡ true
+decimal_clean : (n : ℕ) → clean (in_decimal n) ≡ true
 unfolding in_decimal
-decimal-clean n = digits-clean (digits n)
+decimal_clean n = digits_clean (digits n)
 
-last-clean : (k n : ℕ) → clean (last_hex k n) ≡ true
+last_clean : (k n : ℕ) → clean (last_hex k n) ≡ true
 unfolding last_hex clean
-last-clean zero n = refl
-last-clean (suc k) n = clean-append (last_hex k (n / 16)) (byte_of (n % 16) ∷ []) (last-clean k (n / 16)) (clean-more (byte_of (n % 16)) [] (byte-clean (n % 16)).0 (byte-clean (n % 16)).1 refl)
+last_clean zero n = refl
+last_clean (suc k) n = clean_append (last_hex k (n / 16)) (byte_of (n % 16) ∷ []) (last_clean k (n / 16)) (clean_more (byte_of (n % 16)) [] (byte_clean (n % 16)).0 (byte_clean (n % 16)).1 refl)
 
-hex-clean : (n : ℕ) → clean (in_hex n) ≡ true
+hex_clean : (n : ℕ) → clean (in_hex n) ≡ true
 unfolding in_hex
-hex-clean n = last-clean 16 n
+hex_clean n = last_clean 16 n
 
 unfoldable pub all_clean : List (List ℕ) → Bool
 all_clean [] = true
@@ -148,7 +148,7 @@ words_clean kind n m =
 origin_feedless : (o : ℕ) → feedless (origin_text o) ≡ true
 unfolding origin_text feedless
 origin_feedless zero = refl
-origin_feedless (suc n) = clean_feedless (in_decimal n) (decimal-clean n)
+origin_feedless (suc n) = clean_feedless (in_decimal n) (decimal_clean n)
 
 -- ---- a field passes no LF
 
@@ -156,17 +156,17 @@ origin_feedless (suc n) = clean_feedless (in_decimal n) (decimal-clean n)
 passed : (P : List ℕ → Type 0) (kind : ℕ) (bs : List ℕ) {v : ℕ} {rest : List ℕ} → (kind ≡ 10 → ⊥) → (kind ≡ 64 → ⊥) → read kind bs ≡ is v rest
     → ((xs : List ℕ) → clean xs ≡ true → P (xs ++ rest)) → P bs
 passed P kind bs {v} {rest} n m e on = elim (reader kind) [
-  | a_double r ↦ rw (hex_only v bs rest (sym (r bs) ∙ e)).1 (on (in_hex v) (hex-clean v))
-  | a_number limit r ↦ rw (decimal_only limit v bs rest (sym (r bs) ∙ e)).1 (on (in_decimal v) (decimal-clean v))
+  | a_double r ↦ rw (hex_only v bs rest (sym (r bs) ∙ e)).1 (on (in_hex v) (hex_clean v))
+  | a_number limit r ↦ rw (decimal_only limit v bs rest (sym (r bs) ∙ e)).1 (on (in_decimal v) (decimal_clean v))
   | an_origin q r ↦ absurd (m q)
   | a_name q r ↦
       let w = name_only 1 v (words_of kind) bs rest (sym (r bs) ∙ e) in
       rw w.word (on (get_or (words_of kind) (v - 1) []) (among (words_of kind) (v - 1) (words_clean kind n m)))
 ]
 
-field-over : (kind : ℕ) (bs : List ℕ) {v : ℕ} {rest : List ℕ} → (kind ≡ 10 → ⊥) → read kind bs ≡ is v rest → after_line bs ≡ after_line rest
+field_over : (kind : ℕ) (bs : List ℕ) {v : ℕ} {rest : List ℕ} → (kind ≡ 10 → ⊥) → read kind bs ≡ is v rest → after_line bs ≡ after_line rest
 unfolding read
-field-over kind bs {v} {rest} n e = elim (ℕ_discrete kind 64) [
+field_over kind bs {v} {rest} n e = elim (ℕ_discrete kind 64) [
   | yes q ↦ rw (origin_only v bs rest (rw q at e)).1 (over (origin_text v) rest (origin_feedless v))
   | no m ↦ passed (λ l. after_line l ≡ after_line rest) kind bs n m e λ xs c. over xs rest (clean_feedless xs c)
 ]
@@ -177,47 +177,47 @@ field_at kind bs {rest = rest} n m e = passed (λ l. has_at l ≡ has_at rest) k
 
 -- ---- a line that passes ends at its first LF
 
-stop-last : stop_of 0 ≡ lf
+stop_last : stop_of 0 ≡ lf
 unfolding stop_of
-stop-last = refl
+stop_last = refl
 
-last-field : (kind : ℕ) (kinds bs : List ℕ) (v : ℕ) (mid rest : List ℕ) → (kind ≡ 10 → ⊥) → ended (stop_of (length kinds)) (read kind bs) ≡ is v mid → Passes kinds mid rest
+last_field : (kind : ℕ) (kinds bs : List ℕ) (v : ℕ) (mid rest : List ℕ) → (kind ≡ 10 → ⊥) → ended (stop_of (length kinds)) (read kind bs) ≡ is v mid → Passes kinds mid rest
     → (0 < length kinds → after_line mid ≡ rest) → after_line bs ≡ rest
 unfolding after_line
-last-field kind [] bs v mid rest n e (done q) later = field-over kind bs n (ended_only lf (read kind bs) v mid (rw stop-last at e)) ∙ q
-last-field kind (k ∷ ks) bs v mid rest n e p later = field-over kind bs n (ended_only tab (read kind bs) v mid (rw (stop_more (length ks)) at e)) ∙ later (omega arith)
+last_field kind [] bs v mid rest n e (done q) later = field_over kind bs n (ended_only lf (read kind bs) v mid (rw stop_last at e)) ∙ q
+last_field kind (k ∷ ks) bs v mid rest n e p later = field_over kind bs n (ended_only tab (read kind bs) v mid (rw (stop_more (length ks)) at e)) ∙ later (omega arith)
 
 pub ends_at : {form bs rest : List ℕ} → Passes form bs rest → feedless form ≡ true → 0 < length form → after_line bs ≡ rest
 ends_at (done q) f h = absurd (omega arith)
 ends_at {rest = rest} (field {kind} {kinds} {bs} {v} {mid} e p) f h =
-    last-field kind kinds bs v mid rest (no_feed kind kinds f).0 e p λ l. ends_at p (no_feed kind kinds f).1 l
+    last_field kind kinds bs v mid rest (no_feed kind kinds f).0 e p λ l. ends_at p (no_feed kind kinds f).1 l
 
 -- ---- a line that passes has an `@` before its LF if its form has one
 
-tab-field : (kind k : ℕ) (ks bs : List ℕ) {v : ℕ} {mid : List ℕ} → (kind ≡ 10 → ⊥) → (kind ≡ 64 → ⊥) → ended (stop_of (suc (length ks))) (read kind bs) ≡ is v mid → has_at bs ≡ has_at mid
+tab_field : (kind k : ℕ) (ks bs : List ℕ) {v : ℕ} {mid : List ℕ} → (kind ≡ 10 → ⊥) → (kind ≡ 64 → ⊥) → ended (stop_of (suc (length ks))) (read kind bs) ≡ is v mid → has_at bs ≡ has_at mid
 unfolding has_at
-tab-field kind k ks bs {v} {mid} n m e = field_at kind bs n m (ended_only tab (read kind bs) v mid (rw (stop_more (length ks)) at e))
+tab_field kind k ks bs {v} {mid} n m e = field_at kind bs n m (ended_only tab (read kind bs) v mid (rw (stop_more (length ks)) at e))
 
 pub plain_at : {bs rest : List ℕ} (form : List ℕ) → Passes form bs rest → clean form ≡ true → 0 < length form → has_at bs ≡ false
 unfolding has_at
 plain_at [] p c h = absurd (omega arith)
 plain_at {bs} (kind ∷ []) (field {v} {mid} e p) c h =
-    let k = no-mark kind [] c in
-    field_at kind bs k.0 k.1 (ended_only lf (read kind bs) v mid (rw stop-last at e))
+    let k = no_mark kind [] c in
+    field_at kind bs k.0 k.1 (ended_only lf (read kind bs) v mid (rw stop_last at e))
 plain_at {bs} (kind ∷ k ∷ ks) (field {v} {mid} e p) c h =
-    let f = no-mark kind (k ∷ ks) c in
-    tab-field kind k ks bs f.0 f.1 e ∙ plain_at (k ∷ ks) p f.2 (omega arith)
+    let f = no_mark kind (k ∷ ks) c in
+    tab_field kind k ks bs f.0 f.1 e ∙ plain_at (k ∷ ks) p f.2 (omega arith)
 
-origin-has : (o : ℕ) (bs : List ℕ) → has_at (origin_text o ++ bs) ≡ true
+origin_has : (o : ℕ) (bs : List ℕ) → has_at (origin_text o ++ bs) ≡ true
 unfolding origin_text has_at
-origin-has zero bs = refl
-origin-has (suc n) bs = refl
+origin_has zero bs = refl
+origin_has (suc n) bs = refl
 
 pub origin_at_lem : {bs rest : List ℕ} (form : List ℕ) → Passes (form ++ (64 ∷ [])) bs rest → clean form ≡ true → has_at bs ≡ true
 unfolding read
-origin_at_lem {bs} [] (field {v} {mid} e p) c = rw (origin_only v bs (10 ∷ mid) (ended_only lf (read 64 bs) v mid (rw stop-last at e))).1 (origin-has v (10 ∷ mid))
-origin_at_lem {bs} (kind ∷ []) (field e p) c = let f = no-mark kind [] c in tab-field kind 64 [] bs f.0 f.1 e ∙ origin_at_lem [] p f.2
-origin_at_lem {bs} (kind ∷ k ∷ ks) (field e p) c = let f = no-mark kind (k ∷ ks) c in tab-field kind k (ks ++ (64 ∷ [])) bs f.0 f.1 e ∙ origin_at_lem (k ∷ ks) p f.2
+origin_at_lem {bs} [] (field {v} {mid} e p) c = rw (origin_only v bs (10 ∷ mid) (ended_only lf (read 64 bs) v mid (rw stop_last at e))).1 (origin_has v (10 ∷ mid))
+origin_at_lem {bs} (kind ∷ []) (field e p) c = let f = no_mark kind [] c in tab_field kind 64 [] bs f.0 f.1 e ∙ origin_at_lem [] p f.2
+origin_at_lem {bs} (kind ∷ k ∷ ks) (field e p) c = let f = no_mark kind (k ∷ ks) c in tab_field kind k (ks ++ (64 ∷ [])) bs f.0 f.1 e ∙ origin_at_lem (k ∷ ks) p f.2
 
 -- the forms of the lines are such, and each has a letter
 clean_if : (b : Bool) (xs ys : List ℕ) → (clean xs ≡ true) × (0 < length xs) → (clean ys ≡ true) × (0 < length ys) → (clean (cond b xs ys) ≡ true) × (0 < length (cond b xs ys))
@@ -235,23 +235,23 @@ node_clean first =
     (clean_if (eqb first 117) (bytes "uUI") _ (refl, omega arith)
     (clean_if (eqb first 98) (bytes "bBII") (bytes "n") (refl, omega arith) (refl, omega arith)))))))
 
-with-feedless : (origin : Bool) (form : List ℕ) → feedless form ≡ true → 0 < length form → (feedless (form_with origin form) ≡ true) × (0 < length (form_with origin form))
+with_feedless : (origin : Bool) (form : List ℕ) → feedless form ≡ true → 0 < length form → (feedless (form_with origin form) ≡ true) × (0 < length (form_with origin form))
 unfolding form_with feedless
-with-feedless true form e h = (feedless-append form (64 ∷ []) e refl, omega (arith, h, length-append form (64 ∷ [])))
-with-feedless false form e h = (e, h)
+with_feedless true form e h = (feedless_append form (64 ∷ []) e refl, omega (arith, h, length-append form (64 ∷ [])))
+with_feedless false form e h = (e, h)
 
 pub listing_feedless : (first : ℕ) (line : List ℕ) → (feedless (listing_form first line) ≡ true) × (0 < length (listing_form first line))
 unfolding listing_form feedless
 listing_feedless first line =
     let c = node_clean first in
-    form-if (eqb first 115) (bytes "sNI") (form_with (has_at line) (node_form first)) (refl, omega arith) (with-feedless (has_at line) (node_form first) (clean_feedless (node_form first) c.0) c.1)
+    form_if (eqb first 115) (bytes "sNI") (form_with (has_at line) (node_form first)) (refl, omega arith) (with_feedless (has_at line) (node_form first) (clean_feedless (node_form first) c.0) c.1)
 
 pub sheet_feedless : (first : ℕ) (line : List ℕ) → (feedless (sheet_form first line) ≡ true) × (0 < length (sheet_form first line))
 unfolding sheet_form feedless
 sheet_feedless first line =
-    form-if (eqb first 118) (bytes "vNHH") _ (refl, omega arith)
-    (form-if (eqb first 109) (bytes "mNIH") _ (refl, omega arith)
-    (form-if (starts (bytes "t\tpow") line) (bytes "tOHHHHHH") (bytes "tOHHZZHH") (refl, omega arith) (refl, omega arith)))
+    form_if (eqb first 118) (bytes "vNHH") _ (refl, omega arith)
+    (form_if (eqb first 109) (bytes "mNIH") _ (refl, omega arith)
+    (form_if (starts (bytes "t\tpow") line) (bytes "tOHHHHHH") (bytes "tOHHZZHH") (refl, omega arith) (refl, omega arith)))
 
 -- ---- the line at which a text is refused
 

@@ -27,24 +27,24 @@ use Rattle.faults.specs.declared.Fault.{Fault}
 use Rattle.faults.specs.Faulting.{words_of, read, sheet_form, stop_of, fault_in}
 use Rattle.faults.proofs.Passing.{apart, Passes, done, field, Stops, stopped, then_only, same_rest, is_if, no_stop, goes_if, in_order, order_reads, stop_more}
 
-hex-on : (kinds : List ℕ) (stop : ℕ) (bs : List ℕ) {v : ℕ} {mid rest : List ℕ} → stop_of (length kinds) ≡ stop → hex_field stop bs ≡ is v mid → Passes kinds mid rest → Passes (72 ∷ kinds) bs rest
+hex_on : (kinds : List ℕ) (stop : ℕ) (bs : List ℕ) {v : ℕ} {mid rest : List ℕ} → stop_of (length kinds) ≡ stop → hex_field stop bs ≡ is v mid → Passes kinds mid rest → Passes (72 ∷ kinds) bs rest
 unfolding read
-hex-on kinds stop bs {v} {mid} s e p = let f : ended (stop_of (length kinds)) (hex bs) ≡ is v mid = rw s e in field f p
+hex_on kinds stop bs {v} {mid} s e p = let f : ended (stop_of (length kinds)) (hex bs) ≡ is v mid = rw s e in field f p
 
-complex-on : (kinds : List ℕ) (stop : ℕ) (bs : List ℕ) {z : Complex} {mid rest : List ℕ} → stop_of (length kinds) ≡ stop → complex_field stop bs ≡ is z mid → Passes kinds mid rest
+complex_on : (kinds : List ℕ) (stop : ℕ) (bs : List ℕ) {z : Complex} {mid rest : List ℕ} → stop_of (length kinds) ≡ stop → complex_field stop bs ≡ is z mid → Passes kinds mid rest
     → Passes (72 ∷ 72 ∷ kinds) bs rest
 unfolding complex_field
-complex-on kinds stop bs s e passes =
+complex_on kinds stop bs s e passes =
     then_only (hex_field tab bs) _ e λ re im p e.
     then_only (hex_field stop im) _ e λ v last q e.
-    hex-on (72 ∷ kinds) tab bs (stop_more (length kinds)) p (hex-on kinds stop im s q (rw (same_rest e) passes))
+    hex_on (72 ∷ kinds) tab bs (stop_more (length kinds)) p (hex_on kinds stop im s q (rw (same_rest e) passes))
 
-variable-row : (bs : List ℕ) {v : Rows.Variable} {rest : List ℕ} → Rows.variable_fields bs ≡ is v rest → Passes (bytes "vNHH") (118 ∷ 9 ∷ bs) rest
+variable_row : (bs : List ℕ) {v : Rows.Variable} {rest : List ℕ} → Rows.variable_fields bs ≡ is v rest → Passes (bytes "vNHH") (118 ∷ 9 ∷ bs) rest
 unfolding Rows.variable_fields read words_of name_from starts ended stop_of
-variable-row bs e =
+variable_row bs e =
     then_only (decimal_field tab numbers bs) _ e λ number mid p e.
     then_only (complex_field lf mid) _ e λ value last q e.
-    field refl (field p (complex-on [] lf mid refl q (done (same_rest e))))
+    field refl (field p (complex_on [] lf mid refl q (done (same_rest e))))
 
 cell_row : (bs : List ℕ) {c : Rows.Cell} {rest : List ℕ} → Rows.cell_fields bs ≡ is c rest → Passes (bytes "mNIH") (109 ∷ 9 ∷ bs) rest
 unfolding Rows.cell_fields read words_of name_from starts ended stop_of
@@ -76,11 +76,11 @@ module _ (name : ℕ) (kinds bs : List ℕ) {y : Complex} {mid rest : List ℕ} 
       then_only (hex_field tab bs) _ e λ re im p e.
       then_only (hex_field tab im) _ e λ v last q e.
       let f = is_if (eqb name power || (eqb re 0 && eqb v 0)) (is (of_parts re v) last) e in
-      hex-on (72 ∷ kinds) tab bs (stop_more (length kinds)) p (hex-on kinds tab im s q (rw (same_rest f) passes))
+      hex_on (72 ∷ kinds) tab bs (stop_more (length kinds)) p (hex_on kinds tab im s q (rw (same_rest f) passes))
 
-  second-zeros : (name ≡ 5 → ⊥) → Passes (90 ∷ 90 ∷ kinds) bs rest
+  second_zeros : (name ≡ 5 → ⊥) → Passes (90 ∷ 90 ∷ kinds) bs rest
   unfolding second_operand
-  second-zeros n =
+  second_zeros n =
       then_only (hex_field tab bs) _ e λ re im p e.
       then_only (hex_field tab im) _ e λ v last q e.
       let f = is_if (eqb name power || (eqb re 0 && eqb v 0)) (is (of_parts re v) last) e in
@@ -103,7 +103,7 @@ module _ (bs : List ℕ) {r : Rows.Row} {rest : List ℕ} (e : row_fields bs ≡
       then_only (complex_field tab first) _ e λ x second q e.
       then_only (second_operand name second) _ e λ y third r e.
       then_only (complex_field lf third) _ e λ value last s e.
-      field refl (field p (complex-on (bytes "HHHH") tab first refl q (second_any name (bytes "HH") second r refl (complex-on [] lf third refl s (done (same_rest e))))))
+      field refl (field p (complex_on (bytes "HHHH") tab first refl q (second_any name (bytes "HH") second r refl (complex_on [] lf third refl s (done (same_rest e))))))
 
   other_row : starts (bytes "pow") bs ≡ false → Passes (bytes "tOHHZZHH") (116 ∷ 9 ∷ bs) rest
   unfolding row_fields read words_of name_from starts ended stop_of
@@ -113,7 +113,7 @@ module _ (bs : List ℕ) {r : Rows.Row} {rest : List ℕ} (e : row_fields bs ≡
       then_only (second_operand name second) _ e λ y third r e.
       then_only (complex_field lf third) _ e λ value last s e.
       let n : name ≡ 5 → ⊥ = λ z. apart (sym other ∙ named_pow name bs z p) in
-      field refl (field p (complex-on (bytes "ZZHH") tab first refl q (second-zeros name (bytes "HH") second r refl (complex-on [] lf third refl s (done (same_rest e))) n)))
+      field refl (field p (complex_on (bytes "ZZHH") tab first refl q (second_zeros name (bytes "HH") second r refl (complex_on [] lf third refl s (done (same_rest e))) n)))
 
   row_by : (b : Bool) → starts (bytes "pow") bs ≡ b → Passes (cond b (bytes "tOHHHHHH") (bytes "tOHHZZHH")) (116 ∷ 9 ∷ bs) rest
   row_by true q = pow_row
@@ -157,19 +157,19 @@ module _ (before : Rows.Rows) (bs : List ℕ) {after : Rows.Rows} {rest : List �
   variable_took e =
       line_took before _ (λ v. rows (before.variables ++ (v ∷ [])) before.cells before.functions) (λ v. omega (arith, one_more before.variables v)) (λ _. bytes "vNHH") 256
       before.variables 118 bs Rows.variable_fields e λ x mid last p.
-      variable-row mid p
+      variable_row mid p
 
-  cell-took : Rows.cell_line before 109 bs ≡ goes after rest → Took before after (bytes "mNIH") (109 ∷ bs) rest
+  cell_took : Rows.cell_line before 109 bs ≡ goes after rest → Took before after (bytes "mNIH") (109 ∷ bs) rest
   unfolding Rows.cell_line
-  cell-took e =
+  cell_took e =
       line_took before _ (λ c. rows before.variables (before.cells ++ (c ∷ [])) before.functions) (λ c. omega (arith, one_more before.cells c)) (λ _. bytes "mNIH") 1024
       before.cells 109 bs Rows.cell_fields e λ x mid last p.
       cell_row mid p
 
-  row-took : Rows.function_line before 116 bs ≡ goes after rest
+  row_took : Rows.function_line before 116 bs ≡ goes after rest
       → Took before after (cond (starts (bytes "t\tpow") (116 ∷ bs)) (bytes "tOHHHHHH") (bytes "tOHHZZHH")) (116 ∷ bs) rest
   unfolding Rows.function_line starts
-  row-took e =
+  row_took e =
       line_took before _ (λ r. rows before.variables before.cells (before.functions ++ (r ∷ []))) (λ r. omega (arith, one_more before.functions r))
       (λ line. cond (starts (bytes "t\tpow") line) (bytes "tOHHHHHH") (bytes "tOHHZZHH")) 256 before.functions 116 bs row_fields e λ x mid last p.
       row_by mid p (starts (bytes "pow") mid) refl
@@ -180,9 +180,9 @@ unfolding sheet_line sheet_form
 sheet_took before first bs e = elim (ℕ_discrete first 118) [
   | yes q ↦ rw q (variable_took before bs (rw (eq-eqb first 118 q, q) at e))
   | no v ↦ elim (ℕ_discrete first 109) [
-    | yes q ↦ rw q (cell-took before bs (rw (ne_eqb first 118 v, eq-eqb first 109 q, q) at e))
+    | yes q ↦ rw q (cell_took before bs (rw (ne_eqb first 118 v, eq-eqb first 109 q, q) at e))
     | no m ↦ elim (ℕ_discrete first 116) [
-      | yes q ↦ rw q (row-took before bs (rw (ne_eqb first 118 v, ne_eqb first 109 m, eq-eqb first 116 q, q) at e))
+      | yes q ↦ rw q (row_took before bs (rw (ne_eqb first 118 v, ne_eqb first 109 m, eq-eqb first 116 q, q) at e))
       | no n ↦ no_stop (rw (ne_eqb first 118 v, ne_eqb first 109 m, ne_eqb first 116 n) at e)
     ]
   ]
@@ -218,9 +218,9 @@ on {s = s} {rest = rest} = record { after = s; rest = rest; goes_on = refl }
 abbrev empty : Rows.Rows
 empty = rows [] [] []
 
-variable-goes : (bs : List ℕ) → fault_in (bytes "vNHH") (118 ∷ bs) ≡ Fault.Order → Goes (sheet_line empty 118 bs)
+variable_goes : (bs : List ℕ) → fault_in (bytes "vNHH") (118 ∷ bs) ≡ Fault.Order → Goes (sheet_line empty 118 bs)
 unfolding sheet_line Rows.variable_line counted formed Rows.variable_fields complex_field then read words_of name_from starts stop_of none above_last
-variable-goes bs e =
+variable_goes bs e =
     order_reads 118 (bytes "NHH") (118 ∷ bs) e λ o mid l e.
     order_reads 78 (bytes "HH") mid e λ number value p e.
     order_reads 72 (bytes "H") value e λ re next q e.
@@ -228,9 +228,9 @@ variable-goes bs e =
     letter_reads 118 bs l λ z.
     rw (z, ended_here {A = ℕ} tab 118 mid, p, q, r) on
 
-cell-goes : (bs : List ℕ) → fault_in (bytes "mNIH") (109 ∷ bs) ≡ Fault.Order → Goes (sheet_line empty 109 bs)
+cell_goes : (bs : List ℕ) → fault_in (bytes "mNIH") (109 ∷ bs) ≡ Fault.Order → Goes (sheet_line empty 109 bs)
 unfolding sheet_line Rows.cell_line counted formed Rows.cell_fields then read words_of name_from starts stop_of none above_last
-cell-goes bs e =
+cell_goes bs e =
     order_reads 109 (bytes "NIH") (109 ∷ bs) e λ o mid l e.
     order_reads 78 (bytes "IH") mid e λ region next p e.
     order_reads 73 (bytes "H") next e λ index value q e.
@@ -238,24 +238,24 @@ cell-goes bs e =
     letter_reads 109 bs l λ z.
     rw (z, ended_here {A = ℕ} tab 109 mid, p, q, r) on
 
-zero-reads : (stop : ℕ) (bs : List ℕ) {v : ℕ} {rest : List ℕ} → name_field stop (bytes "0000000000000000" ∷ []) bs ≡ is v rest → hex_field stop bs ≡ is 0 rest
+zero_reads : (stop : ℕ) (bs : List ℕ) {v : ℕ} {rest : List ℕ} → name_field stop (bytes "0000000000000000" ∷ []) bs ≡ is v rest → hex_field stop bs ≡ is 0 rest
 unfolding hex hex_from digit_of
-zero-reads stop bs {v} {rest} e =
+zero_reads stop bs {v} {rest} e =
     let n = name_only 1 v (bytes "0000000000000000" ∷ []) bs (stop ∷ rest) (ended_only stop _ v rest e) in
     let i : Prim.Native.Nat.◌-◌ v 1 ≡ 0 = omega (arith, n.among) in
     let w : bs ≡ bytes "0000000000000000" ++ (stop ∷ rest) = rw i at n.word in
     rw w (ended_here stop 0 rest)
 
-pow-name : (bs : List ℕ) {name : ℕ} {rest : List ℕ} → starts (bytes "pow") bs ≡ true → name_field tab operation_names bs ≡ is name rest → name ≡ 5
+pow_name : (bs : List ℕ) {name : ℕ} {rest : List ℕ} → starts (bytes "pow") bs ≡ true → name_field tab operation_names bs ≡ is name rest → name ≡ 5
 unfolding name_from starts
-pow-name bs {name} {rest} s e =
+pow_name bs {name} {rest} s e =
     let w : bs ≡ bytes "pow" ++ drop 3 bs = starts_only (bytes "pow") bs s in
     let f = rw w at (ended_only tab _ name rest e) in
     cc
 
-or-true : (b : Bool) → (b || true) ≡ true
-or-true true = refl
-or-true false = refl
+or_true_lem : (b : Bool) → (b || true) ≡ true
+or_true_lem true = refl
+or_true_lem false = refl
 
 module _ (bs : List ℕ) where
   pow_goes : starts (bytes "pow") bs ≡ true → fault_in (bytes "tOHHHHHH") (116 ∷ 9 ∷ bs) ≡ Fault.Order → Goes (sheet_line empty 116 (9 ∷ bs))
@@ -271,7 +271,7 @@ module _ (bs : List ℕ) where
       order_reads 72 (bytes "HH") f e λ g third t e.
       order_reads 72 (bytes "H") third e λ h i u e.
       order_reads 72 [] i e λ j last v e.
-      rw (ended_here {A = ℕ} tab 116 bs, n, p, q, r, t, eq-eqb name 5 (pow-name bs s n), u, v) on
+      rw (ended_here {A = ℕ} tab 116 bs, n, p, q, r, t, eq-eqb name 5 (pow_name bs s n), u, v) on
 
   other_goes : fault_in (bytes "tOHHZZHH") (116 ∷ 9 ∷ bs) ≡ Fault.Order → Goes (sheet_line empty 116 (9 ∷ bs))
   unfolding sheet_line Rows.function_line counted formed row_fields complex_field second_operand then read words_of name_from starts stop_of
@@ -286,7 +286,7 @@ module _ (bs : List ℕ) where
       order_reads 90 (bytes "HH") f e λ g third t e.
       order_reads 72 (bytes "H") third e λ h i u e.
       order_reads 72 [] i e λ j last v e.
-      rw (ended_here {A = ℕ} tab 116 bs, n, p, q, zero-reads tab second r, zero-reads tab f t, or-true (eqb name 5), u, v) on
+      rw (ended_here {A = ℕ} tab 116 bs, n, p, q, zero_reads tab second r, zero_reads tab f t, or_true_lem (eqb name 5), u, v) on
 
   row_goes : (b : Bool) → starts (bytes "pow") bs ≡ b → fault_in (cond b (bytes "tOHHHHHH") (bytes "tOHHZZHH")) (116 ∷ 9 ∷ bs) ≡ Fault.Order → Goes (sheet_line empty 116 (9 ∷ bs))
   row_goes true q e = pow_goes q e
@@ -319,9 +319,9 @@ row_tab false first bs e on =
 pub sheet_goes : (first : ℕ) (bs : List ℕ) → fault_in (sheet_form first (first ∷ bs)) (first ∷ bs) ≡ Fault.Order → Goes (sheet_line empty first bs)
 unfolding sheet_form starts
 sheet_goes first bs e = elim (ℕ_discrete first 118) [
-  | yes q ↦ rw q (variable-goes bs (rw q at e))
+  | yes q ↦ rw q (variable_goes bs (rw q at e))
   | no v ↦ elim (ℕ_discrete first 109) [
-    | yes q ↦ rw q (cell-goes bs (rw q at e))
+    | yes q ↦ rw q (cell_goes bs (rw q at e))
     | no m ↦
         row_tab (starts (bytes "t\tpow") (first ∷ bs)) first bs (rw (ne_eqb first 118 v, ne_eqb first 109 m) at e) λ mid q z.
         rw (q, z) (row_goes mid (starts (bytes "pow") mid) refl (rw (q, z) at e))

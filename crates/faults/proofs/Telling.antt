@@ -42,13 +42,13 @@ unfolding from_line after_line
 nothing_left zero = refl
 nothing_left (suc line) = nothing_left line
 
-pass-other : (line b : ℕ) (bs : List ℕ) → (b ≡ 10 → ⊥) → from_line (suc line) (b ∷ bs) ≡ from_line (suc line) bs
+pass_other : (line b : ℕ) (bs : List ℕ) → (b ≡ 10 → ⊥) → from_line (suc line) (b ∷ bs) ≡ from_line (suc line) bs
 unfolding from_line after_line
-pass-other line b bs n = rw (ne_eqb b 10 n)
+pass_other line b bs n = rw (ne_eqb b 10 n)
 
-pass-feed : (line b : ℕ) (bs : List ℕ) → b ≡ 10 → from_line (suc line) (b ∷ bs) ≡ from_line line bs
+pass_feed : (line b : ℕ) (bs : List ℕ) → b ≡ 10 → from_line (suc line) (b ∷ bs) ≡ from_line line bs
 unfolding from_line after_line
-pass-feed line b bs e = rw (eq-eqb b 10 e)
+pass_feed line b bs e = rw (eq-eqb b 10 e)
 
 pub record At (s : List ℕ) (line left i : ℕ) : Type 0 where
   pub inside : i ≤ length s
@@ -61,12 +61,12 @@ module _ {s : List ℕ} {line left i : ℕ} (g : At s line left i) where
   pub line_other : 0 < left → i < length s → (get_or s i 0 ≡ 10 → ⊥) → At s line left (i + 1)
   line_other p h n =
       let q : left ≡ suc (left - 1) = omega arith in
-      record { inside = omega arith; rest = rw q (rw (q, here s i h, pass-other (left - 1) (get_or s i 0) (drop (i + 1) s) n) at g.rest) }
+      record { inside = omega arith; rest = rw q (rw (q, here s i h, pass_other (left - 1) (get_or s i 0) (drop (i + 1) s) n) at g.rest) }
 
   pub line_passed : 0 < left → i < length s → get_or s i 0 ≡ 10 → At s line (left - 1) (i + 1)
   line_passed p h n =
       let q : left ≡ suc (left - 1) = omega arith in
-      record { inside = omega arith; rest = rw (q, here s i h, pass-feed (left - 1) (get_or s i 0) (drop (i + 1) s) n) at g.rest }
+      record { inside = omega arith; rest = rw (q, here s i h, pass_feed (left - 1) (get_or s i 0) (drop (i + 1) s) n) at g.rest }
 
   pub line_found : left ≤ 0 → drop i s ≡ from_line line s
   unfolding from_line
@@ -114,11 +114,11 @@ pub count_plain : (form : List ℕ) {origin : Bool} → origin ≡ false → len
 unfolding form_with
 count_plain form e = rw e
 
-kind-more : (form : List ℕ) (k : ℕ) → k < length (form ++ (64 ∷ [])) → get_or form k 64 ≡ get_or (form ++ (64 ∷ [])) k 0
-kind-more [] zero h = refl
-kind-more [] (suc k) h = absurd (omega (arith, h))
-kind-more (b ∷ form) zero h = refl
-kind-more (b ∷ form) (suc k) h = kind-more form k (omega (arith, h))
+kind_more : (form : List ℕ) (k : ℕ) → k < length (form ++ (64 ∷ [])) → get_or form k 64 ≡ get_or (form ++ (64 ∷ [])) k 0
+kind_more [] zero h = refl
+kind_more [] (suc k) h = absurd (omega (arith, h))
+kind_more (b ∷ form) zero h = refl
+kind_more (b ∷ form) (suc k) h = kind_more form k (omega (arith, h))
 
 pub kind_plain : (form : List ℕ) (k : ℕ) → k < length form → get_or form k 64 ≡ get_or form k 0
 kind_plain [] k h = absurd (omega (arith, h))
@@ -127,7 +127,7 @@ kind_plain (b ∷ form) (suc k) h = kind_plain form k (omega (arith, h))
 
 pub kind_with : (form : List ℕ) (origin : Bool) (k : ℕ) {kind count : ℕ} → kind ≡ get_or form k 64 → count ≡ length (form_with origin form) → k < count → kind ≡ get_or (form_with origin form) k 0
 unfolding form_with
-kind_with form true k e c h = e ∙ kind-more form k (omega (arith, c, h))
+kind_with form true k e c h = e ∙ kind_more form k (omega (arith, c, h))
 kind_with form false k e c h = e ∙ kind_plain form k (omega (arith, c, h))
 
 -- ---- whether `@` stands in a line

@@ -50,9 +50,9 @@ unfolding or_else
 some_first n (some_variable v) = refl
 some_first n (some_cell region index) = refl
 
-some-not : {m : Missing} → Some m → m ≡ Missing.Nothing → ⊥
-some-not (some_variable v) p = let z : ◌≡◌ {A = ℕ} 0 1 = cc in omega (arith, z)
-some-not (some_cell region index) p = let z : ◌≡◌ {A = ℕ} 0 1 = cc in omega (arith, z)
+some_not : {m : Missing} → Some m → m ≡ Missing.Nothing → ⊥
+some_not (some_variable v) p = let z : ◌≡◌ {A = ℕ} 0 1 = cc in omega (arith, z)
+some_not (some_cell region index) p = let z : ◌≡◌ {A = ℕ} 0 1 = cc in omega (arith, z)
 
 -- ---- the three answers differ
 
@@ -70,9 +70,9 @@ pub incomplete_is : {e : Evaluation} → e ≡ Evaluation.Incomplete → IsIncom
 unfolding IsIncomplete
 incomplete_is p = subst IsIncomplete (sym p) tt
 
-value-is : {e : Evaluation} {z : Complex} → e ≡ Evaluation.Value z → IsValue e
+value_is : {e : Evaluation} {z : Complex} → e ≡ Evaluation.Value z → IsValue e
 unfolding IsValue
-value-is p = subst IsValue (sym p) tt
+value_is p = subst IsValue (sym p) tt
 
 -- ---- one after another
 
@@ -81,30 +81,30 @@ data InTurn (e : Evaluation) (next : Complex → Evaluation) : Type 0 where
   before : e ≡ Evaluation.Incomplete → InTurn e next
   after : (z : Complex) → e ≡ Evaluation.Value z → next z ≡ Evaluation.Incomplete → InTurn e next
 
-in-turn : (e : Evaluation) (next : Complex → Evaluation) → and_then e next ≡ Evaluation.Incomplete → InTurn e next
+in_turn : (e : Evaluation) (next : Complex → Evaluation) → and_then e next ≡ Evaluation.Incomplete → InTurn e next
 unfolding and_then IsIncomplete
-in-turn (Evaluation.Value z) next p = after z refl p
-in-turn Evaluation.Incomplete next p = before refl
-in-turn (Evaluation.Need operation x y) next p = absurd (incomplete_is p)
+in_turn (Evaluation.Value z) next p = after z refl p
+in_turn Evaluation.Incomplete next p = before refl
+in_turn (Evaluation.Need operation x y) next p = absurd (incomplete_is p)
 
 -- where they have a value, the first has
 record HasValue (e : Evaluation) : Type 0 where
   pub value : Complex
   pub is : e ≡ Evaluation.Value value
 
-first-value : (e : Evaluation) (next : Complex → Evaluation) {z : Complex} → and_then e next ≡ Evaluation.Value z → HasValue e
+first_value : (e : Evaluation) (next : Complex → Evaluation) {z : Complex} → and_then e next ≡ Evaluation.Value z → HasValue e
 unfolding and_then IsValue
-first-value (Evaluation.Value x) next p = record { value = x; is = refl }
-first-value Evaluation.Incomplete next p = absurd (value-is p)
-first-value (Evaluation.Need operation x y) next p = absurd (value-is p)
+first_value (Evaluation.Value x) next p = record { value = x; is = refl }
+first_value Evaluation.Incomplete next p = absurd (value_is p)
+first_value (Evaluation.Need operation x y) next p = absurd (value_is p)
 
-then-value : {e : Evaluation} (next : Complex → Evaluation) {x : Complex} → e ≡ Evaluation.Value x → and_then e next ≡ next x
+then_value : {e : Evaluation} (next : Complex → Evaluation) {x : Complex} → e ≡ Evaluation.Value x → and_then e next ≡ next x
 unfolding and_then
-then-value next p = ap (λ e. and_then e next) p
+then_value next p = ap (λ e. and_then e next) p
 
-then-incomplete : {e : Evaluation} (next : Complex → Evaluation) → e ≡ Evaluation.Incomplete → and_then e next ≡ Evaluation.Incomplete
+then_incomplete : {e : Evaluation} (next : Complex → Evaluation) → e ≡ Evaluation.Incomplete → and_then e next ≡ Evaluation.Incomplete
 unfolding and_then
-then-incomplete next p = ap (λ e. and_then e next) p
+then_incomplete next p = ap (λ e. and_then e next) p
 
 -- ---- a leaf: it is bound and nothing is named, or it is not bound and is named
 
@@ -119,20 +119,20 @@ looked_up s missing = is_unbound refl s
 
 -- ---- an operation is never incomplete
 
-given-not : (o : Operation) (x y : Complex) (l : Lookup) → given o x y l ≡ Evaluation.Incomplete → ⊥
+given_not : (o : Operation) (x y : Complex) (l : Lookup) → given o x y l ≡ Evaluation.Incomplete → ⊥
 unfolding given IsIncomplete
-given-not o x y (found z) p = incomplete_is p
-given-not o x y missing p = incomplete_is p
+given_not o x y (found z) p = incomplete_is p
+given_not o x y missing p = incomplete_is p
 
 module _ (rows : Rows) where
   asked_not : (o : Operation) (x y : Complex) → given o x y (function_value o x y rows.functions) ≡ Evaluation.Incomplete → ⊥
-  asked_not o x y p = given-not o x y (function_value o x y rows.functions) p
+  asked_not o x y p = given_not o x y (function_value o x y rows.functions) p
 
-  cis-not : (x : Complex) → cis rows x ≡ Evaluation.Incomplete → ⊥
+  cis_not : (x : Complex) → cis rows x ≡ Evaluation.Incomplete → ⊥
   unfolding cis IsIncomplete
-  cis-not x p = elim (in-turn (asked_one rows Operation.Cosine x) _ p) [
+  cis_not x p = elim (in_turn (asked_one rows Operation.Cosine x) _ p) [
     | before q ↦ asked_not Operation.Cosine x _ q
-    | after cosine q r ↦ elim (in-turn (asked_one rows Operation.Sine x) _ r) [
+    | after cosine q r ↦ elim (in_turn (asked_one rows Operation.Sine x) _ r) [
       | before q ↦ asked_not Operation.Sine x _ q
       | after sine q r ↦ incomplete_is r
     ]
@@ -144,7 +144,7 @@ module _ (rows : Rows) where
   function_not ExpressionFunction.Cosine x p = asked_not Operation.Cosine x _ p
   function_not ExpressionFunction.Exponent x p = asked_not Operation.Exponent x _ p
   function_not ExpressionFunction.SquareRoot x p = asked_not Operation.SquareRoot x _ p
-  function_not ExpressionFunction.Cis x p = cis-not x p
+  function_not ExpressionFunction.Cis x p = cis_not x p
 
   pub infix_not : (o : InfixOperator) (x y : Complex) → calculate_infix rows o x y ≡ Evaluation.Incomplete → ⊥
   unfolding calculate_infix IsIncomplete
@@ -168,23 +168,23 @@ module _ (rows : Rows) where
   unfolding evaluate first_missing or_else IsValue
   value_nothing (leaf l) {z} p = elim (leafy l) [
     | is_bound n e ↦ e
-    | is_unbound q s ↦ absurd (value-is (sym q ∙ p))
+    | is_unbound q s ↦ absurd (value_is (sym q ∙ p))
   ]
-  value_nothing (function_call f t) p = let v = first-value (evaluate rows t) _ p in value_nothing t v.is
-  value_nothing (prefixed o t) p = let v = first-value (evaluate rows t) _ p in value_nothing t v.is
+  value_nothing (function_call f t) p = let v = first_value (evaluate rows t) _ p in value_nothing t v.is
+  value_nothing (prefixed o t) p = let v = first_value (evaluate rows t) _ p in value_nothing t v.is
   value_nothing (infixed o l r) p =
-      let v = first-value (evaluate rows l) _ p in
-      let w = first-value (evaluate rows r) _ (sym (then-value _ v.is) ∙ p) in
+      let v = first_value (evaluate rows l) _ p in
+      let w = first_value (evaluate rows r) _ (sym (then_value _ v.is) ∙ p) in
       ap (λ m. or_else m (first_missing rows r)) (value_nothing l v.is) ∙ value_nothing r w.is
 
-  after-value : (l r : Tree) {x : Complex} → evaluate rows l ≡ Evaluation.Value x → or_else (first_missing rows l) (first_missing rows r) ≡ first_missing rows r
+  after_value_law : (l r : Tree) {x : Complex} → evaluate rows l ≡ Evaluation.Value x → or_else (first_missing rows l) (first_missing rows r) ≡ first_missing rows r
   unfolding or_else
-  after-value l r p = ap (λ m. or_else m (first_missing rows r)) (value_nothing l p)
+  after_value_law l r p = ap (λ m. or_else m (first_missing rows r)) (value_nothing l p)
 
-  unbound-is : (m : Missing) (l : Lookup) → bound l ≡ Evaluation.Incomplete → (l ≡ missing) × (unless_bound m l ≡ m)
+  unbound_is : (m : Missing) (l : Lookup) → bound l ≡ Evaluation.Incomplete → (l ≡ missing) × (unless_bound m l ≡ m)
   unfolding bound unless_bound IsIncomplete
-  unbound-is m (found z) p = absurd (incomplete_is p)
-  unbound-is m missing p = (refl, refl)
+  unbound_is m (found z) p = absurd (incomplete_is p)
+  unbound_is m missing p = (refl, refl)
 
   -- what is named is what evaluation was incomplete for
   pub incomplete_meets : (t : Tree) → evaluate rows t ≡ Evaluation.Incomplete → Meets rows t (first_missing rows t)
@@ -192,23 +192,23 @@ module _ (rows : Rows) where
   incomplete_meets (leaf (number z)) p = absurd (incomplete_is p)
   incomplete_meets (leaf pi) p = absurd (incomplete_is p)
   incomplete_meets (leaf (variable v)) p =
-      let u = unbound-is (Missing.Variable v) (value_of v rows.variables) p in
+      let u = unbound_is (Missing.Variable v) (value_of v rows.variables) p in
       subst (Meets rows (leaf (variable v))) (sym u.1) (at_variable u.0)
   incomplete_meets (leaf (cell region index)) p =
-      let u = unbound-is (Missing.Cell region index) (cell_value region index rows.cells) p in
+      let u = unbound_is (Missing.Cell region index) (cell_value region index rows.cells) p in
       subst (Meets rows (leaf (cell region index))) (sym u.1) (at_cell u.0)
-  incomplete_meets (function_call f t) p = elim (in-turn (evaluate rows t) _ p) [
+  incomplete_meets (function_call f t) p = elim (in_turn (evaluate rows t) _ p) [
     | before q ↦ in_function (incomplete_meets t q)
     | after z q r ↦ absurd (function_not f z r)
   ]
-  incomplete_meets (prefixed o t) p = elim (in-turn (evaluate rows t) _ p) [
+  incomplete_meets (prefixed o t) p = elim (in_turn (evaluate rows t) _ p) [
     | before q ↦ in_prefix (incomplete_meets t q)
     | after z q r ↦ absurd (incomplete_is r)
   ]
-  incomplete_meets (infixed o l r) p = elim (in-turn (evaluate rows l) _ p) [
+  incomplete_meets (infixed o l r) p = elim (in_turn (evaluate rows l) _ p) [
     | before q ↦ let h = incomplete_meets l q in subst (Meets rows (infixed o l r)) (sym (some_first (first_missing rows r) (meets_some h))) (in_left h)
-    | after x q p ↦ elim (in-turn (evaluate rows r) _ p) [
-      | before q' ↦ subst (Meets rows (infixed o l r)) (sym (after-value l r q)) (in_right q (incomplete_meets r q'))
+    | after x q p ↦ elim (in_turn (evaluate rows r) _ p) [
+      | before q' ↦ subst (Meets rows (infixed o l r)) (sym (after_value_law l r q)) (in_right q (incomplete_meets r q'))
       | after y q' p ↦ absurd (infix_not o x y p)
     ]
   ]
@@ -218,10 +218,10 @@ module _ (rows : Rows) where
   unfolding evaluate leaf_value bound
   meets_incomplete (at_variable e) = ap bound e
   meets_incomplete (at_cell e) = ap bound e
-  meets_incomplete (in_function h) = then-incomplete _ (meets_incomplete h)
-  meets_incomplete (in_prefix h) = then-incomplete _ (meets_incomplete h)
-  meets_incomplete (in_left h) = then-incomplete _ (meets_incomplete h)
-  meets_incomplete (in_right e h) = then-value _ e ∙ then-incomplete _ (meets_incomplete h)
+  meets_incomplete (in_function h) = then_incomplete _ (meets_incomplete h)
+  meets_incomplete (in_prefix h) = then_incomplete _ (meets_incomplete h)
+  meets_incomplete (in_left h) = then_incomplete _ (meets_incomplete h)
+  meets_incomplete (in_right e h) = then_value _ e ∙ then_incomplete _ (meets_incomplete h)
 
   pub meets_first : {t : Tree} {m : Missing} → Meets rows t m → m ≡ first_missing rows t
   unfolding first_missing missing_leaf unless_bound
@@ -230,7 +230,7 @@ module _ (rows : Rows) where
   meets_first (in_function h) = meets_first h
   meets_first (in_prefix h) = meets_first h
   meets_first (in_left {r = r} {m = m} h) = sym (some_first (first_missing rows r) (meets_some h)) ∙ ap (λ m. or_else m (first_missing rows r)) (meets_first h)
-  meets_first (in_right {l = l} {r = r} e h) = meets_first h ∙ sym (after-value l r e)
+  meets_first (in_right {l = l} {r = r} e h) = meets_first h ∙ sym (after_value_law l r e)
 
   -- an incomplete evaluation names a variable or a cell
   pub incomplete_names : (t : Tree) → evaluate rows t ≡ Evaluation.Incomplete → Some (first_missing rows t)
@@ -238,7 +238,7 @@ module _ (rows : Rows) where
 
   -- and where nothing is named it is not
   pub nothing_complete : (t : Tree) → first_missing rows t ≡ Missing.Nothing → evaluate rows t ≡ Evaluation.Incomplete → ⊥
-  nothing_complete t e p = some-not (incomplete_names t p) e
+  nothing_complete t e p = some_not (incomplete_names t p) e
 
 -- ---- the bytes of a job
 
@@ -265,17 +265,17 @@ pub refused_valued : {why : Refusal} {z : Complex} → Evaluated.Refused why ≡
 unfolding HasNone
 refused_valued p = subst HasNone p tt
 
-was-incomplete : (e : Evaluation) → evaluated e ≡ Evaluated.Refused Refusal.Incomplete → e ≡ Evaluation.Incomplete
+was_incomplete : (e : Evaluation) → evaluated e ≡ Evaluated.Refused Refusal.Incomplete → e ≡ Evaluation.Incomplete
 unfolding evaluated
-was-incomplete (Evaluation.Value z) p = absurd (refused_valued (sym p))
-was-incomplete Evaluation.Incomplete p = refl
-was-incomplete (Evaluation.Need operation x y) p = absurd (omega (arith, refused_ten p))
+was_incomplete (Evaluation.Value z) p = absurd (refused_valued (sym p))
+was_incomplete Evaluation.Incomplete p = refl
+was_incomplete (Evaluation.Need operation x y) p = absurd (omega (arith, refused_ten p))
 
-had-value : (e : Evaluation) {z : Complex} → evaluated e ≡ Evaluated.Value z → HasValue e
+had_value : (e : Evaluation) {z : Complex} → evaluated e ≡ Evaluated.Value z → HasValue e
 unfolding evaluated
-had-value (Evaluation.Value x) p = record { value = x; is = refl }
-had-value Evaluation.Incomplete p = absurd (refused_valued p)
-had-value (Evaluation.Need operation x y) p = absurd (refused_valued p)
+had_value (Evaluation.Value x) p = record { value = x; is = refl }
+had_value Evaluation.Incomplete p = absurd (refused_valued p)
+had_value (Evaluation.Need operation x y) p = absurd (refused_valued p)
 
 module _ (room : ℕ) (list values : List ℕ) where
   -- "10 INCOMPLETE": what is named is what evaluation met
@@ -285,7 +285,7 @@ module _ (room : ℕ) (list values : List ℕ) where
     where
       go : (j : Job) → job room list values ≡ j → JobBy j → JobMeets room list values
       go (ready root store rows) e n =
-          let q = incomplete_meets rows root (was-incomplete (evaluate rows root) (ap evaluate_job (sym e) ∙ p)) in
+          let q = incomplete_meets rows root (was_incomplete (evaluate rows root) (ap evaluate_job (sym e) ∙ p)) in
           record { root = root; store = store; rows = rows; read = e; meets = subst (Meets rows root) (sym (ap missing_of e)) q }
       go (Calls.refused why) e n = absurd (omega (arith, job_most n, refused_ten (ap evaluate_job (sym e) ∙ p)))
 
@@ -298,5 +298,5 @@ module _ (room : ℕ) (list values : List ℕ) where
   valued_nothing {z} p = go (job room list values) refl
     where
       go : (j : Job) → job room list values ≡ j → missing_in_job room list values ≡ Missing.Nothing
-      go (ready root store rows) e = ap missing_of e ∙ value_nothing rows root (had-value (evaluate rows root) (ap evaluate_job (sym e) ∙ p)).is
+      go (ready root store rows) e = ap missing_of e ∙ value_nothing rows root (had_value (evaluate rows root) (ap evaluate_job (sym e) ∙ p)).is
       go (Calls.refused why) e = ap missing_of e

@@ -45,44 +45,44 @@ IsLack (stands stack) = ⊥
 IsLack (lacks e) = IsIncomplete e
 IsLack breaks = ⊥
 
-lack-is : {o : Outcome} → o ≡ lacks Evaluation.Incomplete → IsLack o
+lack_is : {o : Outcome} → o ≡ lacks Evaluation.Incomplete → IsLack o
 unfolding IsLack IsIncomplete
-lack-is p = subst IsLack (sym p) tt
+lack_is p = subst IsLack (sym p) tt
 
 Stands : Outcome → Type 0
 Stands (stands stack) = Unit {0}
 Stands (lacks e) = ⊥
 Stands breaks = ⊥
 
-stands-is : {o : Outcome} {stack : List Complex} → o ≡ stands stack → Stands o
+stands_is : {o : Outcome} {stack : List Complex} → o ≡ stands stack → Stands o
 unfolding Stands
-stands-is p = subst Stands (sym p) tt
+stands_is p = subst Stands (sym p) tt
 
-push-lacks : (e : Evaluation) (stack : List Complex) → push e stack ≡ lacks Evaluation.Incomplete → e ≡ Evaluation.Incomplete
+push_lacks : (e : Evaluation) (stack : List Complex) → push e stack ≡ lacks Evaluation.Incomplete → e ≡ Evaluation.Incomplete
 unfolding push IsLack IsIncomplete
-push-lacks (Evaluation.Value z) stack p = absurd (go (ltb (length stack) 64) p)
+push_lacks (Evaluation.Value z) stack p = absurd (go (ltb (length stack) 64) p)
   where
     go : (b : Bool) → cond b (stands (z ∷ stack)) breaks ≡ lacks Evaluation.Incomplete → ⊥
-    go true p = lack-is p
-    go false p = lack-is p
-push-lacks Evaluation.Incomplete stack p = refl
-push-lacks (Evaluation.Need operation x y) stack p = absurd (lack-is p)
+    go true p = lack_is p
+    go false p = lack_is p
+push_lacks Evaluation.Incomplete stack p = refl
+push_lacks (Evaluation.Need operation x y) stack p = absurd (lack_is p)
 
-push-stands : {e : Evaluation} (stack : List Complex) {next : List Complex} → push e stack ≡ stands next → e ≡ Evaluation.Incomplete → ⊥
+push_stands : {e : Evaluation} (stack : List Complex) {next : List Complex} → push e stack ≡ stands next → e ≡ Evaluation.Incomplete → ⊥
 unfolding push Stands
-push-stands stack p q = stands-is (sym (ap (λ e. push e stack) q) ∙ p)
+push_stands stack p q = stands_is (sym (ap (λ e. push e stack) q) ∙ p)
 
 module _ (rows : Rows) where
   leaf_lacks : (l : Leaf) (stack : List Complex) → push (leaf_value rows l) stack ≡ lacks Evaluation.Incomplete → Some (missing_leaf rows l)
   leaf_lacks l stack p = elim (leafy rows l) [
-    | is_bound n e ↦ absurd (n (push-lacks (leaf_value rows l) stack p))
+    | is_bound n e ↦ absurd (n (push_lacks (leaf_value rows l) stack p))
     | is_unbound q s ↦ s
   ]
 
-  leaf-stands : (l : Leaf) (stack : List Complex) {next : List Complex} → push (leaf_value rows l) stack ≡ stands next → missing_leaf rows l ≡ Missing.Nothing
-  leaf-stands l stack p = elim (leafy rows l) [
+  leaf_stands : (l : Leaf) (stack : List Complex) {next : List Complex} → push (leaf_value rows l) stack ≡ stands next → missing_leaf rows l ≡ Missing.Nothing
+  leaf_stands l stack p = elim (leafy rows l) [
     | is_bound n e ↦ e
-    | is_unbound q s ↦ absurd (push-stands stack p q)
+    | is_unbound q s ↦ absurd (push_stands stack p q)
   ]
 
   -- a step that lacks a binding names it, and one that has a value names nothing
@@ -92,23 +92,23 @@ module _ (rows : Rows) where
   step_lacks Step.Pi stack p = leaf_lacks pi stack p
   step_lacks (Step.Variable v) stack p = leaf_lacks (variable v) stack p
   step_lacks (Step.Memory region index) stack p = leaf_lacks (cell region index) stack p
-  step_lacks (Step.Function f) [] p = absurd (lack-is p)
-  step_lacks (Step.Function f) (x ∷ stack) p = absurd (function_not rows f x (push-lacks (calculate_function rows f x) stack p))
-  step_lacks (Step.Prefix o) [] p = absurd (lack-is p)
-  step_lacks (Step.Prefix o) (x ∷ stack) p = absurd (incomplete_is (push-lacks (Evaluation.Value (calculate_prefix o x)) stack p))
-  step_lacks (Step.Infix o) [] p = absurd (lack-is p)
-  step_lacks (Step.Infix o) (y ∷ []) p = absurd (lack-is p)
-  step_lacks (Step.Infix o) (y ∷ x ∷ stack) p = absurd (infix_not rows o x y (push-lacks (calculate_infix rows o x y) stack p))
+  step_lacks (Step.Function f) [] p = absurd (lack_is p)
+  step_lacks (Step.Function f) (x ∷ stack) p = absurd (function_not rows f x (push_lacks (calculate_function rows f x) stack p))
+  step_lacks (Step.Prefix o) [] p = absurd (lack_is p)
+  step_lacks (Step.Prefix o) (x ∷ stack) p = absurd (incomplete_is (push_lacks (Evaluation.Value (calculate_prefix o x)) stack p))
+  step_lacks (Step.Infix o) [] p = absurd (lack_is p)
+  step_lacks (Step.Infix o) (y ∷ []) p = absurd (lack_is p)
+  step_lacks (Step.Infix o) (y ∷ x ∷ stack) p = absurd (infix_not rows o x y (push_lacks (calculate_infix rows o x y) stack p))
 
-  step-stands : (s : Step) (stack : List Complex) {next : List Complex} → step rows s stack ≡ stands next → missing_step rows s ≡ Missing.Nothing
+  step_stands : (s : Step) (stack : List Complex) {next : List Complex} → step rows s stack ≡ stands next → missing_step rows s ≡ Missing.Nothing
   unfolding step missing_step
-  step-stands (Step.Number z) stack p = leaf-stands (number z) stack p
-  step-stands Step.Pi stack p = leaf-stands pi stack p
-  step-stands (Step.Variable v) stack p = leaf-stands (variable v) stack p
-  step-stands (Step.Memory region index) stack p = leaf-stands (cell region index) stack p
-  step-stands (Step.Function f) stack p = refl
-  step-stands (Step.Prefix o) stack p = refl
-  step-stands (Step.Infix o) stack p = refl
+  step_stands (Step.Number z) stack p = leaf_stands (number z) stack p
+  step_stands Step.Pi stack p = leaf_stands pi stack p
+  step_stands (Step.Variable v) stack p = leaf_stands (variable v) stack p
+  step_stands (Step.Memory region index) stack p = leaf_stands (cell region index) stack p
+  step_stands (Step.Function f) stack p = refl
+  step_stands (Step.Prefix o) stack p = refl
+  step_stands (Step.Infix o) stack p = refl
 
 -- ---- the step at which playing stops
 
@@ -129,7 +129,7 @@ module _ (rows : Rows) where
 
   pub run_stops : (ss : List Step) (stack : List Complex) → run rows ss stack ≡ lacks Evaluation.Incomplete → StopsAt rows ss stack
   unfolding run and_then missing_in_steps or_else IsLack
-  run_stops [] stack p = absurd (lack-is p)
+  run_stops [] stack p = absurd (lack_is p)
   run_stops (s ∷ ss) stack p = go (step rows s stack) refl p λ next q. run_stops ss next q
     where
       go : (o : Outcome) → step rows s stack ≡ o → and_then o (λ stack. run rows ss stack) ≡ lacks Evaluation.Incomplete
@@ -144,12 +144,12 @@ module _ (rows : Rows) where
             left = h.left;
             stood = ap (λ o. and_then o (λ stack. run rows h.before stack)) e ∙ h.stood;
             stops = h.stops;
-            named = ap (λ m. or_else m (missing_in_steps rows ss)) (step-stands rows s stack e) ∙ h.named;
+            named = ap (λ m. or_else m (missing_in_steps rows ss)) (step_stands rows s stack e) ∙ h.named;
           }
       go (lacks x) e p more =
           let q = e ∙ p in
           record { before = []; here = s; after = ss; whole = refl; left = stack; stood = refl; stops = q; named = some_first _ (step_lacks rows s stack q) }
-      go breaks e p more = absurd (lack-is p)
+      go breaks e p more = absurd (lack_is p)
 
   -- ---- the tape of an expression
 
@@ -165,27 +165,27 @@ module _ (rows : Rows) where
   or_assoc (Missing.Variable v) m n = refl
   or_assoc (Missing.Cell region index) m n = refl
 
-  in-append : (ss us : List Step) → missing_in_steps rows (ss ++ us) ≡ or_else (missing_in_steps rows ss) (missing_in_steps rows us)
+  in_append : (ss us : List Step) → missing_in_steps rows (ss ++ us) ≡ or_else (missing_in_steps rows ss) (missing_in_steps rows us)
   unfolding missing_in_steps or_else
-  in-append [] us = refl
-  in-append (s ∷ ss) us = ap (or_else (missing_step rows s)) (in-append ss us) ∙ sym (or_assoc (missing_step rows s) (missing_in_steps rows ss) (missing_in_steps rows us))
+  in_append [] us = refl
+  in_append (s ∷ ss) us = ap (or_else (missing_step rows s)) (in_append ss us) ∙ sym (or_assoc (missing_step rows s) (missing_in_steps rows ss) (missing_in_steps rows us))
 
-  leaf-named : (l : Leaf) → missing_step rows (leaf_step l) ≡ missing_leaf rows l
+  leaf_named : (l : Leaf) → missing_step rows (leaf_step l) ≡ missing_leaf rows l
   unfolding missing_step leaf_step
-  leaf-named (number z) = refl
-  leaf-named pi = refl
-  leaf-named (variable v) = refl
-  leaf-named (cell region index) = refl
+  leaf_named (number z) = refl
+  leaf_named pi = refl
+  leaf_named (variable v) = refl
+  leaf_named (cell region index) = refl
 
   -- its steps name what the tree names
   pub steps_named : (t : Tree) → missing_in_steps rows (steps t) ≡ first_missing rows t
   unfolding steps first_missing missing_in_steps missing_step or_else
-  steps_named (leaf l) = or_nothing (missing_step rows (leaf_step l)) ∙ leaf-named l
-  steps_named (function_call f t) = in-append (steps t) (Step.Function f ∷ []) ∙ or_nothing (missing_in_steps rows (steps t)) ∙ steps_named t
-  steps_named (prefixed o t) = in-append (steps t) (Step.Prefix o ∷ []) ∙ or_nothing (missing_in_steps rows (steps t)) ∙ steps_named t
+  steps_named (leaf l) = or_nothing (missing_step rows (leaf_step l)) ∙ leaf_named l
+  steps_named (function_call f t) = in_append (steps t) (Step.Function f ∷ []) ∙ or_nothing (missing_in_steps rows (steps t)) ∙ steps_named t
+  steps_named (prefixed o t) = in_append (steps t) (Step.Prefix o ∷ []) ∙ or_nothing (missing_in_steps rows (steps t)) ∙ steps_named t
   steps_named (infixed o l r) =
-      in-append (steps l) (steps r ++ (Step.Infix o ∷ []))
-      ∙ ap (or_else (missing_in_steps rows (steps l))) (in-append (steps r) (Step.Infix o ∷ []) ∙ or_nothing (missing_in_steps rows (steps r)))
+      in_append (steps l) (steps r ++ (Step.Infix o ∷ []))
+      ∙ ap (or_else (missing_in_steps rows (steps l))) (in_append (steps r) (Step.Infix o ∷ []) ∙ or_nothing (missing_in_steps rows (steps r)))
       ∙ (λ i. or_else (steps_named l i) (steps_named r i))
 
 -- ---- the bytes of a tape
@@ -203,13 +203,13 @@ module _ (tape values : List ℕ) where
   unfolding missing_checked
   sound_names sound = ap (λ c. missing_checked c tape values) sound
 
-  sheet-small : {why : Refusal} → sheet values ≡ Lines.refused why → number_of why ≤ 4
+  sheet_small : {why : Refusal} → sheet values ≡ Lines.refused why → number_of why ≤ 4
   unfolding WholeHas
-  sheet-small e = sheet_most (subst (WholeBy OfSheet) e (sheet_numbers values))
+  sheet_small e = sheet_most (subst (WholeBy OfSheet) e (sheet_numbers values))
 
   answered : Evaluated.Refused Refusal.Incomplete ≡ play_call tape values → check tape ≡ Checked.Sound → Answered tape values → TapeStops tape values
   unfolding missing_under
-  answered p sound (sheet_refused why e q) = absurd (omega (arith, sheet-small e, refused_ten (sym (p ∙ q))))
+  answered p sound (sheet_refused why e q) = absurd (omega (arith, sheet_small e, refused_ten (sym (p ∙ q))))
   answered p sound (value rows z e f q) = absurd (refused_valued (p ∙ q))
   answered p sound (need rows operation x y e f q) = absurd (omega (arith, refused_ten (sym (p ∙ q))))
   answered p sound (incomplete rows e f q) = record {
@@ -236,10 +236,10 @@ module _ (tape values : List ℕ) where
 read_names : (rows : Rows) (root : Tree) → Proper root → {bs : List ℕ} → bs ≡ tape root → missing_in_steps rows (steps_in bs) ≡ first_missing rows root
 read_names rows root proper e = ap (λ bs. missing_in_steps rows (steps_in bs)) e ∙ ap (missing_in_steps rows) (steps_back (steps root) (steps_proper root proper)) ∙ steps_named rows root
 
-under-names : (root : Tree) (store : State) → Proper root → {bs : List ℕ} → bs ≡ tape root → (w : Whole Rows Refusal) → missing_under bs w ≡ missing_of (with_sheet root store w)
+under_names : (root : Tree) (store : State) → Proper root → {bs : List ℕ} → bs ≡ tape root → (w : Whole Rows Refusal) → missing_under bs w ≡ missing_of (with_sheet root store w)
 unfolding missing_under missing_of with_sheet
-under-names root store proper e (Lines.read rows) = read_names rows root proper e
-under-names root store proper e (Lines.refused why) = refl
+under_names root store proper e (Lines.read rows) = read_names rows root proper e
+under_names root store proper e (Lines.refused why) = refl
 
 job_of : (room : ℕ) (list values : List ℕ) {root : Tree} {swaps : List Swap} {store : State} → listing false list (fresh room 0) ≡ accepted root swaps store
     → job room list values ≡ with_sheet root store (sheet values)
@@ -253,5 +253,5 @@ compiled_names room list out {bytes} {out'} wrote room' {root} {store = store} r
     let s = written_from room list out wrote in
     let e : take bytes out' ≡ tape root = s.bytes_are ∙ ap tape (same_root false list room room' s.read read).0 in
     sound_names (take bytes out') values (written_sound room list out wrote)
-    ∙ under-names root store (accepted_good false list room' read).proper e (sheet values)
+    ∙ under_names root store (accepted_good false list room' read).proper e (sheet values)
     ∙ sym (ap missing_of (job_of room' list values read))

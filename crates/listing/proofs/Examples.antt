@@ -64,6 +64,6 @@ module _ (σ : State) where
   unfolding listing_line swap_line swapped swap_fields child_by above_last above_variable then ended decimal spelt run value digit_of
   swap_repeated = refl
 
-  node-after : listing_line true (known two (swap 7 b ∷ []) σ) 112 (10 ∷ []) ≡ stops (Refusal.BadList 3)
+  node_after : listing_line true (known two (swap 7 b ∷ []) σ) 112 (10 ∷ []) ≡ stops (Refusal.BadList 3)
   unfolding listing_line node_line none formed
-  node-after = refl
+  node_after = refl

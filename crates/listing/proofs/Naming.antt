@@ -20,10 +20,10 @@ for v (swap v' t) = eqb v v'
 named : Swap → Named
 named (swap v t) = names t
 
-swaps-first : (v : ℕ) (ss : List Swap) → first (for v) named nothing ss ≡ swap_for v ss
+swaps_first : (v : ℕ) (ss : List Swap) → first (for v) named nothing ss ≡ swap_for v ss
 unfolding first swap_for for named
-swaps-first v [] = refl
-swaps-first v (swap v' t ∷ ss) = rw (swaps-first v ss)
+swaps_first v [] = refl
+swaps_first v (swap v' t ∷ ss) = rw (swaps_first v ss)
 
 row_key : (table : List ℕ) (j : ℕ) → get_or table (swaps_from + 2 * j) 0 ≡ key_at table swaps_from 2 j
 row_key table j = let z : swaps_from + 2 * j ≡ 2 * j + swaps_from = omega arith in rw z
@@ -33,10 +33,10 @@ module _ {l : Lent} {table : List ℕ} {swaps : ℕ} (li : Lists l table 0 swaps
   unfolding for named
   swap_found h e =
       rw e (
-        first_found (for v) named nothing swaps _ r h (ap (eqb v) (row_key table r) ∙ s.hit h) (λ j o. ap (eqb v) (row_key table j) ∙ s.before j o) ∙ swaps-first v (swap_trees l.rows table swaps),
+        first_found (for v) named nothing swaps _ r h (ap (eqb v) (row_key table r) ∙ s.hit h) (λ j o. ap (eqb v) (row_key table j) ∙ s.before j o) ∙ swaps_first v (swap_trees l.rows table swaps),
         li.named r h,
       )
 
   pub swap_missing : swaps ≤ r → nothing ≡ swap_for v (swap_trees l.rows table swaps)
   unfolding for
-  swap_missing h = first_missing_lem (for v) named nothing swaps _ (λ j o. ap (eqb v) (row_key table j) ∙ s.before j (omega (arith, h, o))) ∙ swaps-first v (swap_trees l.rows table swaps)
+  swap_missing h = first_missing_lem (for v) named nothing swaps _ (λ j o. ap (eqb v) (row_key table j) ∙ s.before j (omega (arith, h, o))) ∙ swaps_first v (swap_trees l.rows table swaps)

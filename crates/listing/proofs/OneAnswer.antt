@@ -25,20 +25,20 @@ root_in : Spec.Listing → Tree
 root_in (accepted root swaps σ) = root
 root_in (Spec.refused why) = leaf pi
 
-swaps-in : Spec.Listing → List Swap
-swaps-in (accepted root swaps σ) = swaps
-swaps-in (Spec.refused why) = []
+swaps_in : Spec.Listing → List Swap
+swaps_in (accepted root swaps σ) = swaps
+swaps_in (Spec.refused why) = []
 
 store_in : Spec.Listing → State → State
 store_in (accepted root swaps σ) other = σ
 store_in (Spec.refused why) other = other
 
-trees-in : State → List Tree
-trees-in (state room stored kept tally) = stored
+trees_in_lem : State → List Tree
+trees_in_lem (state room stored kept tally) = stored
 
-why-in : Spec.Listing → Refusal → Refusal
-why-in (accepted root swaps σ) other = other
-why-in (Spec.refused why) other = why
+why_in : Spec.Listing → Refusal → Refusal
+why_in (accepted root swaps σ) other = other
+why_in (Spec.refused why) other = why
 
 IsAccepted : Spec.Listing → Type 0
 IsAccepted (accepted root swaps σ) = Unit {0}
@@ -46,23 +46,23 @@ IsAccepted (Spec.refused why) = ⊥
 
 module _ {substituting : Bool} {text : List ℕ} {l l₁ l₂ : Lent} {table₁ table₂ : List ℕ} where
   pub one_listing : (r r' : Listing) → Reads substituting text r l l₁ table₁ → Reads substituting text r' l l₂ table₂ → r ≡ r'
-  unfolding root_in swaps-in store_in trees-in why-in IsAccepted state_in
+  unfolding root_in swaps_in store_in trees_in_lem why_in IsAccepted state_in
   one_listing (Listing.Read i s) (Listing.Read j u) p q =
       let e = p.answer ∙ sym q.answer in
       let t = ap root_in e in
-      let ts = ap (λ x. trees-in (store_in x (state_in l₁))) e in
+      let ts = ap (λ x. trees_in_lem (store_in x (state_in l₁))) e in
       let k = sym (own_place p.after.2.sound.holds i p.after.0) ∙ (λ v. place (identical (t v)) (ts v)) ∙ own_place q.after.2.sound.holds j q.after.0 in
-      let w = sym (length_up_to s _) ∙ ap (λ x. length (swaps-in x)) e ∙ length_up_to u _ in
+      let w = sym (length_up_to s _) ∙ ap (λ x. length (swaps_in x)) e ∙ length_up_to u _ in
       λ v. Listing.Read (k v) (w v)
   one_listing (Listing.Read i s) (Listing.Refused why) p q = absurd (subst IsAccepted (p.answer ∙ sym q.answer) tt)
   one_listing (Listing.Refused why) (Listing.Read j u) p q = absurd (subst IsAccepted (q.answer ∙ sym p.answer) tt)
-  one_listing (Listing.Refused why) (Listing.Refused why') p q = ap (λ x. Listing.Refused (why-in x why)) (p.answer ∙ sym q.answer)
+  one_listing (Listing.Refused why) (Listing.Refused why') p q = ap (λ x. Listing.Refused (why_in x why)) (p.answer ∙ sym q.answer)
 
   -- and as many nodes stand then
   pub one_count : (i s j u : ℕ) → Reads substituting text (Listing.Read i s) l l₁ table₁ → Reads substituting text (Listing.Read j u) l l₂ table₂ → count l₁.desk ≡ count l₂.desk
-  unfolding store_in trees-in state_in
+  unfolding store_in trees_in_lem state_in
   one_count i s j u p q =
-      let ts = ap (λ x. trees-in (store_in x (state_in l₁))) (p.answer ∙ sym q.answer) in
+      let ts = ap (λ x. trees_in_lem (store_in x (state_in l₁))) (p.answer ∙ sym q.answer) in
       sym (length_trees l₁.rows (count l₁.desk)) ∙ ap length ts ∙ length_trees l₂.rows (count l₂.desk)
 
   -- and the same trees are stored
@@ -73,8 +73,8 @@ module _ {substituting : Bool} {text : List ℕ} {l l₁ l₂ : Lent} {table₁ 
   -- and the table then has the same s lines: their variables and the trees that they name
   pub one_swaps : (i s j u : ℕ) → Reads substituting text (Listing.Read i s) l l₁ table₁ → Reads substituting text (Listing.Read j u) l l₂ table₂
       → swap_trees l₁.rows table₁ s ≡ swap_trees l₂.rows table₂ u
-  unfolding swaps-in
-  one_swaps i s j u p q = ap swaps-in (p.answer ∙ sym q.answer)
+  unfolding swaps_in
+  one_swaps i s j u p q = ap swaps_in (p.answer ∙ sym q.answer)
 
 -- where the table has the s lines of a listing over a store
 pub one_swap : {l : Lent} {table : List ℕ} {swaps : ℕ} (variable : ℕ) (r r' : Code.Swap) → swaps ≤ 256 → Lists l table 0 swaps

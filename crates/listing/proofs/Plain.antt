@@ -42,11 +42,11 @@ module _ {S R : Type 0} where
   rest_line_cond true l l' p q = p
   rest_line_cond false l l' p q = q
 
-  after-alike : (l l' : Line S R) (m n : S → List ℕ → Whole S R) → l ≡ l' → RestLine l → ((s : S) (rest : List ℕ) → NoAt rest → m s rest ≡ n s rest)
+  after_alike : (l l' : Line S R) (m n : S → List ℕ → Whole S R) → l ≡ l' → RestLine l → ((s : S) (rest : List ℕ) → NoAt rest → m s rest ≡ n s rest)
       → after_line l m ≡ after_line l' n
   unfolding after_line
-  after-alike (goes s rest) l' m n e p h = h s rest p ∙ ap (λ l. after_line l n) e
-  after-alike (stops why) l' m n e p h = ap (λ l. after_line l n) e
+  after_alike (goes s rest) l' m n e p h = h s rest p ∙ ap (λ l. after_line l n) e
+  after_alike (stops why) l' m n e p h = ap (λ l. after_line l n) e
 
   module _ {line line' : S → ℕ → List ℕ → Line S R} (same : (s : S) (b : ℕ) (bs : List ℕ) → NoAt (b ∷ bs) → line s b bs ≡ line' s b bs)
       (rest : (s : S) (b : ℕ) (bs : List ℕ) → NoAt (b ∷ bs) → RestLine (line s b bs)) where
@@ -54,11 +54,11 @@ module _ {S R : Type 0} where
     unfolding lines_by at_line
     by_alike zero s bs p = refl
     by_alike (suc fuel) s [] p = refl
-    by_alike (suc fuel) s (b ∷ bs) p = after-alike (line s b bs) (line' s b bs) _ _ (same s b bs p) (rest s b bs p) λ s rest p. by_alike fuel s rest p
+    by_alike (suc fuel) s (b ∷ bs) p = after_alike (line s b bs) (line' s b bs) _ _ (same s b bs p) (rest s b bs p) λ s rest p. by_alike fuel s rest p
 
-    lines-alike : (s : S) (bs : List ℕ) → NoAt bs → lines line s bs ≡ lines line' s bs
+    lines_alike : (s : S) (bs : List ℕ) → NoAt bs → lines line s bs ≡ lines line' s bs
     unfolding lines
-    lines-alike s bs p = by_alike (length bs) s bs p
+    lines_alike s bs p = by_alike (length bs) s bs p
 
 -- ---- what stands after a line of the listing has no `@` either
 
@@ -67,47 +67,47 @@ unfolding then
 rest_then (is x rest) g p h = h x rest p
 rest_then bad g p h = tt
 
-child-rest : (nodes : List Tree) (bs : List ℕ) → NoAt bs → Rest NoAt (child_field lf nodes bs)
+child_rest : (nodes : List Tree) (bs : List ℕ) → NoAt bs → Rest NoAt (child_field lf nodes bs)
 unfolding child_by
-child-rest nodes bs p =
+child_rest nodes bs p =
     rest_then (ended lf (decimal (length nodes) bs)) (λ i bs. is (get_or nodes i (leaf pi)) bs) (rest_ended no_at_tail lf (decimal (length nodes) bs) (rest_decimal no_at_tail (length nodes) bs p)) λ i rest q. q
 
-swap-rest : (nodes : List Tree) (first : ℕ) (bs : List ℕ) → NoAt bs → Rest NoAt (swap_fields nodes first bs)
+swap_rest : (nodes : List Tree) (first : ℕ) (bs : List ℕ) → NoAt bs → Rest NoAt (swap_fields nodes first bs)
 unfolding swap_fields
-swap-rest nodes first bs p =
+swap_rest nodes first bs p =
     rest_then (ended tab (is first bs)) _ (rest_ended no_at_tail tab (is first bs) p) λ _ bs p.
     rest_then (decimal_field tab numbers bs) _ (rest_ended no_at_tail tab (decimal numbers bs) (rest_decimal no_at_tail numbers bs p)) λ v bs p.
-    rest_then (child_field lf nodes bs) (λ t bs. is (swap v t) bs) (child-rest nodes bs p) λ t bs p. p
+    rest_then (child_field lf nodes bs) (λ t bs. is (swap v t) bs) (child_rest nodes bs p) λ t bs p. p
 
-swapped-rest : (substituting : Bool) (k : Known) (r : Read Swap) → Rest NoAt r → RestLine (swapped substituting k r)
+swapped_rest : (substituting : Bool) (k : Known) (r : Read Swap) → Rest NoAt r → RestLine (swapped substituting k r)
 unfolding swapped
-swapped-rest substituting k (is s rest) p = rest_line_cond (substituting && above_last above_variable k.swaps s) _ _ p tt
-swapped-rest substituting k bad p = tt
+swapped_rest substituting k (is s rest) p = rest_line_cond (substituting && above_last above_variable k.swaps s) _ _ p tt
+swapped_rest substituting k bad p = tt
 
-stored-rest : (k : Known) (rest : List ℕ) (a : Answer) → NoAt rest → RestLine (stored k rest a)
+stored_rest : (k : Known) (rest : List ℕ) (a : Answer) → NoAt rest → RestLine (stored k rest a)
 unfolding stored
-stored-rest k rest (Storing.gives t s) p = p
-stored-rest k rest (Storing.refused why s) p = tt
+stored_rest k rest (Storing.gives t s) p = p
+stored_rest k rest (Storing.refused why s) p = tt
 
-formed-rest : (k : Known) (b : Bool) (r : Read Tree) → Rest NoAt r → RestLine (formed k (cond b r bad))
+formed_rest : (k : Known) (b : Bool) (r : Read Tree) → Rest NoAt r → RestLine (formed k (cond b r bad))
 unfolding formed
-formed-rest k true (is t rest) p = stored-rest k rest (intern t k.store) p
-formed-rest k true bad p = tt
-formed-rest k false r p = tt
+formed_rest k true (is t rest) p = stored_rest k rest (intern t k.store) p
+formed_rest k true bad p = tt
+formed_rest k false r p = tt
 
-node-rest : (nodes : List Tree) (first : ℕ) (bs : List ℕ) → NoAt bs → Rest NoAt (node_fields nodes first bs)
-node-rest nodes first bs p = go (node_fields nodes first bs) refl
+node_rest : (nodes : List Tree) (first : ℕ) (bs : List ℕ) → NoAt bs → Rest NoAt (node_fields nodes first bs)
+node_rest nodes first bs p = go (node_fields nodes first bs) refl
   where
     go : (r : Read Tree) → node_fields nodes first bs ≡ r → Rest NoAt r
     go (is t rest) e = rest_plain nodes first bs e p
     go bad e = tt
 
-line-rest : (substituting : Bool) (k : Known) (first : ℕ) (bs : List ℕ) → NoAt (first ∷ bs) → RestLine (listing_line substituting k first bs)
+line_rest : (substituting : Bool) (k : Known) (first : ℕ) (bs : List ℕ) → NoAt (first ∷ bs) → RestLine (listing_line substituting k first bs)
 unfolding listing_line swap_line node_line
-line-rest substituting k first bs p =
+line_rest substituting k first bs p =
     rest_line_cond (eqb first (letter "s")) _ _
-    (rest_line_cond (ltb (length k.swaps) 256) _ _ (swapped-rest substituting k (swap_fields k.nodes first bs) (swap-rest k.nodes first bs p.1)) tt)
-    (rest_line_cond (ltb (length k.nodes) 1024) _ _ (formed-rest k (none k.swaps) (node_fields k.nodes first bs) (node-rest k.nodes first bs p.1)) tt)
+    (rest_line_cond (ltb (length k.swaps) 256) _ _ (swapped_rest substituting k (swap_fields k.nodes first bs) (swap_rest k.nodes first bs p.1)) tt)
+    (rest_line_cond (ltb (length k.nodes) 1024) _ _ (formed_rest k (none k.swaps) (node_fields k.nodes first bs) (node_rest k.nodes first bs p.1)) tt)
 
 -- ---- so it is read as it was
 
@@ -117,7 +117,7 @@ plain_listing_line substituting k first bs p = rw (plain_line_lem k.nodes first 
 
 pub plain_lines : (substituting : Bool) (k : Known) (bs : List ℕ) → NoAt bs → lines (listing_line substituting) k bs ≡ lines (plain_line substituting) k bs
 plain_lines substituting k bs p =
-    lines-alike (λ k first bs p. plain_listing_line substituting k first bs p.1) (line-rest substituting) k bs p
+    lines_alike (λ k first bs p. plain_listing_line substituting k first bs p.1) (line_rest substituting) k bs p
 
 pub plain_listing : (substituting : Bool) (bs : List ℕ) (σ : State) → NoAt bs → listing substituting bs σ ≡ whole (lines (plain_line substituting) (known [] [] σ) bs)
 unfolding listing

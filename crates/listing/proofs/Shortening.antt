@@ -16,41 +16,41 @@ use Rattle.node_lines.specs.NodeLines.{child_field, node_fields}
 use Rattle.node_lines.proofs.Shortening.{child_shorter, node_shorter}
 use Rattle.listing.specs.Listings.{Known, Swap, swap, stored, formed, node_line, swap_fields, above_variable, swapped, swap_line, listing_line}
 
-stored-shorter : (k : Known) (bs rest : List ℕ) (a : Answer) → length rest ≤ length bs → ShorterLine bs (stored k rest a)
+stored_shorter : (k : Known) (bs rest : List ℕ) (a : Answer) → length rest ≤ length bs → ShorterLine bs (stored k rest a)
 unfolding stored
-stored-shorter k bs rest (Storing.gives t s) h = h
-stored-shorter k bs rest (Storing.refused why s) h = tt
+stored_shorter k bs rest (Storing.gives t s) h = h
+stored_shorter k bs rest (Storing.refused why s) h = tt
 
-formed-shorter : (k : Known) (bs : List ℕ) (r : Read Tree) → Shorter bs r → ShorterLine bs (formed k r)
+formed_shorter : (k : Known) (bs : List ℕ) (r : Read Tree) → Shorter bs r → ShorterLine bs (formed k r)
 unfolding formed
-formed-shorter k bs (is t rest) h = stored-shorter k bs rest (intern t k.store) h
-formed-shorter k bs bad h = tt
+formed_shorter k bs (is t rest) h = stored_shorter k bs rest (intern t k.store) h
+formed_shorter k bs bad h = tt
 
-swapped-shorter : (substituting : Bool) (k : Known) (bs : List ℕ) (r : Read Swap) → Shorter bs r → ShorterLine bs (swapped substituting k r)
+swapped_shorter : (substituting : Bool) (k : Known) (bs : List ℕ) (r : Read Swap) → Shorter bs r → ShorterLine bs (swapped substituting k r)
 unfolding swapped
-swapped-shorter substituting k bs (is s rest) h = shorter_line_cond bs (substituting && above_last above_variable k.swaps s) _ _ h tt
-swapped-shorter substituting k bs bad h = tt
+swapped_shorter substituting k bs (is s rest) h = shorter_line_cond bs (substituting && above_last above_variable k.swaps s) _ _ h tt
+swapped_shorter substituting k bs bad h = tt
 
-fields-shorter : (nodes : List Tree) (first : ℕ) (bs : List ℕ) → Shorter bs (swap_fields nodes first bs)
+fields_shorter : (nodes : List Tree) (first : ℕ) (bs : List ℕ) → Shorter bs (swap_fields nodes first bs)
 unfolding swap_fields
-fields-shorter nodes first bs =
+fields_shorter nodes first bs =
     shorter_then bs (ended tab (is first bs)) _ (shorter_ended tab bs (is first bs) (as_long bs)) λ _ bs.
     shorter_then bs (decimal_field tab 65536 bs) _ (shorter_decimal tab 65536 bs) λ v bs.
     shorter_then bs (child_field lf nodes bs) _ (child_shorter lf nodes bs) λ t bs.
     as_long bs
 
-node-line-shorter : (k : Known) (b : ℕ) (bs : List ℕ) → ShorterLine bs (node_line k b bs)
+node_line_shorter : (k : Known) (b : ℕ) (bs : List ℕ) → ShorterLine bs (node_line k b bs)
 unfolding node_line
-node-line-shorter k b bs =
+node_line_shorter k b bs =
     shorter_line_cond bs (ltb (length k.nodes) 1024) _ _
-    (formed-shorter k bs (cond (none k.swaps) (node_fields k.nodes b bs) bad) (shorter_cond bs (none k.swaps) (node_fields k.nodes b bs) bad (node_shorter k.nodes b bs) tt)) tt
+    (formed_shorter k bs (cond (none k.swaps) (node_fields k.nodes b bs) bad) (shorter_cond bs (none k.swaps) (node_fields k.nodes b bs) bad (node_shorter k.nodes b bs) tt)) tt
 
-swap-line-shorter : (substituting : Bool) (k : Known) (b : ℕ) (bs : List ℕ) → ShorterLine bs (swap_line substituting k b bs)
+swap_line_shorter : (substituting : Bool) (k : Known) (b : ℕ) (bs : List ℕ) → ShorterLine bs (swap_line substituting k b bs)
 unfolding swap_line
-swap-line-shorter substituting k b bs =
-    shorter_line_cond bs (ltb (length k.swaps) 256) _ _ (swapped-shorter substituting k bs (swap_fields k.nodes b bs) (fields-shorter k.nodes b bs)) tt
+swap_line_shorter substituting k b bs =
+    shorter_line_cond bs (ltb (length k.swaps) 256) _ _ (swapped_shorter substituting k bs (swap_fields k.nodes b bs) (fields_shorter k.nodes b bs)) tt
 
 pub listing_shortens : (substituting : Bool) → Shortens (listing_line substituting)
 unfolding listing_line
 listing_shortens substituting k b bs =
-    shorter_line_cond bs (eqb b (letter "s")) (swap_line substituting k b bs) (node_line k b bs) (swap-line-shorter substituting k b bs) (node-line-shorter k b bs)
+    shorter_line_cond bs (eqb b (letter "s")) (swap_line substituting k b bs) (node_line k b bs) (swap_line_shorter substituting k b bs) (node_line_shorter k b bs)

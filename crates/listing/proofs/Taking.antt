@@ -40,16 +40,16 @@ use Rattle.node_lines.specs.Seen.{Finds}
 
 -- ---- whether there are values
 
-none-cons : {A : Type 0} (x : A) (xs : List A) → none (x ∷ xs) ≡ false
+none_cons : {A : Type 0} (x : A) (xs : List A) → none (x ∷ xs) ≡ false
 unfolding none
-none-cons x xs = refl
+none_cons x xs = refl
 
 none_up_to : {A : Type 0} (n : ℕ) (f : ℕ → A) → 0 < n → none (up_to n f) ≡ false
 none_up_to n f h = go (up_to n f) (length_up_to n f)
   where
     go : {A : Type 0} (l : List A) → length l ≡ n → none l ≡ false
     go [] e = absurd (omega (arith, e, h))
-    go (x ∷ xs) e = none-cons x xs
+    go (x ∷ xs) e = none_cons x xs
 
 -- ---- operands by the table
 
@@ -70,25 +70,25 @@ module _ (table : List ℕ) (e : Expression) {o : Operands} (o_is : o ≡ operan
   unfolding moved_to
   moved_two told p p' q = q ∙ (λ i. with_operands e (p i) (p' i)) ∙ told_as told
 
-moved-tree : (look : ℕ → Tree) (table : List ℕ) (e : Expression) → grown look (moved table e) ≡ grown (λ k. look (get_or table k 0)) e
+moved_tree : (look : ℕ → Tree) (table : List ℕ) (e : Expression) → grown look (moved table e) ≡ grown (λ k. look (get_or table k 0)) e
 unfolding grown operands_of with_operands moved_to
-moved-tree look table (Expression.Number z) = refl
-moved-tree look table Expression.PiConstant = refl
-moved-tree look table (Expression.Variable v) = refl
-moved-tree look table (Expression.Address r i) = refl
-moved-tree look table (Expression.FunctionCall f a) = refl
-moved-tree look table (Expression.Prefix o a) = refl
-moved-tree look table (Expression.Infix o a b) = refl
+moved_tree look table (Expression.Number z) = refl
+moved_tree look table Expression.PiConstant = refl
+moved_tree look table (Expression.Variable v) = refl
+moved_tree look table (Expression.Address r i) = refl
+moved_tree look table (Expression.FunctionCall f a) = refl
+moved_tree look table (Expression.Prefix o a) = refl
+moved_tree look table (Expression.Infix o a b) = refl
 
-moved-within : (table : List ℕ) (lines n : ℕ) (e : Expression) → ((k : ℕ) → k < lines → get_or table k 0 < n) → Within lines e → Within n (moved table e)
+moved_within : (table : List ℕ) (lines n : ℕ) (e : Expression) → ((k : ℕ) → k < lines → get_or table k 0 < n) → Within lines e → Within n (moved table e)
 unfolding operands_of with_operands moved_to
-moved-within table lines n (Expression.Number z) h w = tt
-moved-within table lines n Expression.PiConstant h w = tt
-moved-within table lines n (Expression.Variable v) h w = tt
-moved-within table lines n (Expression.Address r i) h w = tt
-moved-within table lines n (Expression.FunctionCall f a) h w = h a w
-moved-within table lines n (Expression.Prefix o a) h w = h a w
-moved-within table lines n (Expression.Infix o a b) h w = (h a w.0, h b w.1)
+moved_within table lines n (Expression.Number z) h w = tt
+moved_within table lines n Expression.PiConstant h w = tt
+moved_within table lines n (Expression.Variable v) h w = tt
+moved_within table lines n (Expression.Address r i) h w = tt
+moved_within table lines n (Expression.FunctionCall f a) h w = h a w
+moved_within table lines n (Expression.Prefix o a) h w = h a w
+moved_within table lines n (Expression.Infix o a b) h w = (h a w.0, h b w.1)
 
 -- ---- a node line
 
@@ -96,18 +96,18 @@ module _ {text table : List ℕ} {p : Progress} (ready : Ready text table p) {l 
   lines_long : length (line_trees l.rows table p.lines) ≡ p.lines
   lines_long = length_up_to p.lines (λ k. tree_in l (get_or table k 0))
 
-  swaps-long : length (swap_trees l.rows table p.swaps) ≡ p.swaps
-  swaps-long = length_up_to p.swaps _
+  swaps_long : length (swap_trees l.rows table p.swaps) ≡ p.swaps
+  swaps_long = length_up_to p.swaps _
 
   pub node_long : {l' : Lent} {table' : List ℕ} → 1024 ≤ p.lines
       → Takes (node_line (known_at l table p) (get_or text p.at 0) (drop (p.at + 1) text)) text p (StepEnum.Step.Refused (Refusal.LongList (p.lines + p.swaps))) l' table'
   unfolding node_line
-  node_long h = record { answer = sym (rw (lines_long, le-ltb p.lines 1024 h, swaps-long)); after = tt }
+  node_long h = record { answer = sym (rw (lines_long, le-ltb p.lines 1024 h, swaps_long)); after = tt }
 
   pub node_late : {l' : Lent} {table' : List ℕ} → p.lines < 1024 → 0 < p.swaps
       → Takes (node_line (known_at l table p) (get_or text p.at 0) (drop (p.at + 1) text)) text p (StepEnum.Step.Refused (Refusal.BadList (p.lines + p.swaps))) l' table'
   unfolding node_line formed
-  node_late h q = record { answer = sym (rw (lines_long, lt-ltb p.lines 1024 h, none_up_to p.swaps _ q, lines_long, swaps-long)); after = tt }
+  node_late h q = record { answer = sym (rw (lines_long, lt-ltb p.lines 1024 h, none_up_to p.swaps _ q, lines_long, swaps_long)); after = tt }
 
   -- the fields of a node line stand there
   module _ {r : Line} (few : p.lines < 1024) (unswapped : p.swaps ≤ 0) (f : Finds (λ earlier. node_fields earlier (get_or text p.at 0) (drop (p.at + 1) text)) text p.lines r) where
@@ -121,19 +121,19 @@ module _ {text table : List ℕ} {p : Progress} (ready : Ready text table p) {l 
     node_bad e =
         let q = f.seen (line_trees l.rows table p.lines) lines_long in
         let z = rw e at q in
-        record { answer = sym (rw (lines_long, lt-ltb p.lines 1024 few, none_yet, ← z, lines_long, swaps-long)); after = tt }
+        record { answer = sym (rw (lines_long, lt-ltb p.lines 1024 few, none_yet, ← z, lines_long, swaps_long)); after = tt }
 
     module _ {e : Expression} {next : ℕ} (is-node : r ≡ Line.Node e next) where
       pub operands : Within p.lines e
       operands = rw is-node at f.within
 
       pub operands_stored : Within (count l.desk) (moved table e)
-      operands_stored = moved-within table p.lines (count l.desk) e li.lists.nodes operands
+      operands_stored = moved_within table p.lines (count l.desk) e li.lists.nodes operands
 
       tree_is : grown (λ k. get_or (line_trees l.rows table p.lines) k (leaf pi)) e ≡ tree_of l.rows (moved table e)
       tree_is =
           grown_alike _ (λ k. tree_in l (get_or table k 0)) p.lines e operands (λ k h. at_up_to p.lines (λ k. tree_in l (get_or table k 0)) (leaf pi) k h)
-          ∙ sym (moved-tree (tree_in l) table e)
+          ∙ sym (moved_tree (tree_in l) table e)
 
       found : node_line (known_at l table p) (get_or text p.at 0) (drop (p.at + 1) text)
           ≡ stored (known_at l table p) (drop next text) (intern (tree_of l.rows (moved table e)) (state_in l))
@@ -209,11 +209,11 @@ module _ {text table : List ℕ} {p : Progress} (ready : Ready text table p) {l 
 
 -- ---- an s line
 
-above-snoc : (ss : List Swap) (v v' : ℕ) (t t' : Tree) → above_last above_variable (ss ++ (swap v t ∷ [])) (swap v' t') ≡ ltb v v'
+above_snoc : (ss : List Swap) (v v' : ℕ) (t t' : Tree) → above_last above_variable (ss ++ (swap v t ∷ [])) (swap v' t') ≡ ltb v v'
 unfolding above_last above_variable
-above-snoc [] v v' t t' = refl
-above-snoc (s ∷ []) v v' t t' = refl
-above-snoc (s ∷ r ∷ ss) v v' t t' = above-snoc (r ∷ ss) v v' t t'
+above_snoc [] v v' t t' = refl
+above_snoc (s ∷ []) v v' t t' = refl
+above_snoc (s ∷ r ∷ ss) v v' t t' = above_snoc (r ∷ ss) v v' t t'
 
 pub above_first : (m : Memory) (table : List ℕ) (swaps v : ℕ) (t : Tree) → swaps ≡ 0 → true ≡ above_last above_variable (swap_trees m table swaps) (swap v t)
 unfolding up_to above_last
@@ -223,13 +223,13 @@ pub above_later : (m : Memory) (table : List ℕ) (swaps v : ℕ) (t : Tree) →
 above_later m table zero v t h = absurd (h refl)
 above_later m table (suc k) v t h =
     let z : swaps_from + 2 * (suc k - 1) ≡ swaps_from + 2 * k = omega arith in
-    rw z (sym (ap (λ ss. above_last above_variable ss (swap v t)) (up_to_snoc k _) ∙ above-snoc (swap_trees m table k) (get_or table (swaps_from + 2 * k) 0) v _ t))
+    rw z (sym (ap (λ ss. above_last above_variable ss (swap v t)) (up_to_snoc k _) ∙ above_snoc (swap_trees m table k) (get_or table (swaps_from + 2 * k) 0) v _ t))
 
 module _ (substituting : Bool) {text table : List ℕ} {p : Progress} (ready : Ready text table p) {l : Lent} (li : Listed l table p.lines p.swaps) where
   pub swap_long : {l' : Lent} {table' : List ℕ} → 256 ≤ p.swaps
       → Takes (swap_line substituting (known_at l table p) (get_or text p.at 0) (drop (p.at + 1) text)) text p (StepEnum.Step.Refused (Refusal.LongList (p.lines + p.swaps))) l' table'
   unfolding swap_line
-  swap_long h = record { answer = sym (rw (swaps-long ready li, le-ltb p.swaps 256 h, lines_long ready li)); after = tt }
+  swap_long h = record { answer = sym (rw (swaps_long ready li, le-ltb p.swaps 256 h, lines_long ready li)); after = tt }
 
   module _ {r : SwapLine} (few : p.swaps < 256) (f : FindsSwap text p.at p.lines r) where
     pub swap_bad : {l' : Lent} {table' : List ℕ} → r ≡ SwapLine.Bad
@@ -237,7 +237,7 @@ module _ (substituting : Bool) {text table : List ℕ} {p : Progress} (ready : R
     unfolding swap_line swapped
     swap_bad e =
         let z = rw e at (f.seen (line_trees l.rows table p.lines) (lines_long ready li)) in
-        record { answer = sym (rw (swaps-long ready li, lt-ltb p.swaps 256 few, ← z, lines_long ready li, swaps-long ready li)); after = tt }
+        record { answer = sym (rw (swaps_long ready li, lt-ltb p.swaps 256 few, ← z, lines_long ready li, swaps_long ready li)); after = tt }
 
     module _ {v line next : ℕ} (is-swap : r ≡ SwapLine.Swap v line next) where
       operand : line < p.lines
@@ -255,7 +255,7 @@ module _ (substituting : Bool) {text table : List ℕ} {p : Progress} (ready : R
       pub swap_unasked : {l' : Lent} {table' : List ℕ} → substituting ≡ false
           → Takes (swap_line substituting (known_at l table p) (get_or text p.at 0) (drop (p.at + 1) text)) text p (StepEnum.Step.Refused (Refusal.BadList (p.lines + p.swaps))) l' table'
       unfolding swap_line swapped
-      swap_unasked e = record { answer = sym (rw (swaps-long ready li, lt-ltb p.swaps 256 few, found-swap, e, lines_long ready li, swaps-long ready li)); after = tt }
+      swap_unasked e = record { answer = sym (rw (swaps_long ready li, lt-ltb p.swaps 256 few, found-swap, e, lines_long ready li, swaps_long ready li)); after = tt }
 
       module _ {a : Bool} (asked : substituting ≡ true) (tests : Above table p.swaps v a) where
         pub swap_low : {l' : Lent} {table' : List ℕ} → a ≡ false
@@ -263,7 +263,7 @@ module _ (substituting : Bool) {text table : List ℕ} {p : Progress} (ready : R
         unfolding swap_line swapped named-tree
         swap_low e =
             let t : above_last above_variable (swap_trees l.rows table p.swaps) (swap v named-tree) ≡ false = sym (tests l.rows named-tree) ∙ e in
-            record { answer = sym (rw (swaps-long ready li, lt-ltb p.swaps 256 few, found-swap, asked, t, lines_long ready li, swaps-long ready li)); after = tt }
+            record { answer = sym (rw (swaps_long ready li, lt-ltb p.swaps 256 few, found-swap, asked, t, lines_long ready li, swaps_long ready li)); after = tt }
 
         pub swap_next : {table₁ table' : List ℕ} {node : ℕ} → a ≡ true → node ≡ get_or table line 0 → table₁ ≡ set table (swaps_from + 2 * p.swaps) v → table' ≡ set table₁ (swaps_from + 2 * p.swaps + 1) node
             → Takes (swap_line substituting (known_at l table p) (get_or text p.at 0) (drop (p.at + 1) text)) text p
@@ -272,7 +272,7 @@ module _ (substituting : Bool) {text table : List ℕ} {p : Progress} (ready : R
         swap_next {table₁} {table'} {node} e n w₁ w₂ =
             let t : above_last above_variable (swap_trees l.rows table p.swaps) (swap v named-tree) ≡ true = sym (tests l.rows named-tree) ∙ e in
             record {
-              answer = sym (rw (swaps-long ready li, lt-ltb p.swaps 256 few, found-swap, asked, t)
+              answer = sym (rw (swaps_long ready li, lt-ltb p.swaps 256 few, found-swap, asked, t)
                   (ap (λ ts. goes (known ts (swap_trees l.rows table p.swaps ++ (swap v named-tree ∷ [])) (state_in l)) (drop next text)) same_lines
                   ∙ ap (λ ss. goes (known (line_trees l.rows table' p.lines) ss (state_in l)) (drop next text)) (sym grows)));
               after = record {

@@ -92,10 +92,10 @@ unfolding last
 last_snoc t u [] = refl
 last_snoc t u (v ∷ ts) = last_snoc v u ts
 
-rooted-snoc : (ts : List Tree) (u : Tree) (ss : List Swap) (σ : State) → rooted (ts ++ (u ∷ [])) ss σ ≡ accepted u ss σ
+rooted_snoc : (ts : List Tree) (u : Tree) (ss : List Swap) (σ : State) → rooted (ts ++ (u ∷ [])) ss σ ≡ accepted u ss σ
 unfolding rooted last
-rooted-snoc [] u ss σ = refl
-rooted-snoc (t ∷ ts) u ss σ = rw (last_snoc t u ts)
+rooted_snoc [] u ss σ = refl
+rooted_snoc (t ∷ ts) u ss σ = rw (last_snoc t u ts)
 
 pub root_none : (table : List ℕ) (p : Progress) → p.lines ≡ 0 → Listing.Refused (Refusal.BadList 0) ≡ root_of table p
 unfolding root_of
@@ -105,24 +105,24 @@ pub root_some : (table : List ℕ) (p : Progress) (root : ℕ) → (p.lines ≡ 
 unfolding root_of
 root_some table p root e q = rw (ne_eqb p.lines 0 e, q)
 
-root-seen : (l : Lent) (table : List ℕ) (p : Progress) (lines : ℕ) → p.lines ≡ lines → listing_seen l table (root_of table p) ≡ whole (Lines.read (known_at l table p))
+root_seen : (l : Lent) (table : List ℕ) (p : Progress) (lines : ℕ) → p.lines ≡ lines → listing_seen l table (root_of table p) ≡ whole (Lines.read (known_at l table p))
 unfolding whole rooted up_to root_of
-root-seen l table p zero e = rw e
-root-seen l table p (suc k) e =
+root_seen l table p zero e = rw e
+root_seen l table p (suc k) e =
     let z : suc k - 1 ≡ k = omega arith in
-    rw (e, z, ne_eqb (suc k) 0 (λ q. omega (arith, q))) (sym (ap (λ ts. rooted ts (swap_trees l.rows table p.swaps) (state_in l)) (up_to_snoc k _) ∙ rooted-snoc (line_trees l.rows table k) (tree_in l (get_or table k 0)) (swap_trees l.rows table p.swaps) (state_in l)))
+    rw (e, z, ne_eqb (suc k) 0 (λ q. omega (arith, q))) (sym (ap (λ ts. rooted ts (swap_trees l.rows table p.swaps) (state_in l)) (up_to_snoc k _) ∙ rooted_snoc (line_trees l.rows table k) (tree_in l (get_or table k 0)) (swap_trees l.rows table p.swaps) (state_in l)))
 
-root-after : (l : Lent) (table : List ℕ) (p : Progress) → Ended l table p → (lines : ℕ) → p.lines ≡ lines → ListsAfter l table (root_of table p)
+root_after : (l : Lent) (table : List ℕ) (p : Progress) → Ended l table p → (lines : ℕ) → p.lines ≡ lines → ListsAfter l table (root_of table p)
 unfolding root_of
-root-after l table p f zero e = rw e tt
-root-after l table p f (suc k) e =
+root_after l table p f zero e = rw e tt
+root_after l table p f (suc k) e =
     let z : suc k - 1 ≡ k = omega arith in
     rw (e, z, ne_eqb (suc k) 0 (λ q. omega (arith, q))) (f.listed.lists.nodes k (omega (arith, e)), f.swaps, record { sound = f.listed.lists.sound; nodes = λ j h. absurd (omega arith); named = f.listed.lists.named; ascends = f.listed.lists.ascends })
 
-root-traced : (l : Lent) (table : List ℕ) (p : Progress) (ts : List Tree) → Traced ts l → (lines : ℕ) → p.lines ≡ lines → TracedAfter ts l (root_of table p)
+root_traced : (l : Lent) (table : List ℕ) (p : Progress) (ts : List Tree) → Traced ts l → (lines : ℕ) → p.lines ≡ lines → TracedAfter ts l (root_of table p)
 unfolding root_of
-root-traced l table p ts t zero e = rw e tt
-root-traced l table p ts t (suc k) e = rw (e, ne_eqb (suc k) 0 (λ q. omega (arith, q))) t
+root_traced l table p ts t zero e = rw e tt
+root_traced l table p ts t (suc k) e = rw (e, ne_eqb (suc k) 0 (λ q. omega (arith, q))) t
 
 module _ {substituting : Bool} {text : List ℕ} {l₀ l l' : Lent} {table : List ℕ} {r : Step} (b : Begun l₀ l) (t : ReadsLines substituting text r l l' table) where
   from_fresh : whole (lines_seen l' table r) ≡ listing substituting text (fresh (room l₀.rows) 0)
@@ -141,9 +141,9 @@ module _ {substituting : Bool} {text : List ℕ} {l₀ l l' : Lent} {table : Lis
   reads_root {p} {a} e q =
       let f = rw e at t.after in
       rw q (record {
-        answer = root-seen l' table p p.lines refl ∙ (rw e at from_fresh);
-        after = root-after l' table p f p.lines refl;
-        traced = root-traced l' table p _ (subst (λ ts. Traced ts l') (rw e at given_is) f.listed.traced) p.lines refl;
+        answer = root_seen l' table p p.lines refl ∙ (rw e at from_fresh);
+        after = root_after l' table p f p.lines refl;
+        traced = root_traced l' table p _ (subst (λ ts. Traced ts l') (rw e at given_is) f.listed.traced) p.lines refl;
       })
 
 -- ---- the rows and the table keep their lengths

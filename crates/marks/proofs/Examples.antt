@@ -15,9 +15,9 @@ said : used_line (1 ∷ 0 ∷ 0 ∷ 1 ∷ 1 ∷ 0 ∷ []) ≡ bytes "rows used: 
 unfolding marked_from each none in_decimal digits digits_by byte_of
 said = refl
 
-none-printed : marks_line (0 ∷ 0 ∷ []) ≡ bytes "marks\n"
+none_printed : marks_line (0 ∷ 0 ∷ []) ≡ bytes "marks\n"
 unfolding marked_from each
-none-printed = refl
+none_printed = refl
 
 nothing_said : used_line (0 ∷ 0 ∷ []) ≡ []
 unfolding marked_from none

@@ -7,10 +7,10 @@ use Rattle.text.specs.Reading.{tab, lf}
 use Rattle.text.specs.Writing.{in_decimal, line}
 use Rattle.marks.specs.Marking.{marked, each, numbers_line, marks_line}
 
-after-head : (head : List ℕ) (ns : List ℕ) → line (head ∷ map in_decimal ns) ≡ numbers_line head tab ns
+after_head : (head : List ℕ) (ns : List ℕ) → line (head ∷ map in_decimal ns) ≡ numbers_line head tab ns
 unfolding line each
-after-head head [] = refl
-after-head head (n ∷ ns) = ap (λ l. head ++ (tab ∷ l)) (after-head (in_decimal n) ns ∙ sym (append_assoc (in_decimal n) (each tab ns) (lf ∷ [])))
+after_head head [] = refl
+after_head head (n ∷ ns) = ap (λ l. head ++ (tab ∷ l)) (after_head (in_decimal n) ns ∙ sym (append_assoc (in_decimal n) (each tab ns) (lf ∷ [])))
 
 pub marks_fields : (marks : List ℕ) → marks_line marks ≡ line (bytes "marks" ∷ map in_decimal (marked marks))
-marks_fields marks = sym (after-head (bytes "marks") (marked marks))
+marks_fields marks = sym (after_head (bytes "marks") (marked marks))

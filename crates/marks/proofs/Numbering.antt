@@ -17,25 +17,25 @@ use Rattle.marks.specs.Marking.{marked_from, marked, each}
 
 -- ---- one mark
 
-abbrev ofMark : (separator number mark : ℕ) → List ℕ
-ofMark separator number mark = cond (eqb mark 0) [] (separator ∷ in_decimal number)
+abbrev of_mark : (separator number mark : ℕ) → List ℕ
+of_mark separator number mark = cond (eqb mark 0) [] (separator ∷ in_decimal number)
 
 pub row_short : (n : ℕ) → n < 256 → length (in_decimal n) ≤ 3
 row_short n h = few_digits 2 n (omega (arith, h))
 
 -- what stands where the mark is 0, and where it is not
 module _ {e : List ℕ} {at : ℕ} (separator number : ℕ) {mark : ℕ} where
-  pub unmarked : mark ≡ 0 → Put e at (ofMark separator number mark) at e × (at ≤ at + 4)
+  pub unmarked : mark ≡ 0 → Put e at (of_mark separator number mark) at e × (at ≤ at + 4)
   unmarked z = (rw (eq-eqb mark 0 z) (record { place = omega arith; stored = refl }), omega arith)
 
   module _ {m x : List ℕ} {p r : ℕ} (a : Put e at (separator ∷ []) p m) (b : Put m p (in_decimal number) r x) (h : number < 256) where
-    pub marks_row : (mark ≡ 0 → ⊥) → Put e at (ofMark separator number mark) r x × (r ≤ at + 4)
+    pub marks_row : (mark ≡ 0 → ⊥) → Put e at (of_mark separator number mark) r x × (r ≤ at + 4)
     marks_row n = (rw (ne_eqb mark 0 n) (put_then a b), omega (arith, a.place, b.place, row_short number h))
 
 -- ---- all of them
 
 module _ (separator k m : ℕ) (ms : List ℕ) where
-  first_mark : each separator (marked_from k (m ∷ ms)) ≡ ofMark separator k m ++ each separator (marked_from (k + 1) ms)
+  first_mark : each separator (marked_from k (m ∷ ms)) ≡ of_mark separator k m ++ each separator (marked_from (k + 1) ms)
   unfolding marked_from each
   first_mark = rw (add-one k) (go (eqb m 0))
     where
@@ -61,15 +61,15 @@ begins out at separator marks = record {
 }
 
 module _ {out₀ : List ℕ} {at separator : ℕ} {marks out : List ℕ} {next k : ℕ} (g : Numbering out₀ at separator marks out next k) where
-  pub goes_on : k < length marks → {out' : List ℕ} {r : ℕ} → Put out next (ofMark separator k (get_or marks k 0)) r out' × (r ≤ next + 4)
+  pub goes_on : k < length marks → {out' : List ℕ} {r : ℕ} → Put out next (of_mark separator k (get_or marks k 0)) r out' × (r ≤ next + 4)
       → Numbering out₀ at separator marks out' r (k + 1)
   goes_on h (p, w) = record {
-    done = g.done ++ ofMark separator k (get_or marks k 0);
+    done = g.done ++ of_mark separator k (get_or marks k 0);
     put = put_then g.put p;
     whole =
         g.whole ∙ ap (λ l. g.done ++ each separator (marked_from k l)) (here marks k h)
         ∙ ap (λ l. g.done ++ l) (first_mark separator k (get_or marks k 0) (drop (k + 1) marks))
-        ∙ sym (append_assoc g.done (ofMark separator k (get_or marks k 0)) (each separator (marked_from (k + 1) (drop (k + 1) marks))));
+        ∙ sym (append_assoc g.done (of_mark separator k (get_or marks k 0)) (each separator (marked_from (k + 1) (drop (k + 1) marks))));
     few = omega (arith, g.few, w);
     inside = omega (arith, h);
   }

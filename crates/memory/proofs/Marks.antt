@@ -25,13 +25,13 @@ noted_length (j ∷ a) m = noted_length a (set m j 1) ∙ length-set m j 1
 
 -- ---- in what order, and how often
 
-set-swap : (m : List ℕ) (i j : ℕ) → set (set m i 1) j 1 ≡ set (set m j 1) i 1
-set-swap m i j = elim (ℕ_discrete i j) [ yes e ↦ rw e | no n ↦ set_comm m i j 1 1 n ]
+set_swap : (m : List ℕ) (i j : ℕ) → set (set m i 1) j 1 ≡ set (set m j 1) i 1
+set_swap m i j = elim (ℕ_discrete i j) [ yes e ↦ rw e | no n ↦ set_comm m i j 1 1 n ]
 
 pub noted_set : (a m : List ℕ) (j : ℕ) → noted a (set m j 1) ≡ set (noted a m) j 1
 unfolding noted
 noted_set [] m j = refl
-noted_set (i ∷ a) m j = ap (noted a) (set-swap m j i) ∙ noted_set a (set m i 1) j
+noted_set (i ∷ a) m j = ap (noted a) (set_swap m j i) ∙ noted_set a (set m i 1) j
 
 pub noted_swap : (a b m : List ℕ) → noted a (noted b m) ≡ noted b (noted a m)
 unfolding noted

@@ -53,8 +53,8 @@ Stops bs = Plain (get_or bs 0 0) → ⊥
 no_byte : Stops []
 no_byte p = let h = p.high in omega (arith, h)
 
-digit-plain : (b : ℕ) → digit_of b < 16 → Plain b
-digit-plain b h = elim (which_digit b) [
+digit_plain : (b : ℕ) → digit_of b < 16 → Plain b
+digit_plain b h = elim (which_digit b) [
   | from_0_to_9 l u e ↦ record { high = omega (arith, l); other = λ q. omega (arith, q, u) }
   | from_a_to_f l u e ↦ record { high = omega (arith, l); other = λ q. omega (arith, q, l) }
   | no_digit_at_all p q e ↦ absurd (omega (arith, e, h))
@@ -65,7 +65,7 @@ no_run : (bs : List ℕ) → Stops bs → run bs ≡ []
 unfolding run
 no_run [] s = refl
 no_run (b ∷ bs) s = elim (dec_lt (digit_of b) 10) [
-  | yes l ↦ absurd (s (digit-plain b (omega (arith, l))))
+  | yes l ↦ absurd (s (digit_plain b (omega (arith, l))))
   | no g ↦ rw (le-ltb (digit_of b) 10 (omega (arith, g)))
 ]
 
@@ -73,17 +73,17 @@ pub no_decimal : (limit : ℕ) (bs : List ℕ) → Stops bs → decimal limit bs
 unfolding decimal spelt
 no_decimal limit bs s = rw (no_run bs s)
 
-no-digits : (k v : ℕ) (bs : List ℕ) → Stops bs → hex_from (suc k) v bs ≡ bad
+no_digits : (k v : ℕ) (bs : List ℕ) → Stops bs → hex_from (suc k) v bs ≡ bad
 unfolding hex_from
-no-digits k v [] s = refl
-no-digits k v (b ∷ bs) s = elim (dec_lt (digit_of b) 16) [
-  | yes l ↦ absurd (s (digit-plain b l))
+no_digits k v [] s = refl
+no_digits k v (b ∷ bs) s = elim (dec_lt (digit_of b) 16) [
+  | yes l ↦ absurd (s (digit_plain b l))
   | no g ↦ rw (le-ltb (digit_of b) 16 (omega (arith, g)))
 ]
 
 pub no_hex : (bs : List ℕ) → Stops bs → hex bs ≡ bad
 unfolding hex
-no_hex bs s = no-digits 15 0 bs s
+no_hex bs s = no_digits 15 0 bs s
 
 -- ---- names of such bytes
 
@@ -99,9 +99,9 @@ abbrev pub PlainNames : List (List ℕ) → Type 0
 PlainNames [] = Unit {0}
 PlainNames (w ∷ ws) = PlainName w × PlainNames ws
 
-name-word : (w : List ℕ) → PlainName w → PlainWord w
-name-word [] p = tt
-name-word (b ∷ bs) p = p
+name_word : (w : List ℕ) → PlainName w → PlainWord w
+name_word [] p = tt
+name_word (b ∷ bs) p = p
 
 no_start : (w : ℕ) (ws bs : List ℕ) → Plain w → Stops bs → starts (w ∷ ws) bs ≡ false
 unfolding starts
@@ -133,29 +133,29 @@ module _ {f : List ℕ → List ℕ} (l : Leaves f) where
   unfolding run
   after_run [] = refl
   after_run (b ∷ bs) = elim (dec_lt (digit_of b) 10) [
-    | yes lt ↦ rw (lt-ltb (digit_of b) 10 lt, l.copies b bs (digit-plain b (omega (arith, lt)))) (after_run bs)
+    | yes lt ↦ rw (lt-ltb (digit_of b) 10 lt, l.copies b bs (digit_plain b (omega (arith, lt)))) (after_run bs)
     | no g ↦ rw (le-ltb (digit_of b) 10 (omega (arith, g)))
   ]
 
-  same-spelt : (limit : ℕ) (ds rest : List ℕ) → spelt limit ds (f rest) ≡ rests f (spelt limit ds rest)
+  same_spelt : (limit : ℕ) (ds rest : List ℕ) → spelt limit ds (f rest) ≡ rests f (spelt limit ds rest)
   unfolding spelt rests
-  same-spelt limit [] rest = refl
-  same-spelt limit (d ∷ ds) rest =
+  same_spelt limit [] rest = refl
+  same_spelt limit (d ∷ ds) rest =
       sym (rests_cond f (eqb d 0 && ltb 0 (length ds)) bad _ ∙ rw (rests_cond f (ltb (value 0 (d ∷ ds)) limit) (is (value 0 (d ∷ ds)) rest) bad))
 
   pub same_decimal : (limit : ℕ) (bs : List ℕ) → decimal limit (f bs) ≡ rests f (decimal limit bs)
   unfolding decimal
-  same_decimal limit bs = rw (same_run bs, after_run bs) (same-spelt limit (run bs) (drop (length (run bs)) bs))
+  same_decimal limit bs = rw (same_run bs, after_run bs) (same_spelt limit (run bs) (drop (length (run bs)) bs))
 
   same_digits : (k v : ℕ) (bs : List ℕ) → hex_from k v (f bs) ≡ rests f (hex_from k v bs)
   unfolding hex_from rests
   same_digits zero v bs = refl
-  same_digits (suc k) v [] = no-digits k v (f []) (l.halts [] no_byte)
+  same_digits (suc k) v [] = no_digits k v (f []) (l.halts [] no_byte)
   same_digits (suc k) v (b ∷ bs) = elim (dec_lt (digit_of b) 16) [
-    | yes lt ↦ rw (l.copies b bs (digit-plain b lt), lt-ltb (digit_of b) 16 lt) (same_digits k (v * 16 + digit_of b) bs)
+    | yes lt ↦ rw (l.copies b bs (digit_plain b lt), lt-ltb (digit_of b) 16 lt) (same_digits k (v * 16 + digit_of b) bs)
     | no g ↦ elim (sort b) [
       | plain p ↦ rw (l.copies b bs p, le-ltb (digit_of b) 16 (omega (arith, g)))
-      | stop s ↦ rw (no-digits k v (f (b ∷ bs)) (l.halts (b ∷ bs) s), le-ltb (digit_of b) 16 (omega (arith, g)))
+      | stop s ↦ rw (no_digits k v (f (b ∷ bs)) (l.halts (b ∷ bs) s), le-ltb (digit_of b) 16 (omega (arith, g)))
     ]
   ]
 
@@ -172,21 +172,21 @@ module _ {f : List ℕ → List ℕ} (l : Leaves f) where
     | stop s ↦ no_start w ws (f (b ∷ bs)) p.0 (l.halts (b ∷ bs) s) ∙ sym (no_start w ws (b ∷ bs) p.0 s)
   ]
 
-  after-word : (w bs : List ℕ) → PlainWord w → starts w bs ≡ true → drop (length w) (f bs) ≡ f (drop (length w) bs)
+  after_word : (w bs : List ℕ) → PlainWord w → starts w bs ≡ true → drop (length w) (f bs) ≡ f (drop (length w) bs)
   unfolding starts
-  after-word [] bs p e = refl
-  after-word (w ∷ ws) [] p e = absurd (omega (arith, ap (λ b. cond {A = ℕ} b 1 0) e))
-  after-word (w ∷ ws) (b ∷ bs) p e = elim (ℕ_discrete b w) [
+  after_word [] bs p e = refl
+  after_word (w ∷ ws) [] p e = absurd (omega (arith, ap (λ b. cond {A = ℕ} b 1 0) e))
+  after_word (w ∷ ws) (b ∷ bs) p e = elim (ℕ_discrete b w) [
     | no n ↦ absurd (omega (arith, ap (λ b. cond {A = ℕ} b 1 0) (rw (ne_eqb b w n) at e)))
-    | yes q ↦ rw (l.copies b bs (rw q p.0)) (after-word ws bs p.1 (rw (eq-eqb b w q) at e))
+    | yes q ↦ rw (l.copies b bs (rw q p.0)) (after_word ws bs p.1 (rw (eq-eqb b w q) at e))
   ]
 
   pub same_name : (k : ℕ) (words : List (List ℕ)) (bs : List ℕ) → PlainNames words → name_from k words (f bs) ≡ rests f (name_from k words bs)
   unfolding name_from rests
   same_name k [] bs p = refl
-  same_name k (w ∷ ws) bs p = rw (same_start w bs (name-word w p.0)) (go (starts w bs) refl (same_name (suc k) ws bs p.1))
+  same_name k (w ∷ ws) bs p = rw (same_start w bs (name_word w p.0)) (go (starts w bs) refl (same_name (suc k) ws bs p.1))
     where
       go : (b : Bool) → starts w bs ≡ b → name_from (suc k) ws (f bs) ≡ rests f (name_from (suc k) ws bs)
           → cond b (is k (drop (length w) (f bs))) (name_from (suc k) ws (f bs)) ≡ rests f (cond b (is k (drop (length w) bs)) (name_from (suc k) ws bs))
-      go true e later = rw (after-word w bs (name-word w p.0) e)
+      go true e later = rw (after_word w bs (name_word w p.0) e)
       go false e later = later

@@ -32,38 +32,38 @@ module _ {P : List ℕ → Type 0} (tails : (b : ℕ) (bs : List ℕ) → P (b �
   rest_drop (suc n) [] p = p
   rest_drop (suc n) (b ∷ bs) p = rest_drop n bs (tails b bs p)
 
-  rest-cond : {A : Type 0} (b : Bool) (r r' : Read A) → Rest P r → Rest P r' → Rest P (cond b r r')
-  rest-cond true r r' p q = p
-  rest-cond false r r' p q = q
+  rest_cond : {A : Type 0} (b : Bool) (r r' : Read A) → Rest P r → Rest P r' → Rest P (cond b r r')
+  rest_cond true r r' p q = p
+  rest_cond false r r' p q = q
 
-  rest-spelt : (limit : ℕ) (ds rest : List ℕ) → P rest → Rest P (spelt limit ds rest)
+  rest_spelt : (limit : ℕ) (ds rest : List ℕ) → P rest → Rest P (spelt limit ds rest)
   unfolding spelt
-  rest-spelt limit [] rest p = tt
-  rest-spelt limit (d ∷ ds) rest p = rest-cond (eqb d 0 && ltb 0 (length ds)) bad _ tt (rest-cond (ltb (value 0 (d ∷ ds)) limit) (is (value 0 (d ∷ ds)) rest) bad p tt)
+  rest_spelt limit [] rest p = tt
+  rest_spelt limit (d ∷ ds) rest p = rest_cond (eqb d 0 && ltb 0 (length ds)) bad _ tt (rest_cond (ltb (value 0 (d ∷ ds)) limit) (is (value 0 (d ∷ ds)) rest) bad p tt)
 
   pub rest_decimal : (limit : ℕ) (bs : List ℕ) → P bs → Rest P (decimal limit bs)
   unfolding decimal
-  rest_decimal limit bs p = rest-spelt limit (run bs) (drop (length (run bs)) bs) (rest_drop (length (run bs)) bs p)
+  rest_decimal limit bs p = rest_spelt limit (run bs) (drop (length (run bs)) bs) (rest_drop (length (run bs)) bs p)
 
-  rest-digits : (k v : ℕ) (bs : List ℕ) → P bs → Rest P (hex_from k v bs)
+  rest_digits : (k v : ℕ) (bs : List ℕ) → P bs → Rest P (hex_from k v bs)
   unfolding hex_from
-  rest-digits zero v bs p = p
-  rest-digits (suc k) v [] p = tt
-  rest-digits (suc k) v (b ∷ bs) p = rest-cond (ltb (digit_of b) 16) (hex_from k (v * 16 + digit_of b) bs) bad (rest-digits k (v * 16 + digit_of b) bs (tails b bs p)) tt
+  rest_digits zero v bs p = p
+  rest_digits (suc k) v [] p = tt
+  rest_digits (suc k) v (b ∷ bs) p = rest_cond (ltb (digit_of b) 16) (hex_from k (v * 16 + digit_of b) bs) bad (rest_digits k (v * 16 + digit_of b) bs (tails b bs p)) tt
 
   pub rest_hex : (bs : List ℕ) → P bs → Rest P (hex bs)
   unfolding hex
-  rest_hex bs p = rest-digits 16 0 bs p
+  rest_hex bs p = rest_digits 16 0 bs p
 
   pub rest_name : (k : ℕ) (words : List (List ℕ)) (bs : List ℕ) → P bs → Rest P (name_from k words bs)
   unfolding name_from
   rest_name k [] bs p = tt
-  rest_name k (w ∷ ws) bs p = rest-cond (starts w bs) (is k (drop (length w) bs)) (name_from (suc k) ws bs) (rest_drop (length w) bs p) (rest_name (suc k) ws bs p)
+  rest_name k (w ∷ ws) bs p = rest_cond (starts w bs) (is k (drop (length w) bs)) (name_from (suc k) ws bs) (rest_drop (length w) bs p) (rest_name (suc k) ws bs p)
 
   pub rest_ended : {A : Type 0} (stop : ℕ) (r : Read A) → Rest P r → Rest P (ended stop r)
   unfolding ended
   rest_ended stop (is x []) p = tt
-  rest_ended stop (is x (b ∷ rest)) p = rest-cond (eqb b stop) (is x rest) bad (tails b rest p) tt
+  rest_ended stop (is x (b ∷ rest)) p = rest_cond (eqb b stop) (is x rest) bad (tails b rest p) tt
   rest_ended stop bad p = tt
 
 -- ---- the names that stand in node lines
@@ -74,8 +74,8 @@ plain_byte b h = record { high = omega (arith, h); other = λ q. omega (arith, q
 low_byte : (b : ℕ) → 32 < b → b < 64 → Plain b
 low_byte b h l = record { high = h; other = λ q. omega (arith, q, l) }
 
-function-names : PlainNames function_names
-function-names = (
+function_names_lem : PlainNames function_names
+function_names_lem = (
   (plain_byte 115 (omega arith), (plain_byte 105 (omega arith), (plain_byte 110 (omega arith), tt))),
   (
     (plain_byte 99 (omega arith), (plain_byte 111 (omega arith), (plain_byte 115 (omega arith), tt))),
@@ -92,8 +92,8 @@ function-names = (
   ),
 )
 
-prefix-names : PlainNames prefix_names
-prefix-names = (
+prefix_names_lem : PlainNames prefix_names
+prefix_names_lem = (
   (low_byte 43 (omega arith) (omega arith), tt),
   (
     (low_byte 45 (omega arith) (omega arith), tt),
@@ -101,8 +101,8 @@ prefix-names = (
   ),
 )
 
-infix-names : PlainNames infix_names
-infix-names = (
+infix_names_lem : PlainNames infix_names
+infix_names_lem = (
   (low_byte 43 (omega arith) (omega arith), tt),
   (
     (low_byte 45 (omega arith) (omega arith), tt),
@@ -155,23 +155,23 @@ unfolding then
 then_is (is x rest) h g = refl
 then_is bad h g = refl
 
-child-then : {A : Type 0} (earlier : List Tree) (bs : List ℕ) (g : Tree → List ℕ → Read A)
+child_then : {A : Type 0} (earlier : List Tree) (bs : List ℕ) (g : Tree → List ℕ → Read A)
     → then (child_field tab earlier bs) g ≡ then (ended tab (decimal (length earlier) bs)) (λ i bs. g (get_or earlier i (leaf pi)) bs)
 unfolding child_by
-child-then earlier bs g = then_is (ended tab (decimal (length earlier) bs)) (λ i. get_or earlier i (leaf pi)) g
+child_then earlier bs g = then_is (ended tab (decimal (length earlier) bs)) (λ i. get_or earlier i (leaf pi)) g
 
-cond-bad : {A : Type 0} (b : Bool) (p q : Read A) → p ≡ bad → q ≡ bad → cond b p q ≡ bad
-cond-bad true p q e e' = e
-cond-bad false p q e e' = e'
+cond_bad : {A : Type 0} (b : Bool) (p q : Read A) → p ≡ bad → q ≡ bad → cond b p q ≡ bad
+cond_bad true p q e e' = e
+cond_bad false p q e e' = e'
 
 module _ {P : List ℕ → Type 0} {f : List ℕ → List ℕ} where
   neither : {A : Type 0} → Beside {A = A} P f bad bad
   unfolding rests
   neither = record { same = refl; rest = tt }
 
-  cond-beside : {A : Type 0} (b : Bool) {p p' q q' : Read A} → Beside P f p' p → Beside P f q' q → Beside P f (cond b p' q') (cond b p q)
-  cond-beside true h h' = h
-  cond-beside false h h' = h'
+  cond_beside : {A : Type 0} (b : Bool) {p p' q q' : Read A} → Beside P f p' p → Beside P f q' q → Beside P f (cond b p' q') (cond b p q)
+  cond_beside true h h' = h
+  cond_beside false h h' = h'
 
   mapped : {A B : Type 0} (h : A → B) (r' r : Read A) → Beside P f r' r → Beside P f (then r' λ x rest. is (h x) rest) (then r λ x rest. is (h x) rest)
   unfolding then rests
@@ -197,88 +197,88 @@ module _ {P : List ℕ → Type 0} {f f' : List ℕ → List ℕ} {end end' : Re
 
   -- ---- the fields
 
-  number-beside : (bs : List ℕ) → P bs → Beside P f' (number_fields end' (f bs)) (number_fields end bs)
+  number_beside : (bs : List ℕ) → P bs → Beside P f' (number_fields end' (f bs)) (number_fields end bs)
   unfolding number_fields then
-  number-beside bs p =
+  number_beside bs p =
       rw (same_hex w.leaves bs)
       (next (hex bs) _ _ (rest_hex w.tails bs p)
       (λ re rest q. rw (same_hex w.leaves rest) (mapped (λ im. leaf (number (of_parts re im))) _ (end (hex rest)) (end_beside (hex rest) (rest_hex w.tails rest q))))
       (λ re rest a. rw (no_hex rest (at_stops rest a), w.end_bad)))
 
-  variable-beside : (bs : List ℕ) → P bs → Beside P f' (variable_fields end' (f bs)) (variable_fields end bs)
+  variable_beside : (bs : List ℕ) → P bs → Beside P f' (variable_fields end' (f bs)) (variable_fields end bs)
   unfolding variable_fields
-  variable-beside bs p =
+  variable_beside bs p =
       rw (same_decimal w.leaves numbers bs)
       (mapped (λ v. leaf (variable v)) _ (end (decimal numbers bs)) (end_beside (decimal numbers bs) (rest_decimal w.tails numbers bs p)))
 
-  cell-beside : (bs : List ℕ) → P bs → Beside P f' (cell_fields end' (f bs)) (cell_fields end bs)
+  cell_beside : (bs : List ℕ) → P bs → Beside P f' (cell_fields end' (f bs)) (cell_fields end bs)
   unfolding cell_fields then
-  cell-beside bs p =
+  cell_beside bs p =
       rw (same_decimal w.leaves numbers bs)
       (next (decimal numbers bs) _ _ (rest_decimal w.tails numbers bs p)
       (λ region rest q. rw (same_decimal w.leaves indices rest) (mapped (λ index. leaf (cell region index)) _ (end (decimal indices rest)) (end_beside (decimal indices rest) (rest_decimal w.tails indices rest q))))
       (λ region rest a. rw (no_decimal indices rest (at_stops rest a), w.end_bad)))
 
-  child-beside : (earlier : List Tree) (bs : List ℕ) → P bs → Beside P f' (child_by end' earlier (f bs)) (child_by end earlier bs)
+  child_beside : (earlier : List Tree) (bs : List ℕ) → P bs → Beside P f' (child_by end' earlier (f bs)) (child_by end earlier bs)
   unfolding child_by
-  child-beside earlier bs p =
+  child_beside earlier bs p =
       rw (same_decimal w.leaves (length earlier) bs)
       (mapped (λ i. get_or earlier i (leaf pi)) _ (end (decimal (length earlier) bs)) (end_beside (decimal (length earlier) bs) (rest_decimal w.tails (length earlier) bs p)))
 
-  no-child : (earlier : List Tree) (bs : List ℕ) → get_or bs 0 0 ≡ 64 → child_by end earlier bs ≡ bad
+  no_child_lem : (earlier : List Tree) (bs : List ℕ) → get_or bs 0 0 ≡ 64 → child_by end earlier bs ≡ bad
   unfolding child_by then
-  no-child earlier bs a = rw (no_decimal (length earlier) bs (at_stops bs a), w.end_bad)
+  no_child_lem earlier bs a = rw (no_decimal (length earlier) bs (at_stops bs a), w.end_bad)
 
-  function-beside : (earlier : List Tree) (bs : List ℕ) → P bs → Beside P f' (function_fields end' earlier (f bs)) (function_fields end earlier bs)
+  function_beside : (earlier : List Tree) (bs : List ℕ) → P bs → Beside P f' (function_fields end' earlier (f bs)) (function_fields end earlier bs)
   unfolding function_fields then
-  function-beside earlier bs p =
-      rw (same_name w.leaves 1 function_names bs function-names)
+  function_beside earlier bs p =
+      rw (same_name w.leaves 1 function_names bs function_names_lem)
       (next (name_from 1 function_names bs) _ _ (rest_name w.tails 1 function_names bs p)
-      (λ o rest q. mapped (λ t. function_call (function_of o) t) _ (child_by end earlier rest) (child-beside earlier rest q))
-      (λ o rest a. rw (no-child earlier rest a)))
+      (λ o rest q. mapped (λ t. function_call (function_of o) t) _ (child_by end earlier rest) (child_beside earlier rest q))
+      (λ o rest a. rw (no_child_lem earlier rest a)))
 
-  prefix-beside : (earlier : List Tree) (bs : List ℕ) → P bs → Beside P f' (prefix_fields end' earlier (f bs)) (prefix_fields end earlier bs)
+  prefix_beside : (earlier : List Tree) (bs : List ℕ) → P bs → Beside P f' (prefix_fields end' earlier (f bs)) (prefix_fields end earlier bs)
   unfolding prefix_fields then
-  prefix-beside earlier bs p =
-      rw (same_name w.leaves 1 prefix_names bs prefix-names)
+  prefix_beside earlier bs p =
+      rw (same_name w.leaves 1 prefix_names bs prefix_names_lem)
       (next (name_from 1 prefix_names bs) _ _ (rest_name w.tails 1 prefix_names bs p)
-      (λ o rest q. mapped (λ t. prefixed (prefix_of o) t) _ (child_by end earlier rest) (child-beside earlier rest q))
-      (λ o rest a. rw (no-child earlier rest a)))
+      (λ o rest q. mapped (λ t. prefixed (prefix_of o) t) _ (child_by end earlier rest) (child_beside earlier rest q))
+      (λ o rest a. rw (no_child_lem earlier rest a)))
 
   -- a left child and then a right one
   children_beside : (earlier : List Tree) (h : Tree → Tree → Tree) (bs : List ℕ) → P bs
       → Beside P f' (then (child_field tab earlier (f bs)) λ l bs. then (child_by end' earlier bs) λ r bs. is (h l r) bs) (then (child_field tab earlier bs) λ l bs. then (child_by end earlier bs) λ r bs. is (h l r) bs)
   unfolding then
   children_beside earlier h bs p =
-      rw (child-then earlier (f bs), child-then earlier bs, same_decimal w.leaves (length earlier) bs)
+      rw (child_then earlier (f bs), child_then earlier bs, same_decimal w.leaves (length earlier) bs)
       (next (decimal (length earlier) bs) _ _ (rest_decimal w.tails (length earlier) bs p)
-      (λ i rest q. mapped (λ r. h (get_or earlier i (leaf pi)) r) _ (child_by end earlier rest) (child-beside earlier rest q))
-      (λ i rest a. rw (no-child earlier rest a)))
+      (λ i rest q. mapped (λ r. h (get_or earlier i (leaf pi)) r) _ (child_by end earlier rest) (child_beside earlier rest q))
+      (λ i rest a. rw (no_child_lem earlier rest a)))
 
-  no-children : (earlier : List Tree) (h : Tree → Tree → Tree) (bs : List ℕ) → get_or bs 0 0 ≡ 64
+  no_children : (earlier : List Tree) (h : Tree → Tree → Tree) (bs : List ℕ) → get_or bs 0 0 ≡ 64
       → (then (child_field tab earlier bs) λ l bs. then (child_by end earlier bs) λ r bs. is (h l r) bs) ≡ bad
   unfolding child_by then ended
-  no-children earlier h bs a = rw (no_decimal (length earlier) bs (at_stops bs a))
+  no_children earlier h bs a = rw (no_decimal (length earlier) bs (at_stops bs a))
 
-  infix-beside : (earlier : List Tree) (bs : List ℕ) → P bs → Beside P f' (infix_fields end' earlier (f bs)) (infix_fields end earlier bs)
+  infix_beside : (earlier : List Tree) (bs : List ℕ) → P bs → Beside P f' (infix_fields end' earlier (f bs)) (infix_fields end earlier bs)
   unfolding infix_fields
-  infix-beside earlier bs p =
-      rw (same_name w.leaves 1 infix_names bs infix-names)
+  infix_beside earlier bs p =
+      rw (same_name w.leaves 1 infix_names bs infix_names_lem)
       (next (name_from 1 infix_names bs) _ _ (rest_name w.tails 1 infix_names bs p)
       (λ o rest q. children_beside earlier (λ l r. infixed (infix_of o) l r) rest q)
-      (λ o rest a. no-children earlier (λ l r. infixed (infix_of o) l r) rest a))
+      (λ o rest a. no_children earlier (λ l r. infixed (infix_of o) l r) rest a))
 
   -- ---- the line
 
-  fields-beside : (earlier : List Tree) (first : ℕ) (bs : List ℕ) → P bs → Beside P f' (fields_of end' earlier first (f bs)) (fields_of end earlier first bs)
+  fields_beside : (earlier : List Tree) (first : ℕ) (bs : List ℕ) → P bs → Beside P f' (fields_of end' earlier first (f bs)) (fields_of end earlier first bs)
   unfolding fields_of
-  fields-beside earlier first bs p =
-      cond-beside (eqb first (letter "n")) (number-beside bs p)
-      (cond-beside (eqb first (letter "v")) (variable-beside bs p)
-      (cond-beside (eqb first (letter "m")) (cell-beside bs p)
-      (cond-beside (eqb first (letter "f")) (function-beside earlier bs p)
-      (cond-beside (eqb first (letter "u")) (prefix-beside earlier bs p)
-      (cond-beside (eqb first (letter "b")) (infix-beside earlier bs p)
+  fields_beside earlier first bs p =
+      cond_beside (eqb first (letter "n")) (number_beside bs p)
+      (cond_beside (eqb first (letter "v")) (variable_beside bs p)
+      (cond_beside (eqb first (letter "m")) (cell_beside bs p)
+      (cond_beside (eqb first (letter "f")) (function_beside earlier bs p)
+      (cond_beside (eqb first (letter "u")) (prefix_beside earlier bs p)
+      (cond_beside (eqb first (letter "b")) (infix_beside earlier bs p)
       neither)))))
 
   -- no field begins with `@`
@@ -286,20 +286,20 @@ module _ {P : List ℕ → Type 0} {f f' : List ℕ → List ℕ} {end end' : Re
   unfolding fields_of number_fields variable_fields cell_fields function_fields prefix_fields infix_fields then ended
   no_fields earlier first bs a =
       let s = at_stops bs a in
-      cond-bad (eqb first (letter "n")) _ _ (rw (no_hex bs s))
-      (cond-bad (eqb first (letter "v")) _ _ (rw (no_decimal numbers bs s, w.end_bad))
-      (cond-bad (eqb first (letter "m")) _ _ (rw (no_decimal numbers bs s))
-      (cond-bad (eqb first (letter "f")) _ _ (rw (no_name 1 function_names bs function-names s))
-      (cond-bad (eqb first (letter "u")) _ _ (rw (no_name 1 prefix_names bs prefix-names s))
-      (cond-bad (eqb first (letter "b")) _ _ (rw (no_name 1 infix_names bs infix-names s))
+      cond_bad (eqb first (letter "n")) _ _ (rw (no_hex bs s))
+      (cond_bad (eqb first (letter "v")) _ _ (rw (no_decimal numbers bs s, w.end_bad))
+      (cond_bad (eqb first (letter "m")) _ _ (rw (no_decimal numbers bs s))
+      (cond_bad (eqb first (letter "f")) _ _ (rw (no_name 1 function_names bs function_names_lem s))
+      (cond_bad (eqb first (letter "u")) _ _ (rw (no_name 1 prefix_names bs prefix_names_lem s))
+      (cond_bad (eqb first (letter "b")) _ _ (rw (no_name 1 infix_names bs infix_names_lem s))
       refl)))))
 
-  pi-beside : (bs : List ℕ) → P bs → Beside P f' (pi_line end' (f bs)) (pi_line end bs)
+  pi_beside : (bs : List ℕ) → P bs → Beside P f' (pi_line end' (f bs)) (pi_line end bs)
   unfolding pi_line rests
-  pi-beside bs p = mapped (λ _. leaf pi) _ (end (is 0 bs)) (end_beside (is 0 bs) p)
+  pi_beside bs p = mapped (λ _. leaf pi) _ (end (is 0 bs)) (end_beside (is 0 bs) p)
 
   pub line_beside : (earlier : List Tree) (first : ℕ) (bs : List ℕ) → P bs → Beside P f' (line_by end' earlier first (f bs)) (line_by end earlier first bs)
   unfolding line_by rests
   line_beside earlier first bs p =
-      cond-beside (eqb first (letter "p")) (pi-beside bs p)
-      (next (is first bs) _ _ p (λ x rest q. fields-beside earlier x rest q) (λ x rest a. no_fields earlier x rest a))
+      cond_beside (eqb first (letter "p")) (pi_beside bs p)
+      (next (is first bs) _ _ p (λ x rest q. fields_beside earlier x rest q) (λ x rest a. no_fields earlier x rest a))

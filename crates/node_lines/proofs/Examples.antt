@@ -36,27 +36,27 @@ variable_line_lem : node_fields two 118 (9 ∷ 54 ∷ 53 ∷ 53 ∷ 51 ∷ 53 �
 unfolding line_by fields_of variable_fields then ended line_end decimal spelt run value digit_of
 variable_line_lem = refl
 
-variable-over : node_fields two 118 (9 ∷ 54 ∷ 53 ∷ 53 ∷ 51 ∷ 54 ∷ 10 ∷ []) ≡ bad
+variable_over : node_fields two 118 (9 ∷ 54 ∷ 53 ∷ 53 ∷ 51 ∷ 54 ∷ 10 ∷ []) ≡ bad
 unfolding line_by fields_of variable_fields then ended line_end decimal spelt run value digit_of
-variable-over = refl
+variable_over = refl
 
 -- `m·0·4294967295`, and `m·00·1`
 cell_line_lem : node_fields two 109 (9 ∷ 48 ∷ 9 ∷ 52 ∷ 50 ∷ 57 ∷ 52 ∷ 57 ∷ 54 ∷ 55 ∷ 50 ∷ 57 ∷ 53 ∷ 10 ∷ []) ≡ is (leaf (cell 0 4294967295)) []
 unfolding line_by fields_of cell_fields then ended line_end decimal spelt run value digit_of
 cell_line_lem = refl
 
-cell-zeros : node_fields two 109 (9 ∷ 48 ∷ 48 ∷ 9 ∷ 49 ∷ 10 ∷ []) ≡ bad
+cell_zeros : node_fields two 109 (9 ∷ 48 ∷ 48 ∷ 9 ∷ 49 ∷ 10 ∷ []) ≡ bad
 unfolding line_by fields_of cell_fields then ended line_end decimal spelt run value digit_of
-cell-zeros = refl
+cell_zeros = refl
 
 -- `f·cis·1`, and `f·tan·1`
 function_line_lem : node_fields two 102 (9 ∷ 99 ∷ 105 ∷ 115 ∷ 9 ∷ 49 ∷ 10 ∷ []) ≡ is (function_call ExpressionFunction.Cis b) []
 unfolding line_by fields_of function_fields child_by then ended line_end decimal spelt run value digit_of name_from starts numbered
 function_line_lem = refl
 
-function-unknown : node_fields two 102 (9 ∷ 116 ∷ 97 ∷ 110 ∷ 9 ∷ 49 ∷ 10 ∷ []) ≡ bad
+function_unknown : node_fields two 102 (9 ∷ 116 ∷ 97 ∷ 110 ∷ 9 ∷ 49 ∷ 10 ∷ []) ≡ bad
 unfolding line_by fields_of function_fields child_by then ended line_end decimal spelt run value digit_of name_from starts
-function-unknown = refl
+function_unknown = refl
 
 -- `u·-·0`
 prefix_line : node_fields two 117 (9 ∷ 45 ∷ 9 ∷ 48 ∷ 10 ∷ []) ≡ is (prefixed PrefixOperator.Minus a) []
@@ -68,13 +68,13 @@ infix_line : node_fields two 98 (9 ∷ 45 ∷ 9 ∷ 48 ∷ 9 ∷ 49 ∷ 10 ∷ [
 unfolding line_by fields_of infix_fields child_by then ended line_end decimal spelt run value digit_of name_from starts numbered
 infix_line = refl
 
-infix-own-child : node_fields two 98 (9 ∷ 45 ∷ 9 ∷ 48 ∷ 9 ∷ 50 ∷ 10 ∷ []) ≡ bad
+infix_own_child : node_fields two 98 (9 ∷ 45 ∷ 9 ∷ 48 ∷ 9 ∷ 50 ∷ 10 ∷ []) ≡ bad
 unfolding line_by fields_of infix_fields child_by then ended line_end decimal spelt run value digit_of name_from starts
-infix-own-child = refl
+infix_own_child = refl
 
-infix-unended : node_fields two 98 (9 ∷ 45 ∷ 9 ∷ 48 ∷ 9 ∷ 49 ∷ []) ≡ bad
+infix_unended : node_fields two 98 (9 ∷ 45 ∷ 9 ∷ 48 ∷ 9 ∷ 49 ∷ []) ≡ bad
 unfolding line_by fields_of infix_fields child_by then ended line_end decimal spelt run value digit_of name_from starts
-infix-unended = refl
+infix_unended = refl
 
 -- an empty line
 empty_line : node_fields two 10 [] ≡ bad
@@ -88,26 +88,26 @@ pi_origin : node_fields two 112 (bytes "\t@3\n") ≡ is (leaf pi) []
 unfolding line_by pi_line line_end origin after_at then ended decimal spelt run value digit_of
 pi_origin = refl
 
-variable-origin : node_fields two 118 (bytes "\t1\t@-\n") ≡ is b []
+variable_origin : node_fields two 118 (bytes "\t1\t@-\n") ≡ is b []
 unfolding line_by fields_of variable_fields line_end origin after_at then ended decimal spelt run value digit_of
-variable-origin = refl
+variable_origin = refl
 
 -- `b·-·0·1·@1023`; with 1024; with two fields; with the field in the place of a child
 infix_origin : node_fields two 98 (bytes "\t-\t0\t1\t@1023\n") ≡ is difference []
 unfolding line_by fields_of infix_fields child_by line_end origin after_at then ended decimal spelt run value digit_of name_from starts numbered
 infix_origin = refl
 
-infix-origin-over : node_fields two 98 (bytes "\t-\t0\t1\t@1024\n") ≡ bad
+infix_origin_over : node_fields two 98 (bytes "\t-\t0\t1\t@1024\n") ≡ bad
 unfolding line_by fields_of infix_fields child_by line_end origin after_at then ended decimal spelt run value digit_of name_from starts
-infix-origin-over = refl
+infix_origin_over = refl
 
-infix-origins : node_fields two 98 (bytes "\t-\t0\t1\t@0\t@0\n") ≡ bad
+infix_origins : node_fields two 98 (bytes "\t-\t0\t1\t@0\t@0\n") ≡ bad
 unfolding line_by fields_of infix_fields child_by line_end origin after_at then ended decimal spelt run value digit_of name_from starts
-infix-origins = refl
+infix_origins = refl
 
-infix-origin-early : node_fields two 98 (bytes "\t-\t0\t@1\n") ≡ bad
+infix_origin_early : node_fields two 98 (bytes "\t-\t0\t@1\n") ≡ bad
 unfolding line_by fields_of infix_fields child_by line_end origin after_at then ended decimal spelt run value digit_of name_from starts
-infix-origin-early = refl
+infix_origin_early = refl
 
 -- ---- a listing without these fields
 
@@ -120,14 +120,14 @@ two_stay : without_origins (bytes "p\t@3\t@3\n") ≡ bytes "p\t@3\t@3\n"
 unfolding without passing in_line left whole_field origin after_at then ended decimal spelt run value digit_of
 two_stay = refl
 
-malformed-stays : without_origins (bytes "p\t@03\n") ≡ bytes "p\t@03\n"
+malformed_stays : without_origins (bytes "p\t@03\n") ≡ bytes "p\t@03\n"
 unfolding without passing in_line left whole_field origin after_at then ended decimal spelt run value digit_of
-malformed-stays = refl
+malformed_stays = refl
 
-unended-stays : without_origins (bytes "p\t@3") ≡ bytes "p\t@3"
+unended_stays : without_origins (bytes "p\t@3") ≡ bytes "p\t@3"
 unfolding without passing in_line left whole_field origin after_at then ended decimal spelt run value digit_of
-unended-stays = refl
+unended_stays = refl
 
-s-stays : without_origins (bytes "s\t0\t0\t@3\n") ≡ bytes "s\t0\t0\t@3\n"
+s_stays : without_origins (bytes "s\t0\t0\t@3\n") ≡ bytes "s\t0\t0\t@3\n"
 unfolding without passing in_line left whole_field origin after_at then ended decimal spelt run value digit_of
-s-stays = refl
+s_stays = refl

@@ -36,9 +36,9 @@ kept_byte : (b : ℕ) (bs : List ℕ) → (b ≡ 10 → ⊥) → without kept (b
 unfolding without passing left in_line
 kept_byte b bs n = rw (ne_eqb b 10 n)
 
-dropped-byte : (b : ℕ) (bs : List ℕ) → (b ≡ 10 → ⊥) → without dropped (b ∷ bs) ≡ without dropped bs
+dropped_byte : (b : ℕ) (bs : List ℕ) → (b ≡ 10 → ⊥) → without dropped (b ∷ bs) ≡ without dropped bs
 unfolding without passing left in_line
-dropped-byte b bs n = rw (ne_eqb b 10 n)
+dropped_byte b bs n = rw (ne_eqb b 10 n)
 
 -- a whole field goes, up to its LF
 no_feed : (d : ℕ) → byte_of d ≡ 10 → ⊥
@@ -48,17 +48,17 @@ no_feed d e = elim (dec_lt d 10) [
   | no g ↦ let k : 65 + (d - 10) ≡ 10 = rw (le-ltb d 10 (omega (arith, g))) at e in omega (arith, k)
 ]
 
-digits-go : (ds bs : List ℕ) → without dropped (map byte_of ds ++ bs) ≡ without dropped bs
-digits-go [] bs = refl
-digits-go (d ∷ ds) bs = dropped-byte (byte_of d) (map byte_of ds ++ bs) (no_feed d) ∙ digits-go ds bs
+digits_go : (ds bs : List ℕ) → without dropped (map byte_of ds ++ bs) ≡ without dropped bs
+digits_go [] bs = refl
+digits_go (d ∷ ds) bs = dropped_byte (byte_of d) (map byte_of ds ++ bs) (no_feed d) ∙ digits_go ds bs
 
 origin_goes : (o : ℕ) (bs : List ℕ) → without dropped (origin_text o ++ bs) ≡ without dropped bs
 unfolding origin_text in_decimal
-origin_goes zero bs = dropped-byte 64 (45 ∷ bs) (λ e. omega (arith, e)) ∙ dropped-byte 45 bs (λ e. omega (arith, e))
-origin_goes (suc n) bs = dropped-byte 64 (in_decimal n ++ bs) (λ e. omega (arith, e)) ∙ digits-go (digits n) bs
+origin_goes zero bs = dropped_byte 64 (45 ∷ bs) (λ e. omega (arith, e)) ∙ dropped_byte 45 bs (λ e. omega (arith, e))
+origin_goes (suc n) bs = dropped_byte 64 (in_decimal n ++ bs) (λ e. omega (arith, e)) ∙ digits_go (digits n) bs
 
-field-goes : (o : ℕ) (bs rest : List ℕ) → ended lf (origin bs) ≡ is o rest → without dropped bs ≡ 10 ∷ without start rest
-field-goes o bs rest e =
+field_goes : (o : ℕ) (bs rest : List ℕ) → ended lf (origin bs) ≡ is o rest → without dropped bs ≡ 10 ∷ without start rest
+field_goes o bs rest e =
     ap (without dropped) (origin_only o bs (10 ∷ rest) (ended_only 10 (origin bs) o rest e)).1 ∙ origin_goes o (10 ∷ rest) ∙ feed dropped rest
 
 -- what becomes of a byte in a node line
@@ -69,12 +69,12 @@ data Becomes (b : ℕ) (bs : List ℕ) : Type 0 where
   at : b ≡ 64 → without node (b ∷ bs) ≡ 64 ∷ without kept bs → Becomes b bs
   other : (b ≡ 10 → ⊥) → (b ≡ 9 → ⊥) → (b ≡ 64 → ⊥) → without node (b ∷ bs) ≡ b ∷ without node bs → Becomes b bs
 
-at-a-tab : (bs : List ℕ) → Becomes 9 bs
+at_a_tab : (bs : List ℕ) → Becomes 9 bs
 unfolding without passing left in_line whole_field
-at-a-tab bs = go (ended lf (origin bs)) refl
+at_a_tab bs = go (ended lf (origin bs)) refl
   where
     go : (r : Read ℕ) → ended lf (origin bs) ≡ r → Becomes 9 bs
-    go (is o rest) e = field o rest refl e (rw e (field-goes o bs rest e))
+    go (is o rest) e = field o rest refl e (rw e (field_goes o bs rest e))
     go bad e = no_field refl e (rw e)
 
 becomes : (b : ℕ) (bs : List ℕ) → Becomes b bs
@@ -82,7 +82,7 @@ unfolding without passing left in_line
 becomes b bs = elim (ℕ_discrete b 10) [
   | yes q ↦ line_feed q (rw q)
   | no n ↦ elim (ℕ_discrete b 9) [
-    | yes q ↦ rw q (at-a-tab bs)
+    | yes q ↦ rw q (at_a_tab bs)
     | no m ↦ elim (ℕ_discrete b 64) [
       | yes q ↦ at q (rw q)
       | no o ↦ other n m o (rw (ne_eqb b 10 n, ne_eqb b 9 m, ne_eqb b 64 o))
@@ -139,16 +139,16 @@ unfolding after_at then
 after_number [] n = rw (no_decimal most_origins [] λ p. p.other (omega arith))
 after_number (b ∷ bs) n = rw (ne_eqb b 45 n)
 
-kept-first : (b : ℕ) (bs : List ℕ) → (b ≡ 45 → ⊥) → get_or (without kept (b ∷ bs)) 0 0 ≡ 45 → ⊥
-kept-first b bs n = elim (ℕ_discrete b 10) [ yes q ↦ rw (q, feed kept bs) (λ e. omega (arith, e)) | no m ↦ rw (kept_byte b bs m) n ]
+kept_first : (b : ℕ) (bs : List ℕ) → (b ≡ 45 → ⊥) → get_or (without kept (b ∷ bs)) 0 0 ≡ 45 → ⊥
+kept_first b bs n = elim (ℕ_discrete b 10) [ yes q ↦ rw (q, feed kept bs) (λ e. omega (arith, e)) | no m ↦ rw (kept_byte b bs m) n ]
 
-kept-after : (bs : List ℕ) → after_at (without kept bs) ≡ rests (without kept) (after_at bs)
+kept_after : (bs : List ℕ) → after_at (without kept bs) ≡ rests (without kept) (after_at bs)
 unfolding after_at rests
-kept-after [] = rw (no_more kept)
-kept-after (b ∷ bs) = elim (ℕ_discrete b 45) [
+kept_after [] = rw (no_more kept)
+kept_after (b ∷ bs) = elim (ℕ_discrete b 45) [
   | yes q ↦ rw (q, kept_byte 45 bs λ e. omega (arith, e))
   | no n ↦
-      rw (after_number (without kept (b ∷ bs)) (kept-first b bs n), after_number (b ∷ bs) n, same_decimal kept_leaves most_origins (b ∷ bs))
+      rw (after_number (without kept (b ∷ bs)) (kept_first b bs n), after_number (b ∷ bs) n, same_decimal kept_leaves most_origins (b ∷ bs))
       (rests_then (without kept) (without kept) (decimal most_origins (b ∷ bs)) (λ n rest. is (suc n) rest) (λ n rest. refl))
 ]
 
@@ -166,7 +166,7 @@ no_new_field (b ∷ bs) e = elim (becomes b bs) [
   | line_feed q z ↦ rw z (no_origin 10 (without start bs) λ e. omega (arith, e))
   | field o rest q f z ↦ rw z (no_origin 10 (without start rest) λ e. omega (arith, e))
   | no_field q f z ↦ rw z (no_origin 9 (without node bs) λ e. omega (arith, e))
-  | at q z ↦ let k : ended lf (after_at bs) ≡ bad = rw q at e in rw (z, kept-after bs, kept_feed (after_at bs), k)
+  | at q z ↦ let k : ended lf (after_at bs) ≡ bad = rw q at e in rw (z, kept_after bs, kept_feed (after_at bs), k)
   | other n m o z ↦ rw z (no_origin b (without node bs) o)
 ]
 
@@ -187,8 +187,8 @@ unfolding origin_text
 at_first zero bs rest e = rw (origin_only 0 bs (10 ∷ rest) (ended_only 10 (origin bs) 0 rest e)).1
 at_first (suc n) bs rest e = rw (origin_only (suc n) bs (10 ∷ rest) (ended_only 10 (origin bs) (suc n) rest e)).1
 
-node-tab : (rest : List ℕ) → AtTab (without node) rest
-node-tab rest = elim (becomes 9 rest) [
+node_tab : (rest : List ℕ) → AtTab (without node) rest
+node_tab rest = elim (becomes 9 rest) [
   | line_feed q z ↦ absurd (omega (arith, q))
   | field o after q f z ↦ goes (at_first o rest after f) (rw z λ e. omega (arith, e))
   | no_field q f z ↦ stays z
@@ -196,8 +196,8 @@ node-tab rest = elim (becomes 9 rest) [
   | other n m o z ↦ absurd (m refl)
 ]
 
-node-leaves : Leaves (without node)
-node-leaves = record { copies = copy; halts = stop }
+node_leaves : Leaves (without node)
+node_leaves = record { copies = copy; halts = stop }
   where
     copy : (b : ℕ) (bs : List ℕ) → Plain b → without node (b ∷ bs) ≡ b ∷ without node bs
     copy b bs p = let h = p.high in elim (becomes b bs) [
@@ -218,9 +218,9 @@ node-leaves = record { copies = copy; halts = stop }
       | other n m o z ↦ rw z s
     ]
 
-node-no-tab : (bs : List ℕ) → (get_or bs 0 0 ≡ 9 → ⊥) → get_or (without node bs) 0 0 ≡ 9 → ⊥
-node-no-tab [] n = rw (no_more node) n
-node-no-tab (b ∷ bs) n = elim (becomes b bs) [
+node_no_tab : (bs : List ℕ) → (get_or bs 0 0 ≡ 9 → ⊥) → get_or (without node bs) 0 0 ≡ 9 → ⊥
+node_no_tab [] n = rw (no_more node) n
+node_no_tab (b ∷ bs) n = elim (becomes b bs) [
   | line_feed q z ↦ rw z λ e. omega (arith, e)
   | field o rest q f z ↦ absurd (n q)
   | no_field q f z ↦ absurd (n q)
@@ -228,12 +228,12 @@ node-no-tab (b ∷ bs) n = elim (becomes b bs) [
   | other k m o z ↦ rw z n
 ]
 
-node-ways : Ways (λ bs. Unit {0}) (without node) without_origins line_end line_end
-node-ways = record {
-  leaves = node-leaves;
+node_ways : Ways (λ bs. Unit {0}) (without node) without_origins line_end line_end
+node_ways = record {
+  leaves = node_leaves;
   tails = λ b bs p. tt;
-  at_tab = node-tab;
-  no_tab = node-no-tab;
+  at_tab = node_tab;
+  no_tab = node_no_tab;
   ends = λ r p. node_end r;
   end_rest = λ r p. any (line_end r);
   end_bad = end_bad;
@@ -270,7 +270,7 @@ node_ignores earlier first bs = elim (ℕ_discrete first 10) [
   | yes q ↦ rw (q, no_node earlier 10 (without start bs) refl (λ rest. refl), no_node earlier 10 bs refl (λ rest. refl))
   | no n ↦ elim (ℕ_discrete first 115) [
     | yes q ↦ rw (q, no_node earlier 115 (without kept bs) refl (λ rest. refl), no_node earlier 115 bs refl (λ rest. refl))
-    | no m ↦ rw (ne_eqb first 10 n, ne_eqb first 115 m) (line_beside node-ways earlier first bs tt).same
+    | no m ↦ rw (ne_eqb first 10 n, ne_eqb first 115 m) (line_beside node_ways earlier first bs tt).same
   ]
 ]
 

@@ -18,10 +18,10 @@ unfoldable variables : (from n : ℕ) → List Tree
 variables from zero = []
 variables from (suc n) = leaf (variable from) ∷ variables (suc from) n
 
-how-many : (from n : ℕ) → length (variables from n) ≡ n
+how_many : (from n : ℕ) → length (variables from n) ≡ n
 unfolding variables
-how-many from zero = refl
-how-many from (suc n) = ap suc (how-many (suc from) n)
+how_many from zero = refl
+how_many from (suc n) = ap suc (how_many (suc from) n)
 
 which : (from n k : ℕ) → k < n → get_or (variables from n) k (leaf pi) ≡ leaf (variable (from + k))
 unfolding variables
@@ -49,7 +49,7 @@ pub record Same (text : List ℕ) (e e' : Expression) (next next' : ℕ) : Type 
 
 module _ {want : List Tree → Read Tree} {text : List ℕ} {lines : ℕ} where
   seen_same : (r r' : Line) → Finds want text lines r → Finds want text lines r' → line_seen (variables 0 lines) text r ≡ line_seen (variables 0 lines) text r'
-  seen_same r r' p q = p.seen (variables 0 lines) (how-many 0 lines) ∙ sym (q.seen (variables 0 lines) (how-many 0 lines))
+  seen_same r r' p q = p.seen (variables 0 lines) (how_many 0 lines) ∙ sym (q.seen (variables 0 lines) (how_many 0 lines))
 
   same : (e e' : Expression) (next next' : ℕ) → Finds want text lines (Line.Node e next) → Finds want text lines (Line.Node e' next') → Same text e e' next next'
   same e e' next next' p q =

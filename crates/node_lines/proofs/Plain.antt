@@ -46,8 +46,8 @@ plain_end (is x []) p = refl
 plain_end (is x (b ∷ rest)) p = elim (ℕ_discrete b 9) [ yes q ↦ rw (q, no_origin rest p.1) | no n ↦ end_plain x (b ∷ rest) n ]
 plain_end bad p = refl
 
-plain-ways : Ways NoAt (λ bs. bs) (λ bs. bs) line_end (ended lf)
-plain-ways = record {
+plain_ways : Ways NoAt (λ bs. bs) (λ bs. bs) line_end (ended lf)
+plain_ways = record {
   leaves = record { copies = λ b bs p. refl; halts = λ bs s. s };
   tails = no_at_tail;
   at_tab = λ rest. stays refl;
@@ -60,7 +60,7 @@ plain-ways = record {
 -- ---- the line
 
 pub plain_line_lem : (earlier : List Tree) (first : ℕ) (bs : List ℕ) → NoAt bs → node_fields earlier first bs ≡ line_by (ended lf) earlier first bs
-plain_line_lem earlier first bs p = sym ((line_beside plain-ways earlier first bs p).same ∙ rests_id (node_fields earlier first bs))
+plain_line_lem earlier first bs p = sym ((line_beside plain_ways earlier first bs p).same ∙ rests_id (node_fields earlier first bs))
 
 pub rest_plain : (earlier : List Tree) (first : ℕ) (bs : List ℕ) {t : Tree} {rest : List ℕ} → node_fields earlier first bs ≡ is t rest → NoAt bs → NoAt rest
-rest_plain earlier first bs e p = rw e at (line_beside plain-ways earlier first bs p).rest
+rest_plain earlier first bs e p = rw e at (line_beside plain_ways earlier first bs p).rest

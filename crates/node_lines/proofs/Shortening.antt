@@ -20,15 +20,15 @@ use Rattle.node_lines.specs.NodeLines.{child_by, child_field, number_fields, var
 
 -- ---- numbers, without the byte that ends them
 
-decimal-shorter : (limit : ℕ) (bs : List ℕ) → Shorter bs (decimal limit bs)
-decimal-shorter limit bs = go (decimal limit bs) refl
+decimal_shorter : (limit : ℕ) (bs : List ℕ) → Shorter bs (decimal limit bs)
+decimal_shorter limit bs = go (decimal limit bs) refl
   where
     go : (r : Read ℕ) → decimal limit bs ≡ r → Shorter bs r
     go (is n rest) q = omega (arith, ap length (decimal_only limit n bs rest q).1, length-append (in_decimal n) rest)
     go bad q = tt
 
-hex-shorter : (bs : List ℕ) → Shorter bs (hex bs)
-hex-shorter bs = go (hex bs) refl
+hex_shorter : (bs : List ℕ) → Shorter bs (hex bs)
+hex_shorter bs = go (hex bs) refl
   where
     go : (r : Read ℕ) → hex bs ≡ r → Shorter bs r
     go (is n rest) q = omega (arith, ap length (hex_only n bs rest q).1, length-append (in_hex n) rest)
@@ -43,7 +43,7 @@ module _ (end : Read ℕ → Read ℕ) (shorter : EndShortens end) where
   child_by_shorter : (earlier : List Tree) (bs : List ℕ) → Shorter bs (child_by end earlier bs)
   unfolding child_by
   child_by_shorter earlier bs =
-      shorter_then bs (end (decimal (length earlier) bs)) _ (shorter bs (decimal (length earlier) bs) (decimal-shorter (length earlier) bs)) λ i rest. as_long rest
+      shorter_then bs (end (decimal (length earlier) bs)) _ (shorter bs (decimal (length earlier) bs) (decimal_shorter (length earlier) bs)) λ i rest. as_long rest
 
 pub child_shorter : (stop : ℕ) (earlier : List Tree) (bs : List ℕ) → Shorter bs (child_field stop earlier bs)
 child_shorter stop = child_by_shorter (ended stop) (shorter_ended stop)
@@ -53,61 +53,61 @@ module _ (end : Read ℕ → Read ℕ) (shorter : EndShortens end) where
   unfolding number_fields
   number_shorter bs =
       shorter_then bs (hex_field tab bs) _ (shorter_hex_field tab bs) λ re bs.
-      shorter_then bs (end (hex bs)) _ (shorter bs (hex bs) (hex-shorter bs)) λ im bs.
+      shorter_then bs (end (hex bs)) _ (shorter bs (hex bs) (hex_shorter bs)) λ im bs.
       as_long bs
 
-  variable-shorter : (bs : List ℕ) → Shorter bs (variable_fields end bs)
+  variable_shorter : (bs : List ℕ) → Shorter bs (variable_fields end bs)
   unfolding variable_fields
-  variable-shorter bs = shorter_then bs (end (decimal 65536 bs)) _ (shorter bs (decimal 65536 bs) (decimal-shorter 65536 bs)) λ v bs. as_long bs
+  variable_shorter bs = shorter_then bs (end (decimal 65536 bs)) _ (shorter bs (decimal 65536 bs) (decimal_shorter 65536 bs)) λ v bs. as_long bs
 
-  cell-shorter : (bs : List ℕ) → Shorter bs (cell_fields end bs)
+  cell_shorter : (bs : List ℕ) → Shorter bs (cell_fields end bs)
   unfolding cell_fields
-  cell-shorter bs =
+  cell_shorter bs =
       shorter_then bs (decimal_field tab 65536 bs) _ (shorter_decimal tab 65536 bs) λ region bs.
-      shorter_then bs (end (decimal 4294967296 bs)) _ (shorter bs (decimal 4294967296 bs) (decimal-shorter 4294967296 bs)) λ index bs.
+      shorter_then bs (end (decimal 4294967296 bs)) _ (shorter bs (decimal 4294967296 bs) (decimal_shorter 4294967296 bs)) λ index bs.
       as_long bs
 
-  function-shorter : (earlier : List Tree) (bs : List ℕ) → Shorter bs (function_fields end earlier bs)
+  function_shorter : (earlier : List Tree) (bs : List ℕ) → Shorter bs (function_fields end earlier bs)
   unfolding function_fields
-  function-shorter earlier bs =
+  function_shorter earlier bs =
       shorter_then bs (name_field tab function_names bs) _ (shorter_name_field tab function_names bs) λ f bs.
       shorter_then bs (child_by end earlier bs) _ (child_by_shorter end shorter earlier bs) λ t bs.
       as_long bs
 
-  prefix-shorter : (earlier : List Tree) (bs : List ℕ) → Shorter bs (prefix_fields end earlier bs)
+  prefix_shorter : (earlier : List Tree) (bs : List ℕ) → Shorter bs (prefix_fields end earlier bs)
   unfolding prefix_fields
-  prefix-shorter earlier bs =
+  prefix_shorter earlier bs =
       shorter_then bs (name_field tab prefix_names bs) _ (shorter_name_field tab prefix_names bs) λ o bs.
       shorter_then bs (child_by end earlier bs) _ (child_by_shorter end shorter earlier bs) λ t bs.
       as_long bs
 
-  infix-shorter : (earlier : List Tree) (bs : List ℕ) → Shorter bs (infix_fields end earlier bs)
+  infix_shorter : (earlier : List Tree) (bs : List ℕ) → Shorter bs (infix_fields end earlier bs)
   unfolding infix_fields
-  infix-shorter earlier bs =
+  infix_shorter earlier bs =
       shorter_then bs (name_field tab infix_names bs) _ (shorter_name_field tab infix_names bs) λ o bs.
       shorter_then bs (child_field tab earlier bs) _ (child_shorter tab earlier bs) λ l bs.
       shorter_then bs (child_by end earlier bs) _ (child_by_shorter end shorter earlier bs) λ r bs.
       as_long bs
 
-  fields-shorter : (earlier : List Tree) (first : ℕ) (bs : List ℕ) → Shorter bs (fields_of end earlier first bs)
+  fields_shorter : (earlier : List Tree) (first : ℕ) (bs : List ℕ) → Shorter bs (fields_of end earlier first bs)
   unfolding fields_of
-  fields-shorter earlier first bs =
+  fields_shorter earlier first bs =
       shorter_cond bs (eqb first (letter "n")) (number_fields end bs) _ (number_shorter bs)
-      (shorter_cond bs (eqb first (letter "v")) (variable_fields end bs) _ (variable-shorter bs)
-      (shorter_cond bs (eqb first (letter "m")) (cell_fields end bs) _ (cell-shorter bs)
-      (shorter_cond bs (eqb first (letter "f")) (function_fields end earlier bs) _ (function-shorter earlier bs)
-      (shorter_cond bs (eqb first (letter "u")) (prefix_fields end earlier bs) _ (prefix-shorter earlier bs)
-      (shorter_cond bs (eqb first (letter "b")) (infix_fields end earlier bs) bad (infix-shorter earlier bs) tt)))))
+      (shorter_cond bs (eqb first (letter "v")) (variable_fields end bs) _ (variable_shorter bs)
+      (shorter_cond bs (eqb first (letter "m")) (cell_fields end bs) _ (cell_shorter bs)
+      (shorter_cond bs (eqb first (letter "f")) (function_fields end earlier bs) _ (function_shorter earlier bs)
+      (shorter_cond bs (eqb first (letter "u")) (prefix_fields end earlier bs) _ (prefix_shorter earlier bs)
+      (shorter_cond bs (eqb first (letter "b")) (infix_fields end earlier bs) bad (infix_shorter earlier bs) tt)))))
 
-  pi-shorter : (bs : List ℕ) → Shorter bs (pi_line end bs)
+  pi_shorter : (bs : List ℕ) → Shorter bs (pi_line end bs)
   unfolding pi_line
-  pi-shorter bs = shorter_then bs (end (is 0 bs)) _ (shorter bs (is 0 bs) (as_long bs)) λ _ bs. as_long bs
+  pi_shorter bs = shorter_then bs (end (is 0 bs)) _ (shorter bs (is 0 bs) (as_long bs)) λ _ bs. as_long bs
 
   pub line_shorter : (earlier : List Tree) (first : ℕ) (bs : List ℕ) → Shorter bs (line_by end earlier first bs)
   unfolding line_by
   line_shorter earlier first bs =
-      shorter_cond bs (eqb first (letter "p")) (pi_line end bs) _ (pi-shorter bs)
-      (shorter_then bs (ended tab (is first bs)) _ (shorter_ended tab bs (is first bs) (as_long bs)) λ first bs. fields-shorter earlier first bs)
+      shorter_cond bs (eqb first (letter "p")) (pi_line end bs) _ (pi_shorter bs)
+      (shorter_then bs (ended tab (is first bs)) _ (shorter_ended tab bs (is first bs) (as_long bs)) λ first bs. fields_shorter earlier first bs)
 
 pub node_shorter : (earlier : List Tree) (first : ℕ) (bs : List ℕ) → Shorter bs (node_fields earlier first bs)
 node_shorter = line_shorter line_end shorter_line_end

@@ -45,10 +45,10 @@ end_lf x rest = refl
 
 -- ---- an origin that was written reads back
 
-after-decimal : (bs : List ℕ) (n : ℕ) (rest : List ℕ) → decimal most_origins bs ≡ is n rest → after_at bs ≡ is (suc n) rest
+after_decimal : (bs : List ℕ) (n : ℕ) (rest : List ℕ) → decimal most_origins bs ≡ is n rest → after_at bs ≡ is (suc n) rest
 unfolding after_at then decimal spelt run digit_of
-after-decimal [] n rest e = never e
-after-decimal (b ∷ bs) n rest e = elim (ℕ_discrete b 45) [
+after_decimal [] n rest e = never e
+after_decimal (b ∷ bs) n rest e = elim (ℕ_discrete b 45) [
   | yes q ↦ never (rw q at e)
   | no o ↦ rw (ne_eqb b 45 o, e)
 ]
@@ -56,7 +56,7 @@ after-decimal (b ∷ bs) n rest e = elim (ℕ_discrete b 45) [
 pub origin_reads : (o : ℕ) (rest : List ℕ) → o ≤ 1024 → origin (origin_text o ++ (10 ∷ rest)) ≡ is o (10 ∷ rest)
 unfolding origin after_at origin_text digit_of
 origin_reads zero rest h = refl
-origin_reads (suc n) rest h = after-decimal (in_decimal n ++ (10 ∷ rest)) n (10 ∷ rest) (decimal_reads 1024 n 10 rest (omega (arith, h)) (omega arith))
+origin_reads (suc n) rest h = after_decimal (in_decimal n ++ (10 ∷ rest)) n (10 ∷ rest) (decimal_reads 1024 n 10 rest (omega (arith, h)) (omega arith))
 
 pub end_field : (x o : ℕ) (rest : List ℕ) → o ≤ 1024 → line_end (is x (9 ∷ (origin_text o ++ (10 ∷ rest)))) ≡ is x rest
 unfolding line_end then
@@ -64,10 +64,10 @@ end_field x o rest h = rw (origin_reads o rest h, ended_here 10 o rest)
 
 -- ---- only what is written reads
 
-after-only : (o : ℕ) (bs rest : List ℕ) → after_at bs ≡ is o rest → (o ≤ 1024) × (64 ∷ bs ≡ origin_text o ++ rest)
+after_only : (o : ℕ) (bs rest : List ℕ) → after_at bs ≡ is o rest → (o ≤ 1024) × (64 ∷ bs ≡ origin_text o ++ rest)
 unfolding after_at origin_text then
-after-only o [] rest e = never e
-after-only o (b ∷ bs) rest e = elim (ℕ_discrete b 45) [
+after_only o [] rest e = never e
+after_only o (b ∷ bs) rest e = elim (ℕ_discrete b 45) [
   | yes q ↦
       let f : is 0 bs ≡ is o rest = rw (eq-eqb b 45 q) at e in
       let u : 0 ≡ o = cc in
@@ -88,7 +88,7 @@ pub origin_only : (o : ℕ) (bs rest : List ℕ) → origin bs ≡ is o rest →
 unfolding origin
 origin_only o [] rest e = never e
 origin_only o (b ∷ bs) rest e = elim (ℕ_discrete b 64) [
-  | yes q ↦ rw q (after-only o bs rest (rw (eq-eqb b 64 q) at e))
+  | yes q ↦ rw q (after_only o bs rest (rw (eq-eqb b 64 q) at e))
   | no n ↦ never (rw (ne_eqb b 64 n) at e)
 ]
 
@@ -128,27 +128,27 @@ line_end_only bad x rest e = never e
 
 -- ---- the rest is never longer
 
-shorter-number : (limit : ℕ) (bs : List ℕ) → Shorter bs (decimal limit bs)
-shorter-number limit bs = go (decimal limit bs) refl
+shorter_number : (limit : ℕ) (bs : List ℕ) → Shorter bs (decimal limit bs)
+shorter_number limit bs = go (decimal limit bs) refl
   where
     go : (r : Read ℕ) → decimal limit bs ≡ r → Shorter bs r
     go (is n rest) q = omega (arith, ap length (decimal_only limit n bs rest q).1, length-append (in_decimal n) rest)
     go bad q = tt
 
-shorter-than : (bs cs : List ℕ) (r : Read ℕ) → length cs ≤ length bs → Shorter cs r → Shorter bs r
-shorter-than bs cs (is x rest) l h = omega (arith, l, h)
-shorter-than bs cs bad l h = tt
+shorter_than : (bs cs : List ℕ) (r : Read ℕ) → length cs ≤ length bs → Shorter cs r → Shorter bs r
+shorter_than bs cs (is x rest) l h = omega (arith, l, h)
+shorter_than bs cs bad l h = tt
 
-shorter-after : (bs : List ℕ) → Shorter bs (after_at bs)
+shorter_after : (bs : List ℕ) → Shorter bs (after_at bs)
 unfolding after_at
-shorter-after [] = tt
-shorter-after (b ∷ bs) =
-    shorter_cond (b ∷ bs) (eqb b 45) (is 0 bs) _ (omega arith) (shorter_then (b ∷ bs) (decimal most_origins (b ∷ bs)) (λ n rest. is (suc n) rest) (shorter-number most_origins (b ∷ bs)) λ n rest. as_long rest)
+shorter_after [] = tt
+shorter_after (b ∷ bs) =
+    shorter_cond (b ∷ bs) (eqb b 45) (is 0 bs) _ (omega arith) (shorter_then (b ∷ bs) (decimal most_origins (b ∷ bs)) (λ n rest. is (suc n) rest) (shorter_number most_origins (b ∷ bs)) λ n rest. as_long rest)
 
-shorter-origin : (bs : List ℕ) → Shorter bs (origin bs)
+shorter_origin : (bs : List ℕ) → Shorter bs (origin bs)
 unfolding origin
-shorter-origin [] = tt
-shorter-origin (b ∷ bs) = shorter_cond (b ∷ bs) (eqb b 64) (after_at bs) bad (shorter-than (b ∷ bs) bs (after_at bs) (omega arith) (shorter-after bs)) tt
+shorter_origin [] = tt
+shorter_origin (b ∷ bs) = shorter_cond (b ∷ bs) (eqb b 64) (after_at bs) bad (shorter_than (b ∷ bs) bs (after_at bs) (omega arith) (shorter_after bs)) tt
 
 pub shorter_line_end : (bs : List ℕ) (r : Read ℕ) → Shorter bs r → Shorter bs (line_end r)
 unfolding line_end
@@ -156,7 +156,7 @@ shorter_line_end bs (is x []) h = tt
 shorter_line_end bs (is x (b ∷ rest)) h =
     let l : length rest ≤ length bs = omega (arith, h) in
     shorter_cond bs (eqb b 9) _ _
-    (shorter_then bs (ended lf (origin rest)) (λ _ after. is x after) (shorter-than bs rest (ended lf (origin rest)) l (shorter_ended lf rest (origin rest) (shorter-origin rest))) λ _ after. as_long after)
+    (shorter_then bs (ended lf (origin rest)) (λ _ after. is x after) (shorter_than bs rest (ended lf (origin rest)) l (shorter_ended lf rest (origin rest) (shorter_origin rest))) λ _ after. as_long after)
     (shorter_cond bs (eqb b 10) (is x rest) bad l tt)
 shorter_line_end bs bad h = tt
 

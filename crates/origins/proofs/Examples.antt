@@ -12,21 +12,21 @@ use Rattle.origins.specs.Standing.{told, standing_from, standing}
 
 -- ---- fields that read: an origin is the number plus one
 
-field-12 : ended 10 (origin (bytes "@12\n")) ≡ is 13 []
+field_12 : ended 10 (origin (bytes "@12\n")) ≡ is 13 []
 unfolding ended origin after_at then decimal spelt run value digit_of
-field-12 = refl
+field_12 = refl
 
-field-none : ended 10 (origin (bytes "@-\n")) ≡ is 0 []
+field_none : ended 10 (origin (bytes "@-\n")) ≡ is 0 []
 unfolding ended origin after_at
-field-none = refl
+field_none = refl
 
-field-0 : ended 10 (origin (bytes "@0\n")) ≡ is 1 []
+field_0 : ended 10 (origin (bytes "@0\n")) ≡ is 1 []
 unfolding ended origin after_at then decimal spelt run value digit_of
-field-0 = refl
+field_0 = refl
 
-field-1023 : ended 10 (origin (bytes "@1023\n")) ≡ is 1024 []
+field_1023 : ended 10 (origin (bytes "@1023\n")) ≡ is 1024 []
 unfolding ended origin after_at then decimal spelt run value digit_of
-field-1023 = refl
+field_1023 = refl
 
 -- ---- the end of a line after a last field that read as 7: what stood there stays
 
@@ -34,47 +34,47 @@ end_none : line_end (is 7 (bytes "\n")) ≡ is 7 []
 unfolding line_end
 end_none = refl
 
-end-12 : line_end (is 7 (bytes "\t@12\n")) ≡ is 7 []
+end_12 : line_end (is 7 (bytes "\t@12\n")) ≡ is 7 []
 unfolding line_end ended origin after_at then decimal spelt run value digit_of
-end-12 = refl
+end_12 = refl
 
-end-minus : line_end (is 7 (bytes "\t@-\n")) ≡ is 7 []
+end_minus : line_end (is 7 (bytes "\t@-\n")) ≡ is 7 []
 unfolding line_end ended origin after_at then
-end-minus = refl
+end_minus = refl
 
-end-0 : line_end (is 7 (bytes "\t@0\n")) ≡ is 7 []
+end_0 : line_end (is 7 (bytes "\t@0\n")) ≡ is 7 []
 unfolding line_end ended origin after_at then decimal spelt run value digit_of
-end-0 = refl
+end_0 = refl
 
 -- ---- and what is malformed there
 
-end-of-text : line_end (is 7 []) ≡ bad
+end_of_text : line_end (is 7 []) ≡ bad
 unfolding line_end
-end-of-text = refl
+end_of_text = refl
 
-tab-alone : line_end (is 7 (bytes "\t\n")) ≡ bad
+tab_alone : line_end (is 7 (bytes "\t\n")) ≡ bad
 unfolding line_end ended origin then
-tab-alone = refl
+tab_alone = refl
 
-at-alone : line_end (is 7 (bytes "\t@\n")) ≡ bad
+at_alone : line_end (is 7 (bytes "\t@\n")) ≡ bad
 unfolding line_end ended origin after_at then decimal spelt run value digit_of
-at-alone = refl
+at_alone = refl
 
-leading-zero : line_end (is 7 (bytes "\t@01\n")) ≡ bad
+leading_zero : line_end (is 7 (bytes "\t@01\n")) ≡ bad
 unfolding line_end ended origin after_at then decimal spelt run value digit_of
-leading-zero = refl
+leading_zero = refl
 
-too-high : line_end (is 7 (bytes "\t@1024\n")) ≡ bad
+too_high : line_end (is 7 (bytes "\t@1024\n")) ≡ bad
 unfolding line_end ended origin after_at then decimal spelt run value digit_of
-too-high = refl
+too_high = refl
 
 no_number : line_end (is 7 (bytes "\t@x\n")) ≡ bad
 unfolding line_end ended origin after_at then decimal spelt run value digit_of
 no_number = refl
 
-space-before : line_end (is 7 (bytes "\t@ 1\n")) ≡ bad
+space_before : line_end (is 7 (bytes "\t@ 1\n")) ≡ bad
 unfolding line_end ended origin after_at then decimal spelt run value digit_of
-space-before = refl
+space_before = refl
 
 negative : line_end (is 7 (bytes "\t@-1\n")) ≡ bad
 unfolding line_end ended origin after_at then
@@ -90,9 +90,9 @@ unended = refl
 
 -- ---- fields as they are written
 
-written-12 : origin_text 13 ≡ bytes "@12"
+written_12 : origin_text 13 ≡ bytes "@12"
 unfolding origin_text in_decimal digits digits_by byte_of
-written-12 = refl
+written_12 = refl
 
 written_none : origin_text 0 ≡ bytes "@-"
 unfolding origin_text
@@ -100,11 +100,11 @@ written_none = refl
 
 -- ---- words
 
-marked-first : first_kept 5 12 ≡ 5 + 13 * origin_unit
-marked-first = refl
+marked_first : first_kept 5 12 ≡ 5 + 13 * origin_unit
+marked_first = refl
 
-kept-first : first_kept (first_kept 5 12) 30 ≡ first_kept 5 12
-kept-first = refl
+kept_first : first_kept (first_kept 5 12) 30 ≡ first_kept 5 12
+kept_first = refl
 
 -- ---- sentences: one for each line with a number, none for `@-` and none for a line without the field
 

@@ -43,10 +43,10 @@ told_is : (line n : ℕ) (rest : List ℕ) → line < 1024 → told line (is n r
 unfolding told
 told_is line n rest h = rw (lt-ltb line 1024 h)
 
-told-late : (line : ℕ) (r : Read ℕ) → 1024 ≤ line → told line r ≡ []
+told_late : (line : ℕ) (r : Read ℕ) → 1024 ≤ line → told line r ≡ []
 unfolding told
-told-late line (is n rest) h = rw (le-ltb line 1024 h)
-told-late line bad h = refl
+told_late line (is n rest) h = rw (le-ltb line 1024 h)
+told_late line bad h = refl
 
 told_none : (line : ℕ) → told line bad ≡ []
 unfolding told
@@ -73,26 +73,26 @@ at_first : (line : ℕ) (bs : List ℕ) → standing_from line false (64 ∷ bs)
 unfolding standing_from
 at_first line bs = refl
 
-at-later : (line : ℕ) (bs : List ℕ) → standing_from line true (64 ∷ bs) ≡ standing_from line true bs
+at_later : (line : ℕ) (bs : List ℕ) → standing_from line true (64 ∷ bs) ≡ standing_from line true bs
 unfolding standing_from
-at-later line bs = refl
+at_later line bs = refl
 
 at_other : (line : ℕ) (passed : Bool) (b : ℕ) (bs : List ℕ) → (b ≡ 10 → ⊥) → (b ≡ 64 → ⊥) → standing_from line passed (b ∷ bs) ≡ standing_from line passed bs
 unfolding standing_from
 at_other line passed b bs h o = rw (ne_eqb b 10 h, ne_eqb b 64 o)
 
-at-end : (line : ℕ) (passed : Bool) → standing_from line passed [] ≡ []
+at_end_lem : (line : ℕ) (passed : Bool) → standing_from line passed [] ≡ []
 unfolding standing_from
-at-end line passed = refl
+at_end_lem line passed = refl
 
 -- a line's sentence counts once its `@` is behind
 abbrev counted : Bool → ℕ
 counted true = 1
 counted false = 0
 
-counted-once : (passed : Bool) → counted passed ≤ 1
-counted-once true = omega arith
-counted-once false = omega arith
+counted_once : (passed : Bool) → counted passed ≤ 1
+counted_once true = omega arith
+counted_once false = omega arith
 
 -- what was passed of the listing is said, and what is left is to come
 pub record Saying (out₀ : List ℕ) (at : ℕ) (text out : List ℕ) (next line : ℕ) (passed : Bool) (i : ℕ) : Type 0 where
@@ -142,7 +142,7 @@ module _ {out₀ : List ℕ} {at : ℕ} {text out : List ℕ} {next line : ℕ} 
       used = g.used;
       few = g.few;
       most = g.most;
-      one_each = omega (arith, g.one_each, counted-once passed);
+      one_each = omega (arith, g.one_each, counted_once passed);
       lines = omega (arith, g.lines);
     }
 
@@ -177,7 +177,7 @@ module _ {out₀ : List ℕ} {at : ℕ} {text out : List ℕ} {next line : ℕ} 
     passed_again q t = record {
       done = g.done;
       put = g.put;
-      whole = at_sign q t ∙ ap (λ l. g.done ++ l) (at-later line (drop (i + 1) text));
+      whole = at_sign q t ∙ ap (λ l. g.done ++ l) (at_later line (drop (i + 1) text));
       used = g.used;
       few = g.few;
       most = g.most;
@@ -189,7 +189,7 @@ module _ {out₀ : List ℕ} {at : ℕ} {text out : List ℕ} {next line : ℕ} 
     too_late q f l = record {
       done = g.done;
       put = g.put;
-      whole = says_first q f ∙ rw (told-late line (decimal most_origins (drop (i + 1) text)) l);
+      whole = says_first q f ∙ rw (told_late line (decimal most_origins (drop (i + 1) text)) l);
       used = g.used;
       few = g.few;
       most = g.most;
@@ -199,5 +199,5 @@ module _ {out₀ : List ℕ} {at : ℕ} {text out : List ℕ} {next line : ℕ} 
 
   pub ends : length text ≤ i → Put out₀ at (standing text) next out × (next ≤ at + 56320)
   ends h =
-      let w : standing text ≡ g.done = g.whole ∙ rw (drop_of_length-le text {i = i} h, at-end line passed, append-nil) in
+      let w : standing text ≡ g.done = g.whole ∙ rw (drop_of_length-le text {i = i} h, at_end_lem line passed, append-nil) in
       (subst (λ l. Put out₀ at l next out) (sym w) g.put, omega (arith, g.few, g.most))

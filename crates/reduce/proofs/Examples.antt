@@ -26,20 +26,20 @@ filled : (before : ℕ) → List ℕ → Bool
 filled before [] = true
 filled before (b ∷ bs) = cond (eqb before 10 && eqb b 10) false (filled b bs)
 
-filled-after : (empty rest : Bool) → T (cond empty false rest) → T rest
-filled-after true rest t = absurd t
-filled-after false rest t = t
+filled_after : (empty rest : Bool) → T (cond empty false rest) → T rest
+filled_after true rest t = absurd t
+filled_after false rest t = t
 
-none-empty : (before : ℕ) (bs : List ℕ) → T (filled before bs) → (place : ℕ) → place < length bs
+none_empty : (before : ℕ) (bs : List ℕ) → T (filled before bs) → (place : ℕ) → place < length bs
     → (get_or (before ∷ bs) place 0 ≡ 10) × (get_or bs place 0 ≡ 10) → ⊥
 unfolding filled
-none-empty before [] t place h e = omega (arith, h)
-none-empty before (b ∷ bs) t zero h e = rw (eq-eqb before 10 e.0, eq-eqb b 10 e.1) at t
-none-empty before (b ∷ bs) t (suc place) h e = none-empty b bs (filled-after (eqb before 10 && eqb b 10) (filled b bs) t) place (omega (arith, h)) e
+none_empty before [] t place h e = omega (arith, h)
+none_empty before (b ∷ bs) t zero h e = rw (eq-eqb before 10 e.0, eq-eqb b 10 e.1) at t
+none_empty before (b ∷ bs) t (suc place) h e = none_empty b bs (filled_after (eqb before 10 && eqb b 10) (filled b bs) t) place (omega (arith, h)) e
 
 pub input_parted : Parted input (length input)
 unfolding filled
-input_parted = record { counts = (omega arith, refl); without = none-empty 10 input tt; followed = λ h. absurd (omega (arith, h)) }
+input_parted = record { counts = (omega arith, refl); without = none_empty 10 input tt; followed = λ h. absurd (omega (arith, h)) }
 
 -- ---- what is printed, into an output that has room for it
 

@@ -19,20 +19,20 @@ module _ (room : ℕ) (text out : List ℕ) (n : ℕ) (enough : 36864 ≤ length
   pub never_out_of_room : (simplified_text room text out n).0 ≡ Simplified.Refused Refusal.OutRoom → ⊥
   never_out_of_room = simplify_room room 10 (take n text) (drop 1 (drop n text)) out enough
 
-  printed-other : (at : ℕ) (r : Simplified) → (simplified_text room text out n).0 ≡ r → printed r (simplified_text room text out n).1 ≡ refused_line 13 at → ⊥
+  printed_other : (at : ℕ) (r : Simplified) → (simplified_text room text out n).0 ≡ r → printed r (simplified_text room text out n).1 ≡ refused_line 13 at → ⊥
   unfolding printed
-  printed-other at (Simplified.Bytes bytes calls) e p =
+  printed_other at (Simplified.Bytes bytes calls) e p =
       simplified_begins room 10 (take n text) (drop 1 (drop n text)) out e (ap (λ bs. get_or bs 0 0) p ∙ refused_first 13 at)
-  printed-other at (Simplified.Refused why) e p = simplify_not_13 room 10 (take n text) (drop 1 (drop n text)) out enough e (refusal_number why 13 at p)
+  printed_other at (Simplified.Refused why) e p = simplify_not_13 room 10 (take n text) (drop 1 (drop n text)) out enough e (refusal_number why 13 at p)
 
-  never-13 : (at : ℕ) → reduction room text out n ≡ refused_line 13 at → ⊥
+  never_13 : (at : ℕ) → reduction room text out n ≡ refused_line 13 at → ⊥
   unfolding reduction
-  never-13 at = go (ltb 65536 (length text))
+  never_13 at = go (ltb 65536 (length text))
     where
       go : (b : Bool) → cond b (refused_line 0 0) (printed (simplified_text room text out n).0 (simplified_text room text out n).1) ≡ refused_line 13 at → ⊥
       go true p = let z : ◌≡◌ {A = ℕ} 0 13 = refused_number 0 13 0 at p in omega (arith, z)
-      go false p = printed-other at (simplified_text room text out n).0 refl p
+      go false p = printed_other at (simplified_text room text out n).0 refl p
 
 -- on the bytes that it prints: the first r of its output, which has 65,536
 pub never_prints_13 : {text out out' : List ℕ} {room r : ℕ} → 36864 ≤ length out → Reduces room text out r out' → (at : ℕ) → take r out' ≡ refused_line 13 at → ⊥
-never_prints_13 {text} {out} {room = room} enough q at e = let p = every_text text in never-13 room text out p.place enough at (sym (q.bytes p.place p.parted) ∙ e)
+never_prints_13 {text} {out} {room = room} enough q at e = let p = every_text text in never_13 room text out p.place enough at (sym (q.bytes p.place p.parted) ∙ e)

@@ -13,9 +13,9 @@ use Rattle.replay.specs.Judges.{every, same, same_up_to, all_are, blank, blank_r
 
 -- ---- a test at each of the first places
 
-no-and : (b : Bool) → b && false ≡ false
-no-and true = refl
-no-and false = refl
+no_and : (b : Bool) → b && false ≡ false
+no_and true = refl
+no_and false = refl
 
 both : (a b : Bool) → a && b ≡ true → (a ≡ true) × (b ≡ true)
 both true b e = (refl, e)
@@ -36,7 +36,7 @@ module _ (test : ℕ → Bool) where
   unfolding every
   fails zero k l f = absurd (omega arith)
   fails (suc n) k l f = elim (dec_lt k n) [
-    | yes x ↦ rw (fails n k x f) (no-and (test n))
+    | yes x ↦ rw (fails n k x f) (no_and (test n))
     | no x ↦ let e : n ≡ k = omega (arith, x, l) in rw (e, f) refl
   ]
 
@@ -101,16 +101,16 @@ module _ (a b : List ℕ) where
   same_no_length f = rw (ne_eqb (length a) (length b) f) refl
 
   pub same_no : (i : ℕ) → i < length a → (get_or a i 0 ≡ get_or b i 0 → ⊥) → false ≡ same a b
-  same_no i l f = rw (← differ (length a) i l f) (sym (no-and (eqb (length a) (length b))))
+  same_no i l f = rw (← differ (length a) i l f) (sym (no_and (eqb (length a) (length b))))
 
   pub same_yes : (i : ℕ) → length a ≡ length b → length a ≤ i → same_up_to i a b ≡ true → true ≡ same a b
   same_yes i q l e = rw (eq-eqb (length a) (length b) q) (agree (length a) i l e)
 
 -- ---- `is_blank` and `is_zero_in`
 
-and-true : (b : Bool) → b ≡ b && true
-and-true true = refl
-and-true false = refl
+and_true : (b : Bool) → b ≡ b && true
+and_true true = refl
+and_true false = refl
 
 module _ (row : List ℕ) where
   pub blank_no : (k : ℕ) → k < 4 → (get_or row k 0 ≡ 0 → ⊥) → false ≡ blank row
@@ -118,7 +118,7 @@ module _ (row : List ℕ) where
 
   pub blank_last : get_or row 0 0 ≡ 0 → get_or row 1 0 ≡ 0 → get_or row 2 0 ≡ 0 → eqb (get_or row 3 0) 0 ≡ blank row
   unfolding every
-  blank_last a b c = rw (eq-eqb (get_or row 0 0) 0 a, eq-eqb (get_or row 1 0) 0 b, eq-eqb (get_or row 2 0) 0 c) (and-true (eqb (get_or row 3 0) 0))
+  blank_last a b c = rw (eq-eqb (get_or row 0 0) 0 a, eq-eqb (get_or row 1 0) 0 b, eq-eqb (get_or row 2 0) 0 c) (and_true (eqb (get_or row 3 0) 0))
 
 module _ (n : ℕ) (rows : List (List ℕ)) {most : ℕ} (e : most ≡ min n (length rows)) where
   pub rows_no : (i : ℕ) → i < most → blank (get_or rows i []) ≡ false → false ≡ blank_rows n rows
@@ -134,7 +134,7 @@ module _ (a c : Bool) {r : Bool} where
   first_no p q = rw (sym p ∙ not-true r q) refl
 
   pub second_no : r ≡ c → not r ≡ true → false ≡ a && c
-  second_no p q = rw (sym p ∙ not-true r q) (sym (no-and a))
+  second_no p q = rw (sym p ∙ not-true r q) (sym (no_and a))
 
   pub first_yes : r ≡ a → not r ≡ false → c ≡ a && c
   first_yes p q = rw (sym p ∙ not-false r q) refl
@@ -146,8 +146,8 @@ module _ (k : ℕ) (s : List ℕ) {n : ℕ} (e : n ≡ min k (length s)) where
     | no ge ↦ let z : n ≡ k = omega arith in rw z refl
   ]
 
-  least-drop : drop n s ≡ drop k s
-  least-drop = elim (dec_lt (length s) k) [
+  least_drop : drop n s ≡ drop k s
+  least_drop = elim (dec_lt (length s) k) [
     | yes lt ↦ drop_of_length-le s {i = n} (omega arith) ∙ sym (drop_of_length-le s {i = k} (omega arith))
     | no ge ↦ let z : n ≡ k = omega arith in rw z refl
   ]
@@ -157,11 +157,11 @@ module _ (wanted paper : List ℕ) {n : ℕ} (e : n ≡ min (length wanted) (len
   bytes_no p q = first_no _ _ (p ∙ ap (same wanted) (least_take (length wanted) paper e)) q
 
   pub rest_no : r ≡ all_are 165 (drop n paper) → not r ≡ true → false ≡ written wanted paper
-  rest_no p q = second_no (same wanted (take (length wanted) paper)) _ (p ∙ ap (all_are 165) (least-drop (length wanted) paper e)) q
+  rest_no p q = second_no (same wanted (take (length wanted) paper)) _ (p ∙ ap (all_are 165) (least_drop (length wanted) paper e)) q
 
   pub written_yes : {b : Bool} → r ≡ same wanted (take n paper) → not r ≡ false → b ≡ all_are 165 (drop n paper) → not b ≡ false → true ≡ written wanted paper
   written_yes {b} p q u v =
-      sym (not-false b v) ∙ u ∙ ap (all_are 165) (least-drop (length wanted) paper e) ∙ first_yes _ _ (p ∙ ap (same wanted) (least_take (length wanted) paper e)) q
+      sym (not-false b v) ∙ u ∙ ap (all_are 165) (least_drop (length wanted) paper e) ∙ first_yes _ _ (p ∙ ap (same wanted) (least_take (length wanted) paper e)) q
 
 -- ---- `digit`
 
@@ -186,13 +186,13 @@ same_is a b e =
     let h = both (eqb (length a) (length b)) (same_up_to (length a) a b) e in
     by_places a b (eqb-true (length a) (length b) h.0) λ k l. eqb-true (get_or a k 0) (get_or b k 0) (holds_at (λ j. eqb (get_or a j 0) (get_or b j 0)) (length a) k l h.1)
 
-each-place : (test : ℕ → Bool) (n : ℕ) → ((k : ℕ) → k < n → test k ≡ true) → every test n ≡ true
+each_place : (test : ℕ → Bool) (n : ℕ) → ((k : ℕ) → k < n → test k ≡ true) → every test n ≡ true
 unfolding every
-each-place test zero h = refl
-each-place test (suc n) h = rw (h n (omega arith), each-place test n λ k l. h k (omega (arith, l))) refl
+each_place test zero h = refl
+each_place test (suc n) h = rw (h n (omega arith), each_place test n λ k l. h k (omega (arith, l))) refl
 
 pub same_itself : (a : List ℕ) → same a a ≡ true
-same_itself a = rw (eq-eqb (length a) (length a) refl) (each-place (λ k. eqb (get_or a k 0) (get_or a k 0)) (length a) λ k l. eq-eqb (get_or a k 0) (get_or a k 0) refl)
+same_itself a = rw (eq-eqb (length a) (length a) refl) (each_place (λ k. eqb (get_or a k 0) (get_or a k 0)) (length a) λ k l. eq-eqb (get_or a k 0) (get_or a k 0) refl)
 
 -- `is_zero` and `is_all` say yes where there is nothing but this number
 pub all_are_lem : (x : ℕ) (s : List ℕ) → all_are x s ≡ true → s ≡ replicate (length s) x
@@ -201,7 +201,7 @@ all_are_lem x s e =
     λ k l. eqb-true (get_or s k 0) x (holds_at (λ j. eqb (get_or s j 0) x) (length s) k l e) ∙ sym (get_or-replicate (length s) k x 0 l)
 
 pub all_copies : (x n : ℕ) → all_are x (replicate n x) ≡ true
-all_copies x n = rw (length-replicate n x) (each-place (λ k. eqb (get_or (replicate n x) k 0) x) n λ k l. eq-eqb (get_or (replicate n x) k 0) x (get_or-replicate n k x 0 l))
+all_copies x n = rw (length-replicate n x) (each_place (λ k. eqb (get_or (replicate n x) k 0) x) n λ k l. eq-eqb (get_or (replicate n x) k 0) x (get_or-replicate n k x 0 l))
 
 -- the bytes of hex digits, in order
 pub digits : map digit_of (48 ∷ 49 ∷ 50 ∷ 51 ∷ 52 ∷ 53 ∷ 54 ∷ 55 ∷ 56 ∷ 57 ∷ 65 ∷ 66 ∷ 67 ∷ 68 ∷ 69 ∷ 70 ∷ []) ≡ 0 ∷ 1 ∷ 2 ∷ 3 ∷ 4 ∷ 5 ∷ 6 ∷ 7 ∷ 8 ∷ 9 ∷ 10 ∷ 11 ∷ 12 ∷ 13 ∷ 14 ∷ 15 ∷ []

@@ -18,13 +18,13 @@ use Rattle.sentences.specs.declared.Entry.{Entry}
 use Rattle.sentences.specs.Sentences.{from_one, need_sentence, long_sentence, tape_sentence, plain_sentence, listing_sentence, sheet_sentence, missing_sentence, sentence, too_long_sentence, calls_words, calls_sentence}
 use Rattle.sentences.specs.Table.{table, filled, of, need_line, fault_code, missing_entry, entry, calls_entry, says}
 
-says-need : (o : Operation) (first : ℕ) → says (of (need_line o) first 0) ≡ need_sentence o
+says_need : (o : Operation) (first : ℕ) → says (of (need_line o) first 0) ≡ need_sentence o
 unfolding filled from_line after_line need_sentence
-says-need Operation.Sine first = refl
-says-need Operation.Cosine first = refl
-says-need Operation.Exponent first = refl
-says-need Operation.SquareRoot first = refl
-says-need Operation.Power first = refl
+says_need Operation.Sine first = refl
+says_need Operation.Cosine first = refl
+says_need Operation.Exponent first = refl
+says_need Operation.SquareRoot first = refl
+says_need Operation.Power first = refl
 
 says_plain : (why : Refusal) → says (entry why Detail.Plain) ≡ plain_sentence why
 unfolding filled from_line after_line plain_sentence long_sentence tape_sentence
@@ -40,7 +40,7 @@ says_plain Refusal.BadLimit = refl
 says_plain Refusal.Big = refl
 says_plain Refusal.Deep = refl
 says_plain Refusal.Room = refl
-says_plain (Refusal.Need operation x y) = says-need operation (from_one 0)
+says_plain (Refusal.Need operation x y) = says_need operation (from_one 0)
 says_plain Refusal.Incomplete = refl
 says_plain Refusal.NotReal = refl
 says_plain Refusal.NotANumber = refl
@@ -57,47 +57,47 @@ says_plain (Refusal.Many zero) = refl
 says_plain (Refusal.Many (suc listing)) = refl
 says_plain Refusal.NoText = refl
 
-says-listing : (place : ℕ) (fault : Fault) → says (of (21 + fault_code fault) (from_one place) 0) ≡ listing_sentence place fault
+says_listing : (place : ℕ) (fault : Fault) → says (of (21 + fault_code fault) (from_one place) 0) ≡ listing_sentence place fault
 unfolding filled from_line after_line listing_sentence
-says-listing place Fault.WrongByte = refl
-says-listing place Fault.FieldMissing = refl
-says-listing place Fault.HexCase = refl
-says-listing place Fault.CarriageReturn = refl
-says-listing place Fault.Order = refl
-says-listing place Fault.NoLineFeed = refl
-says-listing place Fault.NoLine = refl
+says_listing place Fault.WrongByte = refl
+says_listing place Fault.FieldMissing = refl
+says_listing place Fault.HexCase = refl
+says_listing place Fault.CarriageReturn = refl
+says_listing place Fault.Order = refl
+says_listing place Fault.NoLineFeed = refl
+says_listing place Fault.NoLine = refl
 
-says-sheet : (place : ℕ) (fault : Fault) → says (of (28 + fault_code fault) (from_one place) 0) ≡ sheet_sentence place fault
+says_sheet : (place : ℕ) (fault : Fault) → says (of (28 + fault_code fault) (from_one place) 0) ≡ sheet_sentence place fault
 unfolding filled from_line after_line sheet_sentence
-says-sheet place Fault.WrongByte = refl
-says-sheet place Fault.FieldMissing = refl
-says-sheet place Fault.HexCase = refl
-says-sheet place Fault.CarriageReturn = refl
-says-sheet place Fault.Order = refl
-says-sheet place Fault.NoLineFeed = refl
-says-sheet place Fault.NoLine = refl
+says_sheet place Fault.WrongByte = refl
+says_sheet place Fault.FieldMissing = refl
+says_sheet place Fault.HexCase = refl
+says_sheet place Fault.CarriageReturn = refl
+says_sheet place Fault.Order = refl
+says_sheet place Fault.NoLineFeed = refl
+says_sheet place Fault.NoLine = refl
 
-says-fault : (listing : Bool) (place : ℕ) (fault : Fault)
+says_fault : (listing : Bool) (place : ℕ) (fault : Fault)
     → says (of (cond listing 21 28 + fault_code fault) (from_one place) 0) ≡ cond listing (listing_sentence place fault) (sheet_sentence place fault)
-says-fault true place fault = says-listing place fault
-says-fault false place fault = says-sheet place fault
+says_fault true place fault = says_listing place fault
+says_fault false place fault = says_sheet place fault
 
-says-missing : (missing : Missing) → says (missing_entry missing) ≡ missing_sentence missing
+says_missing : (missing : Missing) → says (missing_entry missing) ≡ missing_sentence missing
 unfolding filled from_line after_line missing_sentence
-says-missing Missing.Nothing = refl
-says-missing (Missing.Variable v) = refl
-says-missing (Missing.Cell region index) = refl
+says_missing Missing.Nothing = refl
+says_missing (Missing.Variable v) = refl
+says_missing (Missing.Cell region index) = refl
 
-says-no-sheet : (why : Refusal) → says (entry why Detail.Sheet) ≡ sentence why Detail.Sheet
+says_no_sheet : (why : Refusal) → says (entry why Detail.Sheet) ≡ sentence why Detail.Sheet
 unfolding filled from_line after_line sentence
-says-no-sheet why = refl
+says_no_sheet why = refl
 
 pub says_all : (why : Refusal) (detail : Detail) → says (entry why detail) ≡ sentence why detail
 unfolding sentence
 says_all why Detail.Plain = says_plain why
-says_all why (Detail.Fault fault) = says-fault (eqb (number_of why) 1) (place_of why) fault
-says_all why (Detail.Missing missing) = says-missing missing
-says_all why Detail.Sheet = says-no-sheet why
+says_all why (Detail.Fault fault) = says_fault (eqb (number_of why) 1) (place_of why) fault
+says_all why (Detail.Missing missing) = says_missing missing
+says_all why Detail.Sheet = says_no_sheet why
 
 calls_by : (one : Bool) (calls : ℕ) → says (of (cond one 45 44) calls 0) ≡ calls_words one calls
 unfolding filled from_line after_line

@@ -39,12 +39,12 @@ module _ (t : List ℕ) (n name next home : ℕ) (x y z : Words) (room : 7 * n +
   abbrev with : List ℕ
   with = with_row t n word x y z
 
-  there-is : word_at with n ≡ word
-  there-is = row_name t n word x y z room
+  there_is : word_at with n ≡ word
+  there_is = row_name t n word x y z room
 
-  written-heads : (b : ℕ) → head_in (word_at with b) ≡ head_in (word_at t b)
-  written-heads b = elim (ℕ_discrete b n) [
-    | yes e ↦ rw e (ap head_in there-is ∙ linked_head (word_at t n) name next home)
+  written_heads : (b : ℕ) → head_in (word_at with b) ≡ head_in (word_at t b)
+  written_heads b = elim (ℕ_discrete b n) [
+    | yes e ↦ rw e (ap head_in there_is ∙ linked_head (word_at t n) name next home)
     | no a ↦ elim (dec_lt b n) [
       | yes l ↦ ap head_in ((row_outside t n word x y z).below (7 * b + functions_from) (omega arith))
       | no l ↦ ap head_in ((row_outside t n word x y z).beyond (7 * b + functions_from) (omega arith))
@@ -57,10 +57,10 @@ module _ (t : List ℕ) (n name next home : ℕ) (x y z : Words) (room : 7 * n +
       record {
         outside = record { below = λ i k. (row_outside t n word x y z).below i (omega arith); beyond = λ i k. (row_outside t n word x y z).beyond i (omega arith) };
         kept = λ j k. alike_below (row_outside t n word x y z) j (omega arith);
-        heads = written-heads;
+        heads = written_heads;
         long = row_length t n word x y z;
-        next_is = ap next_in there-is ∙ linked_next (word_at t n) name next home l;
-        home_is = ap home_in there-is ∙ linked_home (word_at t n) name next home m;
+        next_is = ap next_in there_is ∙ linked_next (word_at t n) name next home l;
+        home_is = ap home_in there_is ∙ linked_home (word_at t n) name next home m;
         there = row_there t n word x y z room ∙ ap (λ k. row (operation_of k) (number_of x) (number_of y) (number_of z)) e;
         comparable = row_comparable t n word x y z room (rw e named.0) (rw e named.1);
         owns = subst (λ k. Owns with n k (canonical_words x) (canonical_words y)) e (row_owns t n word x y z room);
@@ -72,27 +72,27 @@ module _ (t : List ℕ) (b head : ℕ) where
   abbrev pub entry : List ℕ
   entry = set t (7 * b + functions_from) (headed (word_at t b) head)
 
-  entry-same : (i : ℕ) → (i ≡ 7 * b + functions_from → ⊥) → get_or entry i 0 ≡ get_or t i 0
-  entry-same i e = get_or-set_other t (7 * b + functions_from) i (headed (word_at t b) head) 0 e
+  entry_same : (i : ℕ) → (i ≡ 7 * b + functions_from → ⊥) → get_or entry i 0 ≡ get_or t i 0
+  entry_same i e = get_or-set_other t (7 * b + functions_from) i (headed (word_at t b) head) 0 e
 
-  entry-others : (c : ℕ) → (c ≡ b → ⊥) → head_in (word_at entry c) ≡ head_in (word_at t c)
-  entry-others c a = ap head_in (entry-same (7 * c + functions_from) λ q. a (omega arith))
+  entry_others : (c : ℕ) → (c ≡ b → ⊥) → head_in (word_at entry c) ≡ head_in (word_at t c)
+  entry_others c a = ap head_in (entry_same (7 * c + functions_from) λ q. a (omega arith))
 
   module _ (room : 7 * b + functions_from < length t) where
     entry_there : word_at entry b ≡ headed (word_at t b) head
     entry_there = get_or-set_same t (7 * b + functions_from) (headed (word_at t b) head) 0 room
 
-    entry-alike : (j : ℕ) → Alike t entry j
-    entry-alike j = record {
+    entry_alike : (j : ℕ) → Alike t entry j
+    entry_alike j = record {
       low = elim (ℕ_discrete j b) [
         | yes e ↦ rw e (ap (λ w. w % 1048576) entry_there ∙ headed_low (word_at t b) head)
-        | no a ↦ ap (λ w. w % 1048576) (entry-same (7 * j + functions_from) λ q. a (omega arith))
+        | no a ↦ ap (λ w. w % 1048576) (entry_same (7 * j + functions_from) λ q. a (omega arith))
       ];
-      rest = λ i l m. entry-same i λ q. omega arith;
+      rest = λ i l m. entry_same i λ q. omega arith;
     }
 
-    entry-head : head < 512 → head_in (word_at entry b) ≡ head
-    entry-head l = ap head_in entry_there ∙ headed_head (word_at t b) head l
+    entry_head : head < 512 → head_in (word_at entry b) ≡ head
+    entry_head l = ap head_in entry_there ∙ headed_head (word_at t b) head l
 
 -- ---- a row more, in the index
 
@@ -121,37 +121,37 @@ module _ {t t' : List ℕ} {n name next b : ℕ} {x y z : Words} (w : Written t 
 
     alike : (j : ℕ) → Alike t' new j
     unfolding new
-    alike = entry-alike t' b (n + 1) place
+    alike = entry_alike t' b (n + 1) place
 
-    new-owns : Owns new n name (canonical_words x) (canonical_words y)
-    new-owns = record { own = λ name' x' y' e. w.owns.own name' x' y' (sym (same_matches (alike n) name' x' y') ∙ e) }
+    new_owns : Owns new n name (canonical_words x) (canonical_words y)
+    new_owns = record { own = λ name' x' y' e. w.owns.own name' x' y' (sym (same_matches (alike n) name' x' y') ∙ e) }
 
     new_others : (c : ℕ) → (c ≡ b → ⊥) → head_in (word_at new c) ≡ head_in (word_at t c)
     unfolding new
-    new_others c a = entry-others t' b (n + 1) c a ∙ w.heads c
+    new_others c a = entry_others t' b (n + 1) c a ∙ w.heads c
 
     new_head : head_in (word_at new b) ≡ n + 1
     unfolding new
-    new_head = entry-head t' b (n + 1) place (omega arith)
+    new_head = entry_head t' b (n + 1) place (omega arith)
 
-    new-indexed : n ≤ s → Indexed t n → Indexed new (n + 1)
-    new-indexed l h =
-        fresh_indexed h (λ j k. alike_then (w.kept j k) (alike j)) new-owns (λ j k. (f h).before j (omega arith)) (λ c a. new_others c λ e. a (e ∙ q)) (rw (sym q) new_head)
+    new_indexed : n ≤ s → Indexed t n → Indexed new (n + 1)
+    new_indexed l h =
+        fresh_indexed h (λ j k. alike_then (w.kept j k) (alike j)) new_owns (λ j k. (f h).before j (omega arith)) (λ c a. new_others c λ e. a (e ∙ q)) (rw (sym q) new_head)
         (same_home (alike n) ∙ w.home_is ∙ q)
         (same_next (alike n) ∙ w.next_is ∙ u ∙ ap (λ c. head_for t n c) q)
 
-    new-outside : Outside t' new functions_from table_words
+    new_outside : Outside t' new functions_from table_words
     unfolding new
-    new-outside = set_outside t' (7 * b + functions_from) (headed (word_at t' b) (n + 1)) functions_from table_words (omega arith) (omega arith)
+    new_outside = set_outside t' (7 * b + functions_from) (headed (word_at t' b) (n + 1)) functions_from table_words (omega arith) (omega arith)
 
-    fresh-entered : n ≤ s → Entered t (set t' (7 * b + functions_from) (headed (word_at t' b) (n + 1))) n name x y z
+    fresh_entered : n ≤ s → Entered t (set t' (7 * b + functions_from) (headed (word_at t' b) (n + 1))) n name x y z
     unfolding new
-    fresh-entered l = record {
-      outside = then_outside w.outside new-outside;
+    fresh_entered l = record {
+      outside = then_outside w.outside new_outside;
       kept = λ j k. alike_then (w.kept j k) (alike j);
       there = same_row (alike n) ∙ w.there;
       comparable = same_comparable (alike n) w.comparable;
-      indexed = new-indexed l;
+      indexed = new_indexed l;
     }
 
 -- ---- what `put_row` does
@@ -170,4 +170,4 @@ module _ (t : List ℕ) (n name next b s : ℕ) (x y z : Words) (few : n < 256) 
 
   pub put_fresh : n ≤ s
       → Entered t (set (with_row t n (linked (word_at t n) name next b) x y z) (7 * b + functions_from) (headed (word_at (with_row t n (linked (word_at t n) name next b) x y z) b) (n + 1))) n name x y z
-  put_fresh l = fresh-entered row_written s found few room small q u l
+  put_fresh l = fresh_entered row_written s found few room small q u l

@@ -29,11 +29,11 @@ zeros rest = 48 ∷ 48 ∷ 48 ∷ 48 ∷ 48 ∷ 48 ∷ 48 ∷ 48 ∷ 48 ∷ 48 �
 abbrev one : List ℕ → List ℕ
 one rest = 51 ∷ 70 ∷ 70 ∷ 48 ∷ 48 ∷ 48 ∷ 48 ∷ 48 ∷ 48 ∷ 48 ∷ 48 ∷ 48 ∷ 48 ∷ 48 ∷ 48 ∷ 48 ∷ rest
 
-abbrev minusZero : List ℕ → List ℕ
-minusZero rest = 56 ∷ 48 ∷ 48 ∷ 48 ∷ 48 ∷ 48 ∷ 48 ∷ 48 ∷ 48 ∷ 48 ∷ 48 ∷ 48 ∷ 48 ∷ 48 ∷ 48 ∷ 48 ∷ rest
+abbrev minus_zero : List ℕ → List ℕ
+minus_zero rest = 56 ∷ 48 ∷ 48 ∷ 48 ∷ 48 ∷ 48 ∷ 48 ∷ 48 ∷ 48 ∷ 48 ∷ 48 ∷ 48 ∷ 48 ∷ 48 ∷ 48 ∷ 48 ∷ rest
 
-abbrev otherNan : List ℕ → List ℕ
-otherNan rest = 70 ∷ 70 ∷ 70 ∷ 56 ∷ 48 ∷ 48 ∷ 48 ∷ 48 ∷ 48 ∷ 48 ∷ 48 ∷ 48 ∷ 48 ∷ 48 ∷ 48 ∷ 49 ∷ rest
+abbrev other_nan : List ℕ → List ℕ
+other_nan rest = 70 ∷ 70 ∷ 70 ∷ 56 ∷ 48 ∷ 48 ∷ 48 ∷ 48 ∷ 48 ∷ 48 ∷ 48 ∷ 48 ∷ 48 ∷ 48 ∷ 48 ∷ 49 ∷ rest
 
 -- what follows the first byte of `v·7·1·0`, `m·1·2·1` and `t·sin·1·0·0·0·1·1`, up to the next line
 abbrev variable7 : List ℕ → List ℕ
@@ -75,56 +75,56 @@ empty : sheet [] ≡ read (rows [] [] [])
 unfolding sheet
 empty = end (rows [] [] [])
 
-after-v : Rows
-after-v = rows (variable 7 the1 ∷ []) [] []
+after_v : Rows
+after_v = rows (variable 7 the1 ∷ []) [] []
 
-after-m : Rows
-after-m = rows (variable 7 the1 ∷ []) (cell 1 2 (double_of 0x3FF0_0000_0000_0000) ∷ []) []
+after_m : Rows
+after_m = rows (variable 7 the1 ∷ []) (cell 1 2 (double_of 0x3FF0_0000_0000_0000) ∷ []) []
 
-after-t : Rows
-after-t = rows (variable 7 the1 ∷ []) (cell 1 2 (double_of 0x3FF0_0000_0000_0000) ∷ []) (row Operation.Sine the1 the0 the11 ∷ [])
+after_t : Rows
+after_t = rows (variable 7 the1 ∷ []) (cell 1 2 (double_of 0x3FF0_0000_0000_0000) ∷ []) (row Operation.Sine the1 the0 the11 ∷ [])
 
-v-line : (rest : List ℕ) → sheet_line (rows [] [] []) 118 (variable7 rest) ≡ goes after-v rest
-unfolding after-v sheet_line variable_line counted formed none above_last above_number variable_fields complex_field then ended decimal spelt run value hex hex_from digit_of
-v-line rest = refl
+v_line : (rest : List ℕ) → sheet_line (rows [] [] []) 118 (variable7 rest) ≡ goes after_v rest
+unfolding after_v sheet_line variable_line counted formed none above_last above_number variable_fields complex_field then ended decimal spelt run value hex hex_from digit_of
+v_line rest = refl
 
-m-line : (rest : List ℕ) → sheet_line after-v 109 (cell12 rest) ≡ goes after-m rest
-unfolding after-v after-m sheet_line cell_line counted formed none above_last cell_fields then ended decimal spelt run value hex hex_from digit_of
-m-line rest = refl
+m_line : (rest : List ℕ) → sheet_line after_v 109 (cell12 rest) ≡ goes after_m rest
+unfolding after_v after_m sheet_line cell_line counted formed none above_last cell_fields then ended decimal spelt run value hex hex_from digit_of
+m_line rest = refl
 
-t-line : (rest : List ℕ) → sheet_line after-m 116 (sine zeros rest) ≡ goes after-t rest
-unfolding after-m after-t sheet_line function_line counted formed row_fields complex_field second_operand numbered then ended hex hex_from digit_of name_from starts
-t-line rest = refl
+t_line : (rest : List ℕ) → sheet_line after_m 116 (sine zeros rest) ≡ goes after_t rest
+unfolding after_m after_t sheet_line function_line counted formed row_fields complex_field second_operand numbered then ended hex hex_from digit_of name_from starts
+t_line rest = refl
 
-each-kind : sheet (118 ∷ variable7 (109 ∷ cell12 (116 ∷ sine zeros []))) ≡ read after-t
+each_kind : sheet (118 ∷ variable7 (109 ∷ cell12 (116 ∷ sine zeros []))) ≡ read after_t
 unfolding sheet
-each-kind =
-    next (rows [] [] []) 118 (variable7 (109 ∷ cell12 (116 ∷ sine zeros []))) after-v _ (v-line (109 ∷ cell12 (116 ∷ sine zeros [])))
-    ∙ next after-v 109 (cell12 (116 ∷ sine zeros [])) after-m _ (m-line (116 ∷ sine zeros []))
-    ∙ next after-m 116 (sine zeros []) after-t [] (t-line [])
-    ∙ end after-t
+each_kind =
+    next (rows [] [] []) 118 (variable7 (109 ∷ cell12 (116 ∷ sine zeros []))) after_v _ (v_line (109 ∷ cell12 (116 ∷ sine zeros [])))
+    ∙ next after_v 109 (cell12 (116 ∷ sine zeros [])) after_m _ (m_line (116 ∷ sine zeros []))
+    ∙ next after_m 116 (sine zeros []) after_t [] (t_line [])
+    ∙ end after_t
 
 -- ---- refusal 3 at its boundary, whatever follows
 
 -- a repeated variable
-repeated : (rest : List ℕ) → sheet_line after-v 118 (variable7 rest) ≡ stops (Refusal.BadSheet 1)
-unfolding after-v sheet_line variable_line counted formed none above_last above_number variable_fields complex_field then ended decimal spelt run value hex hex_from digit_of
+repeated : (rest : List ℕ) → sheet_line after_v 118 (variable7 rest) ≡ stops (Refusal.BadSheet 1)
+unfolding after_v sheet_line variable_line counted formed none above_last above_number variable_fields complex_field then ended decimal spelt run value hex hex_from digit_of
 repeated rest = refl
 
-repeated-sheet : sheet (118 ∷ variable7 (118 ∷ variable7 [])) ≡ refused (Refusal.BadSheet 1)
+repeated_sheet : sheet (118 ∷ variable7 (118 ∷ variable7 [])) ≡ refused (Refusal.BadSheet 1)
 unfolding sheet
-repeated-sheet =
-    next (rows [] [] []) 118 (variable7 (118 ∷ variable7 [])) after-v _ (v-line (118 ∷ variable7 []))
-    ∙ stop after-v 118 (variable7 []) (Refusal.BadSheet 1) (repeated [])
+repeated_sheet =
+    next (rows [] [] []) 118 (variable7 (118 ∷ variable7 [])) after_v _ (v_line (118 ∷ variable7 []))
+    ∙ stop after_v 118 (variable7 []) (Refusal.BadSheet 1) (repeated [])
 
 -- m before v, t before m
 v_after_m : (c : Cell) (rest : List ℕ) → sheet_line (rows [] (c ∷ []) []) 118 (variable7 rest) ≡ stops (Refusal.BadSheet 1)
 unfolding sheet_line variable_line counted formed none variable_fields complex_field then ended decimal spelt run value hex hex_from digit_of
 v_after_m c rest = refl
 
-m-after-t : (r : Row) (rest : List ℕ) → sheet_line (rows [] [] (r ∷ [])) 109 (cell12 rest) ≡ stops (Refusal.BadSheet 1)
+m_after_t : (r : Row) (rest : List ℕ) → sheet_line (rows [] [] (r ∷ [])) 109 (cell12 rest) ≡ stops (Refusal.BadSheet 1)
 unfolding sheet_line cell_line counted formed none cell_fields then ended decimal spelt run value hex hex_from digit_of
-m-after-t r rest = refl
+m_after_t r rest = refl
 
 -- cells ascend by pair: (1, 2) follows (0, 9) and (1, 1), not (1, 2) and (2, 0)
 pairs : (r s : Float) → (above_pair (cell 0 9 r) (cell 1 2 s) ≡ true) × (above_pair (cell 1 1 r) (cell 1 2 s) ≡ true)
@@ -133,13 +133,13 @@ unfolding above_pair
 pairs r s = (refl, refl, refl, refl)
 
 -- the second operand of sin is no 1 and no -0; that of pow is any
-sine_of_two : (rest : List ℕ) → (sheet_line (rows [] [] []) 116 (sine one rest) ≡ stops (Refusal.BadSheet 0)) × (sheet_line (rows [] [] []) 116 (sine minusZero rest) ≡ stops (Refusal.BadSheet 0))
+sine_of_two : (rest : List ℕ) → (sheet_line (rows [] [] []) 116 (sine one rest) ≡ stops (Refusal.BadSheet 0)) × (sheet_line (rows [] [] []) 116 (sine minus_zero rest) ≡ stops (Refusal.BadSheet 0))
 unfolding sheet_line function_line counted formed row_fields complex_field second_operand then ended hex hex_from digit_of name_from starts
 sine_of_two rest = (refl, refl)
 
-power-of-two : (rest : List ℕ) → second_operand 5 (one (9 ∷ zeros (9 ∷ rest))) ≡ is the1 rest
+power_of_two : (rest : List ℕ) → second_operand 5 (one (9 ∷ zeros (9 ∷ rest))) ≡ is the1 rest
 unfolding second_operand then ended hex hex_from digit_of
-power-of-two rest = refl
+power_of_two rest = refl
 
 -- the limit of a number, a leading zero, a digit in lower case, a line with no LF
 numbers : (rest : List ℕ) → (variable_fields (54 ∷ 53 ∷ 53 ∷ 51 ∷ 53 ∷ 9 ∷ one (9 ∷ zeros (10 ∷ rest))) ≡ is (variable 65535 the1) rest)
@@ -162,28 +162,28 @@ module _ (vs : List Variable) (cs : List Cell) (fs : List Row) (bs : List ℕ) w
   unfolding sheet_line variable_line
   variables_full h = too_many_lem (rows vs cs fs) 256 256 vs _ _ _ (rw h) h _ (omega arith)
 
-  cells-full : length cs ≡ 1024 → stops (Refusal.LongSheet (length vs + (1024 + length fs))) ≡ sheet_line (rows vs cs fs) 109 bs
+  cells_full : length cs ≡ 1024 → stops (Refusal.LongSheet (length vs + (1024 + length fs))) ≡ sheet_line (rows vs cs fs) 109 bs
   unfolding sheet_line cell_line
-  cells-full h = too_many_lem (rows vs cs fs) 1024 1024 cs _ _ _ (rw h) h _ (omega arith)
+  cells_full h = too_many_lem (rows vs cs fs) 1024 1024 cs _ _ _ (rw h) h _ (omega arith)
 
-  rows-full : length fs ≡ 256 → stops (Refusal.LongSheet (length vs + (length cs + 256))) ≡ sheet_line (rows vs cs fs) 116 bs
+  rows_full : length fs ≡ 256 → stops (Refusal.LongSheet (length vs + (length cs + 256))) ≡ sheet_line (rows vs cs fs) 116 bs
   unfolding sheet_line function_line
-  rows-full h = too_many_lem (rows vs cs fs) 256 256 fs _ _ _ (rw h) h _ (omega arith)
+  rows_full h = too_many_lem (rows vs cs fs) 256 256 fs _ _ _ (rw h) h _ (omega arith)
 
-last-variable : (vs : List Variable) (v : Variable) (bs rest : List ℕ) → length vs ≡ 255 → above_last above_number vs v ≡ true → is v rest ≡ fields_after 118 bs variable_fields
+last_variable : (vs : List Variable) (v : Variable) (bs rest : List ℕ) → length vs ≡ 255 → above_last above_number vs v ≡ true → is v rest ≡ fields_after 118 bs variable_fields
     → goes (rows (vs ++ (v ∷ [])) [] []) rest ≡ sheet_line (rows vs [] []) 118 bs
 unfolding sheet_line variable_line none
-last-variable vs v bs rest h a e = taken (rows vs [] []) 256 255 vs _ _ 255 (rw h) h _ v rest (omega arith) e (sym a)
+last_variable vs v bs rest h a e = taken (rows vs [] []) 256 255 vs _ _ 255 (rw h) h _ v rest (omega arith) e (sym a)
 
 -- ---- what is looked up
 
-looked_up : (value_of 7 after-t.variables ≡ found the1) × (value_of 8 after-t.variables ≡ missing)
-    × (cell_value 1 2 after-t.cells ≡ found the1) × (cell_value 1 3 after-t.cells ≡ missing) × (cell_value 2 2 after-t.cells ≡ missing)
-unfolding after-t value_of cell_value
+looked_up : (value_of 7 after_t.variables ≡ found the1) × (value_of 8 after_t.variables ≡ missing)
+    × (cell_value 1 2 after_t.cells ≡ found the1) × (cell_value 1 3 after_t.cells ≡ missing) × (cell_value 2 2 after_t.cells ≡ missing)
+unfolding after_t value_of cell_value
 looked_up = (refl, refl, refl, refl, refl)
 
-called : (function_value Operation.Sine the1 the0 after-t.functions ≡ found the11) × (function_value Operation.Cosine the1 the0 after-t.functions ≡ missing)
-unfolding after-t function_value identical identical_doubles to_bits of_bits
+called : (function_value Operation.Sine the1 the0 after_t.functions ≡ found the11) × (function_value Operation.Cosine the1 the0 after_t.functions ≡ missing)
+unfolding after_t function_value identical identical_doubles to_bits of_bits
 called = (refl, refl)
 
 -- the first row that matches counts
@@ -197,6 +197,6 @@ by_bits : (identical the0 (of_parts 0x8000_0000_0000_0000 0) ≡ false) × (iden
 unfolding identical identical_doubles to_bits of_bits
 by_bits = (refl, refl)
 
-one-nan : (rest : List ℕ) → (complex_field 10 (otherNan (9 ∷ zeros (10 ∷ rest))) ≡ is (of_parts 0xFFF8_0000_0000_0001 0) rest) × (bits_of (double_of 0xFFF8_0000_0000_0001) ≡ nan_pattern)
+one_nan_lem : (rest : List ℕ) → (complex_field 10 (other_nan (9 ∷ zeros (10 ∷ rest))) ≡ is (of_parts 0xFFF8_0000_0000_0001 0) rest) × (bits_of (double_of 0xFFF8_0000_0000_0001) ≡ nan_pattern)
 unfolding complex_field then ended hex hex_from digit_of to_bits of_bits
-one-nan rest = (refl, refl)
+one_nan_lem rest = (refl, refl)

@@ -32,10 +32,10 @@ named n (variable n' value) = eqb n n'
 valued : Variable → Lookup
 valued (variable n value) = found value
 
-values-first : (n : ℕ) (vs : List Variable) → first (named n) valued missing vs ≡ value_of n vs
+values_first : (n : ℕ) (vs : List Variable) → first (named n) valued missing vs ≡ value_of n vs
 unfolding first value_of named valued
-values-first n [] = refl
-values-first n (variable n' value ∷ vs) = rw (values-first n vs)
+values_first n [] = refl
+values_first n (variable n' value ∷ vs) = rw (values_first n vs)
 
 placed : (region index : ℕ) → Cell → Bool
 placed region index (cell region' index' real) = eqb region region' && eqb index index'
@@ -43,10 +43,10 @@ placed region index (cell region' index' real) = eqb region region' && eqb index
 real_of : Cell → Lookup
 real_of (cell region index real) = found (record { re = real; im = double_of 0 })
 
-cells-first : (region index : ℕ) (cs : List Cell) → first (placed region index) real_of missing cs ≡ cell_value region index cs
+cells_first : (region index : ℕ) (cs : List Cell) → first (placed region index) real_of missing cs ≡ cell_value region index cs
 unfolding first cell_value placed real_of
-cells-first region index [] = refl
-cells-first region index (cell region' index' real ∷ cs) = rw (cells-first region index cs)
+cells_first region index [] = refl
+cells_first region index (cell region' index' real ∷ cs) = rw (cells_first region index cs)
 
 row_first : (o : Operation) (x y : Complex) (n : ℕ) (f : ℕ → Row) (next r k : ℕ) → k ≡ next + r → r < n → matches o x y (f r) ≡ true → ((j : ℕ) → j < r → matches o x y (f j) ≡ false)
     → at k (value_in (f r)) ≡ row_from next o x y (up_to n f)
@@ -56,10 +56,10 @@ row_first o x y (suc n) f next zero k e l h b = let p : k ≡ next = omega (arit
 row_first o x y (suc n) f next (suc r) k e l h b =
     rw (b zero (omega arith)) (row_first o x y n (λ j. f (suc j)) (suc next) r k (omega (arith, e)) (omega arith) h λ j m. b (suc j) (omega arith))
 
-row-nowhere : (o : Operation) (x y : Complex) (n : ℕ) (f : ℕ → Row) (next : ℕ) → ((j : ℕ) → j < n → matches o x y (f j) ≡ false) → nowhere ≡ row_from next o x y (up_to n f)
+row_nowhere : (o : Operation) (x y : Complex) (n : ℕ) (f : ℕ → Row) (next : ℕ) → ((j : ℕ) → j < n → matches o x y (f j) ≡ false) → nowhere ≡ row_from next o x y (up_to n f)
 unfolding row_from up_to
-row-nowhere o x y zero f next b = refl
-row-nowhere o x y (suc n) f next b = rw (b zero (omega arith)) (row-nowhere o x y n (λ j. f (suc j)) (suc next) λ j m. b (suc j) (omega arith))
+row_nowhere o x y zero f next b = refl
+row_nowhere o x y (suc n) f next b = rw (b zero (omega arith)) (row_nowhere o x y n (λ j. f (suc j)) (suc next) λ j m. b (suc j) (omega arith))
 
 -- ---- tests on the table's words
 
@@ -76,9 +76,9 @@ pair_key_lem region index w h = elim (ℕ_discrete region (w / 4294967296)) [
 pub number_back : (w : ℕ) → 0 < w → w < 6 → operation_code (operation_of w) ≡ w
 number_back w p q = operation_code_back w (record { least = omega (arith, p); most = omega (arith, q) })
 
-row-test : (t : List ℕ) (o : Operation) (x y : Complex) (j : ℕ) → Comparable t j → row_matches t (operation_code o) (words_of x) (words_of y) j ≡ matches o x y (row_at t j)
+row_test : (t : List ℕ) (o : Operation) (x y : Complex) (j : ℕ) → Comparable t j → row_matches t (operation_code o) (words_of x) (words_of y) j ≡ matches o x y (row_at t j)
 unfolding matches identical identical_doubles
-row-test t o x y j c =
+row_test t o x y j c =
     let xr : bits_of (double_of (get_or t (7 * j + functions_from + 1) 0)) ≡ get_or t (7 * j + functions_from + 1) 0 = bits_back _ (c.operands (7 * j + functions_from + 1) (omega arith) (omega arith)) in
     let xi : bits_of (double_of (get_or t (7 * j + functions_from + 1 + 1) 0)) ≡ get_or t (7 * j + functions_from + 1 + 1) 0 = bits_back _ (c.operands (7 * j + functions_from + 1 + 1) (omega arith) (omega arith)) in
     let yr : bits_of (double_of (get_or t (7 * j + functions_from + 3) 0)) ≡ get_or t (7 * j + functions_from + 3) 0 = bits_back _ (c.operands (7 * j + functions_from + 3) (omega arith) (omega arith)) in
@@ -91,31 +91,31 @@ module _ (t : List ℕ) (n : Counts) (h : Held t n) (r : ℕ) where
   module _ (k : ℕ) (s : First (holds (key_at t 0 3) k) n.variables r) where
     pub variable_found : r < n.variables → found (number_at t (3 * r + 1)) ≡ value_of k (up_to n.variables (variable_at t))
     unfolding named valued
-    variable_found l = first_found (named k) valued missing n.variables (variable_at t) r l (ap (eqb k) (sym (plain_key t r)) ∙ s.hit l) (λ j m. ap (eqb k) (sym (plain_key t j)) ∙ s.before j m) ∙ values-first k _
+    variable_found l = first_found (named k) valued missing n.variables (variable_at t) r l (ap (eqb k) (sym (plain_key t r)) ∙ s.hit l) (λ j m. ap (eqb k) (sym (plain_key t j)) ∙ s.before j m) ∙ values_first k _
 
     pub variable_missing : n.variables ≤ r → missing ≡ value_of k (up_to n.variables (variable_at t))
     unfolding named
-    variable_missing l = first_missing_lem (named k) valued missing n.variables (variable_at t) (λ j m. ap (eqb k) (sym (plain_key t j)) ∙ s.before j (omega arith)) ∙ values-first k _
+    variable_missing l = first_missing_lem (named k) valued missing n.variables (variable_at t) (λ j m. ap (eqb k) (sym (plain_key t j)) ∙ s.before j (omega arith)) ∙ values_first k _
 
   module _ (region index : ℕ) (small : index < 4294967296) (s : First (holds (key_at t cells_from 2) (region * 4294967296 + index)) n.cells r) where
     pub cell_found : r < n.cells → found (record { re = double_of (get_or t (2 * r + cells_from + 1) 0); im = double_of 0 }) ≡ cell_value region index (up_to n.cells (cell_at t))
     unfolding placed real_of
     cell_found l =
         first_found (placed region index) real_of missing n.cells (cell_at t) r l (sym (pair_key_lem region index (get_or t (2 * r + cells_from) 0) small) ∙ s.hit l)
-        (λ j m. sym (pair_key_lem region index (get_or t (2 * j + cells_from) 0) small) ∙ s.before j m) ∙ cells-first region index _
+        (λ j m. sym (pair_key_lem region index (get_or t (2 * j + cells_from) 0) small) ∙ s.before j m) ∙ cells_first region index _
 
     pub cell_missing : n.cells ≤ r → missing ≡ cell_value region index (up_to n.cells (cell_at t))
     unfolding placed
     cell_missing l =
         first_missing_lem (placed region index) real_of missing n.cells (cell_at t) (λ j m. sym (pair_key_lem region index (get_or t (2 * j + cells_from) 0) small) ∙ s.before j (omega arith))
-        ∙ cells-first region index _
+        ∙ cells_first region index _
 
   module _ (o : Operation) (x y : Complex) (s : First (row_matches t (operation_code o) (words_of x) (words_of y)) n.functions r) where
     pub row_found : r < n.functions → at r (number_at t (7 * r + functions_from + 5)) ≡ function_row o x y (up_to n.functions (row_at t))
     unfolding value_in
     row_found l =
-        row_first o x y n.functions (row_at t) 0 r r (omega arith) l (sym (row-test t o x y r (h.operands r l)) ∙ s.hit l)
-        (λ j m. sym (row-test t o x y j (h.operands j (omega arith))) ∙ s.before j m)
+        row_first o x y n.functions (row_at t) 0 r r (omega arith) l (sym (row_test t o x y r (h.operands r l)) ∙ s.hit l)
+        (λ j m. sym (row_test t o x y j (h.operands j (omega arith))) ∙ s.before j m)
 
     pub row_missing : n.functions ≤ r → nowhere ≡ function_row o x y (up_to n.functions (row_at t))
-    row_missing l = row-nowhere o x y n.functions (row_at t) 0 λ j m. sym (row-test t o x y j (h.operands j m)) ∙ s.before j (omega arith)
+    row_missing l = row_nowhere o x y n.functions (row_at t) 0 λ j m. sym (row_test t o x y j (h.operands j m)) ∙ s.before j (omega arith)

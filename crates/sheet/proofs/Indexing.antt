@@ -90,9 +90,9 @@ module _ (n h o b : ℕ) where
   unfolding counting
   counting_elsewhere l e = rw (le-ltb n h l, ne_eqb o b e) refl
 
-  counting-so : (counting n h o b ≡ 0 → ⊥) → (0 < h) × (h ≤ n) × (o ≡ b)
+  counting_so : (counting n h o b ≡ 0 → ⊥) → (0 < h) × (h ≤ n) × (o ≡ b)
   unfolding counting
-  counting-so q = go (ltb n h) refl (eqb o b) refl q
+  counting_so q = go (ltb n h) refl (eqb o b) refl q
     where
       go : (c : Bool) → ltb n h ≡ c → (d : Bool) → eqb o b ≡ d → (cond c 0 (cond d h 0) ≡ 0 → ⊥) → (0 < h) × (h ≤ n) × (o ≡ b)
       go true x d y q = absurd (q refl)
@@ -138,24 +138,24 @@ module _ {t t' : List ℕ} {n : ℕ} (h : Indexed t n) (kept : (j : ℕ) → j <
     before = λ j k. sym (same_matches (kept j (omega arith)) name x y) ∙ f.before j k;
   }
 
-  leads-before : Leads (next_at t') (row_matches t' name x y) (head_for t n (bucket_of name x y)) r
-  leads-before =
+  leads_before : Leads (next_at t') (row_matches t' name x y) (head_for t n (bucket_of name x y)) r
+  leads_before =
       leads_kept n (λ j k. same_next (kept j k)) (λ j k. same_matches (kept j k) name x y) (counting_within n _ _ (bucket_of name x y))
       (h.leads name x y r first_back l)
 
-  leads-again : head_in (word_at t' (bucket_of name x y)) ≡ head_in (word_at t (bucket_of name x y)) → Leads (next_at t') (row_matches t' name x y) (head_for t' m (bucket_of name x y)) r
-  leads-again e =
+  leads_again : head_in (word_at t' (bucket_of name x y)) ≡ head_in (word_at t (bucket_of name x y)) → Leads (next_at t') (row_matches t' name x y) (head_for t' m (bucket_of name x y)) r
+  leads_again e =
       let b = bucket_of name x y in
-      let s = counting-so n (head_in (word_at t b)) (home_in (word_at t (head_in (word_at t b) - 1))) b (leads_some leads-before) in
+      let s = counting_so n (head_in (word_at t b)) (home_in (word_at t (head_in (word_at t b) - 1))) b (leads_some leads_before) in
       let o : home_in (word_at t' (head_in (word_at t' b) - 1)) ≡ b = rw e (same_home (kept (head_in (word_at t b) - 1) (omega (arith, s.0, s.1))) ∙ s.2) in
       let q : head_for t' m b ≡ head_for t n b =
       sym (counting_home m (head_in (word_at t' b)) _ b (omega (arith, e, s.1)) o) ∙ e ∙ counting_home n (head_in (word_at t b)) _ b s.1 s.2 in
-      rw q leads-before
+      rw q leads_before
 
 -- the index stays where all words of rows are the same
 pub indexed_same : {t t' : List ℕ} {n : ℕ} → Indexed t n → ((i : ℕ) → functions_from ≤ i → get_or t' i 0 ≡ get_or t i 0) → Indexed t' n
 indexed_same {t} {t'} {n} h s = record {
-  leads = λ name x y r f l. leads-again {t = t} {t' = t'} {n = n} h (λ j k. record { low = ap (λ w. w % 1048576) (s (7 * j + functions_from) (omega arith)); rest = λ i a b. s i (omega arith) }) n (omega arith) name x y r f l (ap head_in (s (7 * bucket_of name x y + functions_from) (omega arith)));
+  leads = λ name x y r f l. leads_again {t = t} {t' = t'} {n = n} h (λ j k. record { low = ap (λ w. w % 1048576) (s (7 * j + functions_from) (omega arith)); rest = λ i a b. s i (omega arith) }) n (omega arith) name x y r f l (ap head_in (s (7 * bucket_of name x y + functions_from) (omega arith)));
 }
 
 -- ---- a row more
@@ -169,7 +169,7 @@ module _ {t t' : List ℕ} {n : ℕ} {name : ℕ} {x y : Words} (h : Indexed t n
   pub stands_indexed : (s : ℕ) → s < n → row_matches t name x y s ≡ true → ((b : ℕ) → head_in (word_at t' b) ≡ head_in (word_at t b)) → Indexed t' (n + 1)
   stands_indexed s k e heads = record {
     leads = λ name' x' y' r f l. elim (dec_lt r n) [
-      | yes m ↦ leads-again h kept (n + 1) (omega arith) name' x' y' r f m (heads (bucket_of name' x' y'))
+      | yes m ↦ leads_again h kept (n + 1) (omega arith) name' x' y' r f m (heads (bucket_of name' x' y'))
       | no m ↦
           let i : n ≡ r = omega arith in
           let q = o.own name' x' y' (rw i (f.hit l)) in
@@ -197,11 +197,11 @@ module _ {t t' : List ℕ} {n : ℕ} {name : ℕ} {x y : Words} (h : Indexed t n
       past-new : r < n → row_matches t' name' x' y' n ≡ false → Leads (next_at t') (row_matches t' name' x' y') (head_for t' (n + 1) (bucket_of name' x' y')) r
       past-new l e = elim (ℕ_discrete (bucket_of name' x' y') (bucket_of name x y)) [
         | yes q ↦
-            let w : Leads (next_at t') (row_matches t' name' x' y') (head_for t n (bucket_of name x y)) r = rw (sym q) (leads-before h kept (n + 1) (omega arith) name' x' y' r f l) in
+            let w : Leads (next_at t') (row_matches t' name' x' y') (head_for t n (bucket_of name x y)) r = rw (sym q) (leads_before h kept (n + 1) (omega arith) name' x' y' r f l) in
             let u = counting_within n (head_in (word_at t (bucket_of name x y))) (home_in (word_at t (head_in (word_at t (bucket_of name x y)) - 1))) (bucket_of name x y) in
             let z : min (next_at t' n) n ≡ head_for t n (bucket_of name x y) = omega (arith, next, u) in
             rw (q, new_head) (steps {r = r} n refl e (rw z w))
-        | no q ↦ leads-again h kept (n + 1) (omega arith) name' x' y' r f l (others (bucket_of name' x' y') q)
+        | no q ↦ leads_again h kept (n + 1) (omega arith) name' x' y' r f l (others (bucket_of name' x' y') q)
       ]
 
       -- what stands before is not what the new row has

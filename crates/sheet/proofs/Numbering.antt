@@ -23,16 +23,16 @@ unfoldable pub forgotten : Numbered → Lookup
 forgotten (at j z) = found z
 forgotten nowhere = missing
 
-value-step : (b : Bool) (z : Complex) (next : ℕ) (l : Lookup) (n : Numbered) → l ≡ forgotten n → cond b (found z) l ≡ forgotten (cond b (at next z) n)
+value_step : (b : Bool) (z : Complex) (next : ℕ) (l : Lookup) (n : Numbered) → l ≡ forgotten n → cond b (found z) l ≡ forgotten (cond b (at next z) n)
 unfolding forgotten
-value-step true z next l n e = refl
-value-step false z next l n e = e
+value_step true z next l n e = refl
+value_step false z next l n e = e
 
 module _ (o : Operation) (x y : Complex) where
   value_from : (next : ℕ) (rs : List Row) → function_value o x y rs ≡ forgotten (row_from next o x y rs)
   unfolding function_value row_from matches value_in forgotten
   value_from next [] = refl
-  value_from next (row o' x' y' value ∷ rs) = value-step (matches o x y (row o' x' y' value)) value next (function_value o x y rs) (row_from (suc next) o x y rs) (value_from (suc next) rs)
+  value_from next (row o' x' y' value ∷ rs) = value_step (matches o x y (row o' x' y' value)) value next (function_value o x y rs) (row_from (suc next) o x y rs) (value_from (suc next) rs)
 
   pub value_forgotten : (rs : List Row) → function_value o x y rs ≡ forgotten (function_row o x y rs)
   value_forgotten rs = value_from 0 rs
@@ -63,8 +63,8 @@ module _ (o : Operation) (x y : Complex) (other : Row) where
   none_before r rs k m f zero l = m
   none_before r rs k m f (suc i) l = f i (omega arith)
 
-  at-later : (next : ℕ) (r : Row) (rs : List Row) (j : ℕ) (z : Complex) → matches o x y r ≡ false → FoundFrom (suc next) rs j z → FoundFrom next (r ∷ rs) j z
-  at-later next r rs j z m f = record {
+  at_later : (next : ℕ) (r : Row) (rs : List Row) (j : ℕ) (z : Complex) → matches o x y r ≡ false → FoundFrom (suc next) rs j z → FoundFrom next (r ∷ rs) j z
+  at_later next r rs j z m f = record {
     place = suc f.place;
     number = omega (arith, f.number);
     foremost = record {
@@ -83,7 +83,7 @@ module _ (o : Operation) (x y : Complex) (other : Row) where
       go : (b : Bool) → matches o x y r ≡ b → cond b (at next (value_in r)) (row_from (suc next) o x y rs) ≡ at j z
           → (row_from (suc next) o x y rs ≡ at j z → FoundFrom (suc next) rs j z) → FoundFrom next (r ∷ rs) j z
       go true m e f = at_first next r rs j z m e
-      go false m e f = at-later next r rs j z m (f e)
+      go false m e f = at_later next r rs j z m (f e)
 
   pub row_foremost : (rs : List Row) (j : ℕ) (z : Complex) → function_row o x y rs ≡ at j z → Foremost o x y other rs j z
   row_foremost rs j z e =
@@ -91,10 +91,10 @@ module _ (o : Operation) (x y : Complex) (other : Row) where
       let same : f.place ≡ j = omega (arith, f.number) in
       subst (λ i. Foremost o x y other rs i z) same f.foremost
 
-  none-at : (next : ℕ) (rs : List Row) → row_from next o x y rs ≡ nowhere → (i : ℕ) → i < length rs → matches o x y (get_or rs i other) ≡ false
+  none_at : (next : ℕ) (rs : List Row) → row_from next o x y rs ≡ nowhere → (i : ℕ) → i < length rs → matches o x y (get_or rs i other) ≡ false
   unfolding row_from
-  none-at next [] e i l = absurd (omega arith)
-  none-at next (r ∷ rs) e i l = go (matches o x y r) refl e (λ e i l. none-at (suc next) rs e i l) i l
+  none_at next [] e i l = absurd (omega arith)
+  none_at next (r ∷ rs) e i l = go (matches o x y r) refl e (λ e i l. none_at (suc next) rs e i l) i l
     where
       go : (b : Bool) → matches o x y r ≡ b → cond b (at next (value_in r)) (row_from (suc next) o x y rs) ≡ nowhere
           → (row_from (suc next) o x y rs ≡ nowhere → (i : ℕ) → i < length rs → matches o x y (get_or rs i other) ≡ false)
@@ -104,7 +104,7 @@ module _ (o : Operation) (x y : Complex) (other : Row) where
 
   -- where none is found none matches
   pub nowhere_matches : (rs : List Row) → function_row o x y rs ≡ nowhere → (i : ℕ) → i < length rs → matches o x y (get_or rs i other) ≡ false
-  nowhere_matches rs e = none-at 0 rs e
+  nowhere_matches rs e = none_at 0 rs e
 
 -- ---- another row is taken away
 
@@ -121,10 +121,10 @@ pub renumbered_below : (j i : ℕ) → i ≤ j → renumbered j i ≡ i
 unfolding renumbered
 renumbered_below j i l = rw (le-ltb j i l)
 
-moves-step : (b : Bool) (j next : ℕ) (z : Complex) (m n : Numbered) → j ≤ next → m ≡ moved j n → cond b (at next z) m ≡ moved j (cond b (at (suc next) z) n)
+moves_step : (b : Bool) (j next : ℕ) (z : Complex) (m n : Numbered) → j ≤ next → m ≡ moved j n → cond b (at next z) m ≡ moved j (cond b (at (suc next) z) n)
 unfolding moved
-moves-step true j next z m n l e = ap (λ i. at i z) (sym (renumbered_over j next l))
-moves-step false j next z m n l e = e
+moves_step true j next z m n l e = ap (λ i. at i z) (sym (renumbered_over j next l))
+moves_step false j next z m n l e = e
 
 -- that row stands first: it does not match, and the others move up
 first_away : (b : Bool) (next : ℕ) (v : Complex) (m n : Numbered) → ((z : Complex) → cond b (at next v) n ≡ at (next + 0) z → ⊥) → m ≡ moved next n
@@ -143,7 +143,7 @@ module _ (o : Operation) (x y : Complex) where
   moves_up : (j next : ℕ) (rs : List Row) → j ≤ next → row_from next o x y rs ≡ moved j (row_from (suc next) o x y rs)
   unfolding row_from moved
   moves_up j next [] l = refl
-  moves_up j next (r ∷ rs) l = moves-step (matches o x y r) j next (value_in r) _ _ l (moves_up j (suc next) rs (omega arith))
+  moves_up j next (r ∷ rs) l = moves_step (matches o x y r) j next (value_in r) _ _ l (moves_up j (suc next) rs (omega arith))
 
   without_from : (j next : ℕ) (rs : List Row) → ((z : Complex) → row_from next o x y rs ≡ at (next + j) z → ⊥)
       → row_from next o x y (without j rs) ≡ moved (next + j) (row_from next o x y rs)
@@ -159,18 +159,18 @@ module _ (o : Operation) (x y : Complex) where
 
 -- ---- lists of numbers, and marks, once a row that is not among them is taken away
 
-renumbered-after : (j i : ℕ) → j < i → renumbered j i ≡ pred i
+renumbered_after : (j i : ℕ) → j < i → renumbered j i ≡ pred i
 unfolding renumbered
-renumbered-after j i l = rw (lt-ltb j i l)
+renumbered_after j i l = rw (lt-ltb j i l)
 
-renumbered-one : (j i k : ℕ) → i ≢ j → k ≢ j → renumbered j i ≡ renumbered j k → i ≡ k
-renumbered-one j i k n m e = elim (dec_lt j i) [
+renumbered_one : (j i k : ℕ) → i ≢ j → k ≢ j → renumbered j i ≡ renumbered j k → i ≡ k
+renumbered_one j i k n m e = elim (dec_lt j i) [
   | yes a ↦ elim (dec_lt j k) [
-    | yes b ↦ omega (arith, renumbered-after j i a, renumbered-after j k b)
-    | no b ↦ omega (arith, renumbered-after j i a, renumbered_below j k (omega arith))
+    | yes b ↦ omega (arith, renumbered_after j i a, renumbered_after j k b)
+    | no b ↦ omega (arith, renumbered_after j i a, renumbered_below j k (omega arith))
   ]
   | no a ↦ elim (dec_lt j k) [
-    | yes b ↦ omega (arith, renumbered_below j i (omega arith), renumbered-after j k b)
+    | yes b ↦ omega (arith, renumbered_below j i (omega arith), renumbered_after j k b)
     | no b ↦ omega (arith, renumbered_below j i (omega arith), renumbered_below j k (omega arith))
   ]
 ]
@@ -178,7 +178,7 @@ renumbered-one j i k n m e = elim (dec_lt j i) [
 same_test : (j i k : ℕ) → i ≢ j → k ≢ j → eqb (renumbered j i) (renumbered j k) ≡ eqb i k
 same_test j i k n m = elim (ℕ_discrete i k) [
   | yes e ↦ eq-eqb _ _ (ap (renumbered j) e) ∙ sym (eq-eqb i k e)
-  | no e ↦ ne_eqb _ _ (λ q. e (renumbered-one j i k n m q)) ∙ sym (ne_eqb i k e)
+  | no e ↦ ne_eqb _ _ (λ q. e (renumbered_one j i k n m q)) ∙ sym (ne_eqb i k e)
 ]
 
 pub among_renumbered : (j i : ℕ) (a : List ℕ) → i ≢ j → among j a ≡ false → among (renumbered j i) (map (renumbered j) a) ≡ among i a
@@ -189,13 +189,13 @@ among_renumbered j i (k ∷ a) n m =
     let other : k ≢ j = λ e. eqb-false j k (sym (or-false (eqb j k)) ∙ b.0) (sym e) in
     rw (same_test j i k n other, among_renumbered j i a n b.1)
 
-renumbered-least : (j i : ℕ) → renumbered j i ≤ i
-renumbered-least j i = elim (dec_lt j i) [
-  | yes a ↦ omega (arith, renumbered-after j i a)
+renumbered_least : (j i : ℕ) → renumbered j i ≤ i
+renumbered_least j i = elim (dec_lt j i) [
+  | yes a ↦ omega (arith, renumbered_after j i a)
   | no a ↦ omega (arith, renumbered_below j i (omega arith))
 ]
 
 -- each other row has the mark that it had
 pub marks_renumbered : (j i : ℕ) (a : List ℕ) → i ≢ j → among j a ≡ false → i < most_marks → get_or (marks_of (map (renumbered j) a)) (renumbered j i) 0 ≡ get_or (marks_of a) i 0
 marks_renumbered j i a n m l =
-    mark_of (map (renumbered j) a) (renumbered j i) (omega (arith, renumbered-least j i)) ∙ ap (λ b. cond b 1 0) (among_renumbered j i a n m) ∙ sym (mark_of a i l)
+    mark_of (map (renumbered j) a) (renumbered j i) (omega (arith, renumbered_least j i)) ∙ ap (λ b. cond b 1 0) (among_renumbered j i a n m) ∙ sym (mark_of a i l)

@@ -41,16 +41,16 @@ counts_in : (Rows → ℕ) → Whole Rows Refusal → ℕ
 counts_in count (Lines.read s) = count s
 counts_in count (Lines.refused why) = 0
 
-why-in : Whole Rows Refusal → Refusal → Refusal
-why-in (Lines.read s) other = other
-why-in (Lines.refused why) other = why
+why_in : Whole Rows Refusal → Refusal → Refusal
+why_in (Lines.read s) other = other
+why_in (Lines.refused why) other = why
 
 IsRead : Whole Rows Refusal → Type 0
 IsRead (Lines.read s) = Unit {0}
 IsRead (Lines.refused why) = ⊥
 
 pub one_sheet : (text t₁ t₂ : List ℕ) (r r' : Sheet) → seen t₁ r ≡ sheet text → seen t₂ r' ≡ sheet text → r ≡ r'
-unfolding counts_in why-in IsRead
+unfolding counts_in why_in IsRead
 one_sheet text t₁ t₂ (Sheet.Read n) (Sheet.Read k) p q =
     let e = p ∙ sym q in
     let v = sym (length_up_to n.variables _) ∙ ap (counts_in (λ s. length s.variables)) e ∙ length_up_to k.variables _ in
@@ -59,7 +59,7 @@ one_sheet text t₁ t₂ (Sheet.Read n) (Sheet.Read k) p q =
     λ i. Sheet.Read (record { variables = v i; cells = c i; functions = f i })
 one_sheet text t₁ t₂ (Sheet.Read n) (Sheet.Refused why) p q = absurd (subst IsRead (p ∙ sym q) tt)
 one_sheet text t₁ t₂ (Sheet.Refused why) (Sheet.Read k) p q = absurd (subst IsRead (q ∙ sym p) tt)
-one_sheet text t₁ t₂ (Sheet.Refused why) (Sheet.Refused why') p q = ap (λ x. Sheet.Refused (why-in x why)) (p ∙ sym q)
+one_sheet text t₁ t₂ (Sheet.Refused why) (Sheet.Refused why') p q = ap (λ x. Sheet.Refused (why_in x why)) (p ∙ sym q)
 
 -- and the rows that the table then holds
 rows_in : Whole Rows Refusal → Rows → Rows
@@ -89,17 +89,17 @@ row_in : Numbered → ℕ → ℕ
 row_in (at j z) other = j
 row_in nowhere other = other
 
-row-value-in : Numbered → Complex → Complex
-row-value-in (at j z) other = z
-row-value-in nowhere other = other
+row_value_in : Numbered → Complex → Complex
+row_value_in (at j z) other = z
+row_value_in nowhere other = other
 
 IsAt : Numbered → Type 0
 IsAt (at j z) = Unit {0}
 IsAt nowhere = ⊥
 
 pub one_found_row : {want : Numbered} (r r' : FoundRow) → seen_found_row r ≡ want → seen_found_row r' ≡ want → r ≡ r'
-unfolding row_in row-value-in IsAt
-one_found_row (FoundRow.At j x) (FoundRow.At k y) p q = ap (λ l. FoundRow.At (row_in l j) (row-value-in l x)) (p ∙ sym q)
+unfolding row_in row_value_in IsAt
+one_found_row (FoundRow.At j x) (FoundRow.At k y) p q = ap (λ l. FoundRow.At (row_in l j) (row_value_in l x)) (p ∙ sym q)
 one_found_row (FoundRow.At j x) FoundRow.Nothing p q = absurd (subst IsAt (p ∙ sym q) tt)
 one_found_row FoundRow.Nothing (FoundRow.At k y) p q = absurd (subst IsAt (q ∙ sym p) tt)
 one_found_row FoundRow.Nothing FoundRow.Nothing p q = refl

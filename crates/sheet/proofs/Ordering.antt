@@ -67,10 +67,10 @@ plain_keys t n a = ascends_same (number_key t) (key_at t 0 3) n a λ j l. plain_
 
 -- ---- whether a row may follow, as the code tests it
 
-above-next : (keys : ℕ → ℕ) (n k : ℕ) → (n ≡ 0 → ⊥) → ltb (keys (n - 1)) k ≡ above keys n k
+above_next : (keys : ℕ → ℕ) (n k : ℕ) → (n ≡ 0 → ⊥) → ltb (keys (n - 1)) k ≡ above keys n k
 unfolding above
-above-next keys zero k h = absurd (h refl)
-above-next keys (suc n) k h = let e : suc n - 1 ≡ n = omega arith in rw e
+above_next keys zero k h = absurd (h refl)
+above_next keys (suc n) k h = let e : suc n - 1 ≡ n = omega arith in rw e
 
 module _ (t : List ℕ) (n : Counts) (k : ℕ) where
   pub after_cells : 0 < n.cells → false ≡ variable_may t n k
@@ -84,7 +84,7 @@ module _ (t : List ℕ) (n : Counts) (k : ℕ) where
   first_variable c f e = sym (rw (eq-eqb n.cells 0 (omega arith), eq-eqb n.functions 0 (omega arith), e))
 
   pub next_variable : n.cells ≤ 0 → n.functions ≤ 0 → (n.variables ≡ 0 → ⊥) → ltb (get_or t (3 * (n.variables - 1)) 0) k ≡ variable_may t n k
-  next_variable c f e = rw (eq-eqb n.cells 0 (omega arith), eq-eqb n.functions 0 (omega arith)) (above-next (number_key t) n.variables k e)
+  next_variable c f e = rw (eq-eqb n.cells 0 (omega arith), eq-eqb n.functions 0 (omega arith)) (above_next (number_key t) n.variables k e)
 
   pub cells_after_rows : 0 < n.functions → false ≡ cell_may t n k
   cells_after_rows h = sym (rw (ne_eqb n.functions 0 λ q. omega arith))
@@ -94,4 +94,4 @@ module _ (t : List ℕ) (n : Counts) (k : ℕ) where
   first_cell f e = sym (rw (eq-eqb n.functions 0 (omega arith), e))
 
   pub next_cell : n.functions ≤ 0 → (n.cells ≡ 0 → ⊥) → ltb (get_or t (2 * (n.cells - 1) + cells_from) 0) k ≡ cell_may t n k
-  next_cell f e = rw (eq-eqb n.functions 0 (omega arith)) (above-next (pair_key t) n.cells k e)
+  next_cell f e = rw (eq-eqb n.functions 0 (omega arith)) (above_next (pair_key t) n.cells k e)

@@ -35,8 +35,8 @@ then_outside p q = record { below = λ i m. q.below i m ∙ p.below i m; beyond 
 
 -- ---- a number
 
-canonical-back : (b : ℕ) → double_of (bits_of (double_of b)) ≡ double_of b
-canonical-back b = double_back (double_of b) (of_bits-fits binary64 b)
+canonical_back : (b : ℕ) → double_of (bits_of (double_of b)) ≡ double_of b
+canonical_back b = double_back (double_of b) (of_bits-fits binary64 b)
 
 module _ (t : List ℕ) (i : ℕ) (w : Words) where
   pub number_length : length (with_number t i w) ≡ length t
@@ -57,7 +57,7 @@ module _ (t : List ℕ) (i : ℕ) (w : Words) where
     number_second = get_or-set_same (set t i (bits_of (double_of w.re))) (i + 1) (bits_of (double_of w.im)) 0 (rw (length-set) h)
 
     pub number_there : number_at (with_number t i w) i ≡ number_of w
-    number_there = rw (number_first, number_second, canonical-back w.re, canonical-back w.im)
+    number_there = rw (number_first, number_second, canonical_back w.re, canonical_back w.im)
 
 -- ---- rows that stand apart from what changed
 
@@ -122,15 +122,15 @@ module _ (t : List ℕ) (n k real : ℕ) where
     unfolding with_cell
     cell_key = get_or-set_other (set t (2 * n + cells_from) k) (2 * n + cells_from + 1) (2 * n + cells_from) (bits_of (double_of real)) 0 (λ q. omega arith) ∙ get_or-set_same t (2 * n + cells_from) k 0 (omega arith)
 
-    cell-real : get_or (with_cell t n k real) (2 * n + cells_from + 1) 0 ≡ bits_of (double_of real)
+    cell_real : get_or (with_cell t n k real) (2 * n + cells_from + 1) 0 ≡ bits_of (double_of real)
     unfolding with_cell
-    cell-real = get_or-set_same (set t (2 * n + cells_from) k) (2 * n + cells_from + 1) (bits_of (double_of real)) 0 (rw length-set h)
+    cell_real = get_or-set_same (set t (2 * n + cells_from) k) (2 * n + cells_from + 1) (bits_of (double_of real)) 0 (rw length-set h)
 
     pub cell_there : (region index : ℕ) → k ≡ region * 4294967296 + index → index < 4294967296 → cell_at (with_cell t n k real) n ≡ cell region index (double_of real)
     cell_there region index e l =
         let q : k / 4294967296 ≡ region = omega arith in
         let r : k % 4294967296 ≡ index = omega arith in
-        rw (cell_key, cell-real, q, r, canonical-back real)
+        rw (cell_key, cell_real, q, r, canonical_back real)
 
 -- ---- a function value more
 
@@ -169,53 +169,53 @@ module _ (t : List ℕ) (n k : ℕ) (x y z : Words) where
       then_outside (number_outside firstly (7 * n + functions_from + 3) y (7 * n + functions_from + 3) (7 * n + functions_from + 7) (omega arith) (omega arith))
       (number_outside secondly (7 * n + functions_from + 5) z (7 * n + functions_from + 3) (7 * n + functions_from + 7) (omega arith) (omega arith))
 
-  after-second : Outside secondly (with_row t n k x y z) (7 * n + functions_from + 5) (7 * n + functions_from + 7)
+  after_second : Outside secondly (with_row t n k x y z) (7 * n + functions_from + 5) (7 * n + functions_from + 7)
   unfolding with_row named firstly secondly
-  after-second = number_outside secondly (7 * n + functions_from + 5) z (7 * n + functions_from + 5) (7 * n + functions_from + 7) (omega arith) (omega arith)
+  after_second = number_outside secondly (7 * n + functions_from + 5) z (7 * n + functions_from + 5) (7 * n + functions_from + 7) (omega arith) (omega arith)
 
-  named-length : length named ≡ length t
+  named_length : length named ≡ length t
   unfolding named
-  named-length = length-set t (7 * n + functions_from) k
+  named_length = length-set t (7 * n + functions_from) k
 
-  firstly-length : length firstly ≡ length t
+  firstly_length : length firstly ≡ length t
   unfolding firstly
-  firstly-length = number_length named (7 * n + functions_from + 1) x ∙ named-length
+  firstly_length = number_length named (7 * n + functions_from + 1) x ∙ named_length
 
-  secondly-length : length secondly ≡ length t
+  secondly_length : length secondly ≡ length t
   unfolding secondly
-  secondly-length = number_length firstly (7 * n + functions_from + 3) y ∙ firstly-length
+  secondly_length = number_length firstly (7 * n + functions_from + 3) y ∙ firstly_length
 
   pub row_length : length (with_row t n k x y z) ≡ length t
   unfolding with_row named firstly secondly
-  row_length = number_length secondly (7 * n + functions_from + 5) z ∙ secondly-length
+  row_length = number_length secondly (7 * n + functions_from + 5) z ∙ secondly_length
 
   module _ (h : 7 * n + functions_from + 6 < length t) where
     pub row_name : get_or (with_row t n k x y z) (7 * n + functions_from) 0 ≡ k
     unfolding named
     row_name = after_name.below (7 * n + functions_from) (omega arith) ∙ get_or-set_same t (7 * n + functions_from) k 0 (omega arith)
 
-    row-xre : get_or (with_row t n k x y z) (7 * n + functions_from + 1) 0 ≡ bits_of (double_of x.re)
+    row_xre : get_or (with_row t n k x y z) (7 * n + functions_from + 1) 0 ≡ bits_of (double_of x.re)
     unfolding firstly
-    row-xre = after_first.below (7 * n + functions_from + 1) (omega arith) ∙ number_first named (7 * n + functions_from + 1) x (omega (arith, named-length))
+    row_xre = after_first.below (7 * n + functions_from + 1) (omega arith) ∙ number_first named (7 * n + functions_from + 1) x (omega (arith, named_length))
 
-    row-xim : get_or (with_row t n k x y z) (7 * n + functions_from + 1 + 1) 0 ≡ bits_of (double_of x.im)
+    row_xim : get_or (with_row t n k x y z) (7 * n + functions_from + 1 + 1) 0 ≡ bits_of (double_of x.im)
     unfolding firstly
-    row-xim = after_first.below (7 * n + functions_from + 1 + 1) (omega arith) ∙ number_second named (7 * n + functions_from + 1) x (omega (arith, named-length))
+    row_xim = after_first.below (7 * n + functions_from + 1 + 1) (omega arith) ∙ number_second named (7 * n + functions_from + 1) x (omega (arith, named_length))
 
-    row-yre : get_or (with_row t n k x y z) (7 * n + functions_from + 3) 0 ≡ bits_of (double_of y.re)
+    row_yre : get_or (with_row t n k x y z) (7 * n + functions_from + 3) 0 ≡ bits_of (double_of y.re)
     unfolding secondly
-    row-yre = after-second.below (7 * n + functions_from + 3) (omega arith) ∙ number_first firstly (7 * n + functions_from + 3) y (omega (arith, firstly-length))
+    row_yre = after_second.below (7 * n + functions_from + 3) (omega arith) ∙ number_first firstly (7 * n + functions_from + 3) y (omega (arith, firstly_length))
 
-    row-yim : get_or (with_row t n k x y z) (7 * n + functions_from + 3 + 1) 0 ≡ bits_of (double_of y.im)
+    row_yim : get_or (with_row t n k x y z) (7 * n + functions_from + 3 + 1) 0 ≡ bits_of (double_of y.im)
     unfolding secondly
-    row-yim = after-second.below (7 * n + functions_from + 3 + 1) (omega arith) ∙ number_second firstly (7 * n + functions_from + 3) y (omega (arith, firstly-length))
+    row_yim = after_second.below (7 * n + functions_from + 3 + 1) (omega arith) ∙ number_second firstly (7 * n + functions_from + 3) y (omega (arith, firstly_length))
 
-    row-value : number_at (with_row t n k x y z) (7 * n + functions_from + 5) ≡ number_of z
+    row_value : number_at (with_row t n k x y z) (7 * n + functions_from + 5) ≡ number_of z
     unfolding with_row named firstly secondly
-    row-value = number_there secondly (7 * n + functions_from + 5) z (omega (arith, secondly-length))
+    row_value = number_there secondly (7 * n + functions_from + 5) z (omega (arith, secondly_length))
 
     pub row_there : row_at (with_row t n k x y z) n ≡ row (operation_of (name_in k)) (number_of x) (number_of y) (number_of z)
-    row_there = rw (row_name, row-xre, row-xim, row-yre, row-yim, row-value, canonical-back x.re, canonical-back x.im, canonical-back y.re, canonical-back y.im)
+    row_there = rw (row_name, row_xre, row_xim, row_yre, row_yim, row_value, canonical_back x.re, canonical_back x.im, canonical_back y.re, canonical_back y.im)
 
     operand : (i b : ℕ) → get_or (with_row t n k x y z) i 0 ≡ bits_of (double_of b) → Canonical (get_or (with_row t n k x y z) i 0)
     operand i b e = rw e (read_canonical b)
@@ -224,12 +224,12 @@ module _ (t : List ℕ) (n k : ℕ) (x y z : Words) where
     row_comparable p l = record {
       named = rw row_name (p, l);
       operands = λ i m u. elim (ℕ_discrete i (7 * n + functions_from + 1)) [
-        | yes e ↦ rw e (operand (7 * n + functions_from + 1) x.re row-xre)
+        | yes e ↦ rw e (operand (7 * n + functions_from + 1) x.re row_xre)
         | no a ↦ elim (ℕ_discrete i (7 * n + functions_from + 1 + 1)) [
-          | yes e ↦ rw e (operand (7 * n + functions_from + 1 + 1) x.im row-xim)
+          | yes e ↦ rw e (operand (7 * n + functions_from + 1 + 1) x.im row_xim)
           | no b ↦ elim (ℕ_discrete i (7 * n + functions_from + 3)) [
-            | yes e ↦ rw e (operand (7 * n + functions_from + 3) y.re row-yre)
-            | no d ↦ let e : i ≡ 7 * n + functions_from + 3 + 1 = omega arith in rw e (operand (7 * n + functions_from + 3 + 1) y.im row-yim)
+            | yes e ↦ rw e (operand (7 * n + functions_from + 3) y.re row_yre)
+            | no d ↦ let e : i ≡ 7 * n + functions_from + 3 + 1 = omega arith in rw e (operand (7 * n + functions_from + 3 + 1) y.im row_yim)
           ]
         ]
       ];
@@ -244,7 +244,7 @@ module _ (t : List ℕ) (n k : ℕ) (x y z : Words) where
           let u = both _ _ q.0 in
           let v = both _ _ q.1 in (
             eqb-true _ _ p.0 ∙ ap name_in row_name,
-            same_words (eqb-true _ _ u.0 ∙ row-xre) (eqb-true _ _ u.1 ∙ row-xim),
-            same_words (eqb-true _ _ v.0 ∙ row-yre) (eqb-true _ _ v.1 ∙ row-yim),
+            same_words (eqb-true _ _ u.0 ∙ row_xre) (eqb-true _ _ u.1 ∙ row_xim),
+            same_words (eqb-true _ _ v.0 ∙ row_yre) (eqb-true _ _ v.1 ∙ row_yim),
           );
     }

@@ -27,13 +27,13 @@ module _ {next : ℕ → ℕ} {test : ℕ → Bool} where
   leads_some (hits e t) z = omega arith
   leads_some (steps k e t l) z = omega arith
 
-  leads-here : {at r : ℕ} (k : ℕ) → at ≡ k + 1 → test k ≡ true → Leads next test at r → r ≡ k
-  leads-here k q t (hits e u) = omega arith
-  leads-here k q t (steps j e u l) = let i : k ≡ j = omega arith in both_ways t (rw i u)
+  leads_here : {at r : ℕ} (k : ℕ) → at ≡ k + 1 → test k ≡ true → Leads next test at r → r ≡ k
+  leads_here k q t (hits e u) = omega arith
+  leads_here k q t (steps j e u l) = let i : k ≡ j = omega arith in both_ways t (rw i u)
 
-  leads-on : {at r : ℕ} (k : ℕ) → at ≡ k + 1 → test k ≡ false → Leads next test at r → Leads next test (min (next k) k) r
-  leads-on k q t (hits {r = r} e u) = let i : r ≡ k = omega arith in both_ways u (rw i t)
-  leads-on k q t (steps j e u l) = let i : k ≡ j = omega arith in rw i l
+  leads_on : {at r : ℕ} (k : ℕ) → at ≡ k + 1 → test k ≡ false → Leads next test at r → Leads next test (min (next k) k) r
+  leads_on k q t (hits {r = r} e u) = let i : r ≡ k = omega arith in both_ways u (rw i t)
+  leads_on k q t (steps j e u l) = let i : k ≡ j = omega arith in rw i l
 
 -- it stays where the rows that it passes are the same
 pub leads_kept : {next next' : ℕ → ℕ} {test test' : ℕ → Bool} (n : ℕ) → ((j : ℕ) → j < n → next' j ≡ next j) → ((j : ℕ) → j < n → test' j ≡ test j)
@@ -71,10 +71,10 @@ module _ {next : ℕ → ℕ} {test : ℕ → Bool} {n at : ℕ} (w : Walking ne
     where
       go : Sought test n → First test n k
       go (none f) = both_ways t (f k l)
-      go (some r m f) = let i : k ≡ r = sym (leads-here k e t (w.leads r f m)) in rw i f
+      go (some r m f) = let i : k ≡ r = sym (leads_here k e t (w.leads r f m)) in rw i f
 
   pub walking_on : (k : ℕ) → at ≡ k + 1 → test k ≡ false → Walking next test n (min (next k) k)
-  walking_on k e t = record { leads = λ r f m. leads-on k e t (w.leads r f m) }
+  walking_on k e t = record { leads = λ r f m. leads_on k e t (w.leads r f m) }
 
   pub walking_ends : at ≡ 0 → First test n n
   walking_ends z = go (sought test n)

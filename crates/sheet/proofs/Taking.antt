@@ -207,8 +207,8 @@ module _ (text t : List ℕ) (n : Counts) (h : Held t n) (room : table_words ≤
           up_to_grown n.functions (row_at t') (row_at t) (row (operation_of k) (number_of x) (number_of y) (number_of z)) (λ j l. same_row (q.kept j l)) q.there,
         )
 
-    row-held : Held t' (counts n.variables n.cells (n.functions + 1))
-    row-held = record {
+    row_held : Held t' (counts n.variables n.cells (n.functions + 1))
+    row_held = record {
       variables = h.variables;
       cells = h.cells;
       functions = omega arith;
@@ -225,7 +225,7 @@ module _ (text t : List ℕ) (n : Counts) (h : Held t n) (room : table_words ≤
     unfolding function_line
     row_taken inside = record {
       answer = ap (λ s. goes s (drop next text)) row_rows ∙ taken _ 256 n.functions _ _ _ line (number_is t n line here first bs) (length_up_to n.functions (row_at t)) _ _ (drop next text) few e refl;
-      held = (row-held, omega arith);
+      held = (row_held, omega arith);
       inside = inside;
     }
 

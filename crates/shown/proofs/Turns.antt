@@ -19,9 +19,9 @@ use Rattle.shown.specs.Showing.{step_line, shown_from, shown}
 abbrev left : (tape : List ℕ) (i : ℕ) → List Step
 left tape i = map step_of (fields_of_all (count tape - i) (drop (24 * i) tape))
 
-line-by-line : (k : ℕ) (s : Step) (ss : List Step) → shown_from k (s ∷ ss) ≡ step_line k s ++ shown_from (k + 1) ss
+line_by_line : (k : ℕ) (s : Step) (ss : List Step) → shown_from k (s ∷ ss) ≡ step_line k s ++ shown_from (k + 1) ss
 unfolding shown_from
-line-by-line k s ss = rw (add-one k)
+line_by_line k s ss = rw (add-one k)
 
 pub record Showing (entry tape out : List ℕ) (at i : ℕ) : Type 0 where
   pub inside : i ≤ count tape
@@ -49,7 +49,7 @@ module _ {entry tape out : List ℕ} {at i : ℕ} (g : Showing entry tape out at
     inside = omega arith;
     stands = g.stands ++ step_line i s;
     whole =
-        rw (append_assoc g.stands (step_line i s) (shown_from (i + 1) (left tape (i + 1))), q, p, ← line-by-line i (step_of (fields_in (drop (24 * i) tape))) (left tape (i + 1)))
+        rw (append_assoc g.stands (step_line i s) (shown_from (i + 1) (left tape (i + 1))), q, p, ← line_by_line i (step_of (fields_in (drop (24 * i) tape))) (left tape (i + 1)))
         (ap (λ fs. g.stands ++ shown_from i (map step_of fs)) (sym (remaining (count tape) i tape l)) ∙ g.whole);
     put = put_then g.put o;
     few = omega (arith, g.few, w);

@@ -86,8 +86,8 @@ module _ (more : ℕ → ℕ) (rows : Rows) where
 
 -- ---- what is marked was found for what is asked, and what is found for what is asked is marked
 
-marked-then : (a m : List ℕ) (j : ℕ) → get_or (noted a m) j 0 ≡ 1 → (among j a ≡ true) ⊎ (get_or m j 0 ≡ 1)
-marked-then a m j e = elim (dec_lt j (length m)) [
+marked_then : (a m : List ℕ) (j : ℕ) → get_or (noted a m) j 0 ≡ 1 → (among j a ≡ true) ⊎ (get_or m j 0 ≡ 1)
+marked_then a m j e = elim (dec_lt j (length m)) [
   | yes h ↦ go (among j a) refl (sym (mark_noted a m j h) ∙ e)
   | no h ↦ absurd (omega (arith, e, get_or_out (noted a m) j 0 (rw (noted_length a m) (omega arith))))
 ]
@@ -96,12 +96,12 @@ marked-then a m j e = elim (dec_lt j (length m)) [
     go true q e = inl q
     go false q e = inr e
 
-not-grown : {before after : List ℕ} → after ≡ before → Grown before after
+not_grown : {before after : List ℕ} → after ≡ before → Grown before after
 unfolding noted
-not-grown e = record { rows = []; are = e }
+not_grown e = record { rows = []; are = e }
 
-grown-on : {before between after : List ℕ} → Grown before between → Grown between after → Grown before after
-grown-on {before} g h = record { rows = g.rows ++ h.rows; are = h.are ∙ ap (noted h.rows) g.are ∙ sym (noted_append g.rows h.rows before) }
+grown_on : {before between after : List ℕ} → Grown before between → Grown between after → Grown before after
+grown_on {before} g h = record { rows = g.rows ++ h.rows; are = h.are ∙ ap (noted h.rows) g.are ∙ sym (noted_append g.rows h.rows before) }
 
 module _ (more : ℕ → ℕ) (rows : Rows) (j : ℕ) where
   record Marks (f : State → Answer) (asked : State → Asking) : Type 0 where
@@ -114,29 +114,29 @@ module _ (more : ℕ → ℕ) (rows : Rows) (j : ℕ) where
 
   -- ---- one after another
 
-  sooner-uses : {P : Type 0} {a : Answer} {first : Asking} {next : Tree → State → Asking} → P ⊎ Uses rows first j → P ⊎ Uses rows (Then a first next) j
-  sooner-uses (inl p) = inl p
-  sooner-uses (inr u) = inr (uses_more u λ o x y q. sooner q)
+  sooner_uses : {P : Type 0} {a : Answer} {first : Asking} {next : Tree → State → Asking} → P ⊎ Uses rows first j → P ⊎ Uses rows (Then a first next) j
+  sooner_uses (inl p) = inl p
+  sooner_uses (inr u) = inr (uses_more u λ o x y q. sooner q)
 
   module _ (h : Simplifier) (next : Tree → State → Asking) (l : MarksAll h next) where
     grows_after : (a : Answer) → Grown (marks_after a) (marks_after (and_then a h))
     unfolding and_then marks_after
     grows_after (gives t s) = (l t).grows s
-    grows_after (refused why s) = not-grown refl
+    grows_after (refused why s) = not_grown refl
 
-    uses-after : {P : Type 0} (a : Answer) {first : Asking} → (get_or (marks_after a) j 0 ≡ 1 → P ⊎ Uses rows first j) → get_or (marks_after (and_then a h)) j 0 ≡ 1
+    uses_after : {P : Type 0} (a : Answer) {first : Asking} → (get_or (marks_after a) j 0 ≡ 1 → P ⊎ Uses rows first j) → get_or (marks_after (and_then a h)) j 0 ≡ 1
         → P ⊎ Uses rows (Then a first next) j
     unfolding and_then marks_after
-    uses-after (gives t s) f m = elim ((l t).uses s m) [
-      | inl n ↦ sooner-uses (f n)
+    uses_after (gives t s) f m = elim ((l t).uses s m) [
+      | inl n ↦ sooner_uses (f n)
       | inr u ↦ inr (uses_more u λ o x y q. later refl q)
     ]
-    uses-after (refused why s) f m = sooner-uses (f m)
+    uses_after (refused why s) f m = sooner_uses (f m)
 
-    used-after : (a : Answer) {first : Asking} → j < length (marks_after a) → (Uses rows first j → get_or (marks_after a) j 0 ≡ 1) → Uses rows (Then a first next) j
+    used_after : (a : Answer) {first : Asking} → j < length (marks_after a) → (Uses rows first j → get_or (marks_after a) j 0 ≡ 1) → Uses rows (Then a first next) j
         → get_or (marks_after (and_then a h)) j 0 ≡ 1
     unfolding and_then marks_after
-    used-after a {first} i f u = go u.asked
+    used_after a {first} i f u = go u.asked
       where
         found-for : {asks : Asking} → asks u.operation u.left u.right → Uses rows asks j
         found-for q = record { operation = u.operation; left = u.left; right = u.right; value = u.value; asked = q; row = u.row }
@@ -145,17 +145,17 @@ module _ (more : ℕ → ℕ) (rows : Rows) (j : ℕ) where
         go (sooner q) = let g = grows_after a in rw g.are (mark_stays g.rows (marks_after a) j (f (found-for q)))
         go (later {t} {s} e q) = subst (λ a. get_or (marks_after (and_then a h)) j 0 ≡ 1) (sym e) ((l t).used s (rw e at i) (found-for q))
 
-  in-turn : {f : State → Answer} {first : State → Asking} (h : Simplifier) {next : Tree → State → Asking} → Marks f first → MarksAll h next
+  in_turn : {f : State → Answer} {first : State → Asking} (h : Simplifier) {next : Tree → State → Asking} → Marks f first → MarksAll h next
       → Marks (λ s. and_then (f s) h) (λ s. Then (f s) (first s) next)
-  in-turn {f} h {next} m l = record {
-    grows = λ s. grown-on (m.grows s) (grows_after h next l (f s));
-    uses = λ s x. uses-after h next l (f s) (m.uses s) x;
-    used = λ s i u. let g = m.grows s in used-after h next l (f s) (rw (g.are, noted_length g.rows (marks_of s)) i) (m.used s i) u;
+  in_turn {f} h {next} m l = record {
+    grows = λ s. grown_on (m.grows s) (grows_after h next l (f s));
+    uses = λ s x. uses_after h next l (f s) (m.uses s) x;
+    used = λ s i u. let g = m.grows s in used_after h next l (f s) (rw (g.are, noted_length g.rows (marks_of s)) i) (m.used s i) u;
   }
 
   -- what comes after asks nothing
   plain : {f : State → Answer} {first : State → Asking} (h : Simplifier) → Marks f first → MarksAll h (λ t s. none) → Marks (λ s. and_then (f s) h) first
-  plain {f} {first} h m l = let t = in-turn h m l in record {
+  plain {f} {first} h m l = let t = in_turn h m l in record {
     grows = t.grows;
     uses = λ s x. elim (t.uses s x) [ inl n ↦ inl n | inr u ↦ inr (uses_more u λ o x y q. only-first q) ];
     used = λ s i u. t.used s i (uses_more u λ o x y q. sooner q);
@@ -167,25 +167,25 @@ module _ (more : ℕ → ℕ) (rows : Rows) (j : ℕ) where
 
   -- ---- storing, keeping and folding
 
-  gives-mark : MarksAll gives (λ t s. none)
+  gives_mark : MarksAll gives (λ t s. none)
   unfolding marks_after
-  gives-mark t = record { grows = λ s. not-grown refl; uses = λ s m. inl m; used = λ s i u. absurd u.asked }
+  gives_mark t = record { grows = λ s. not_grown refl; uses = λ s m. inl m; used = λ s i u. absurd u.asked }
 
-  stores-mark : MarksAll intern (λ t s. none)
-  stores-mark t = record { grows = λ s. not-grown (stores_marks t s); uses = λ s m. inl (rw (stores_marks t s) at m); used = λ s i u. absurd u.asked }
+  stores_mark : MarksAll intern (λ t s. none)
+  stores_mark t = record { grows = λ s. not_grown (stores_marks t s); uses = λ s m. inl (rw (stores_marks t s) at m); used = λ s i u. absurd u.asked }
 
-  keeps-mark : (t : Tree) {f : State → Answer} {asked : State → Asking} → Marks f asked → Marks (λ s. keeping t (f s)) asked
-  keeps-mark t {f} m = record {
+  keeps_mark : (t : Tree) {f : State → Answer} {asked : State → Asking} → Marks f asked → Marks (λ s. keeping t (f s)) asked
+  keeps_mark t {f} m = record {
     grows = λ s. rw (keeps_marks t (f s)) (m.grows s);
     uses = λ s x. m.uses s (rw (keeps_marks t (f s)) at x);
     used = λ s i u. rw (keeps_marks t (f s)) (m.used s i u);
   }
 
-  folds-mark : (v : Evaluation) (js : List ℕ) {asked : Asking} → (among j js ≡ true → Uses rows asked j) → (Uses rows asked j → among j js ≡ true)
+  folds_mark : (v : Evaluation) (js : List ℕ) {asked : Asking} → (among j js ≡ true → Uses rows asked j) → (Uses rows asked j → among j js ≡ true)
       → Marks (λ s. folded_to v (noting js s)) (λ s. asked)
-  folds-mark v js uses used = record {
+  folds_mark v js uses used = record {
     grows = λ s. record { rows = js; are = folds_marks v (noting js s) ∙ noted_marks js s };
-    uses = λ s m. elim (marked-then js (marks_of s) j (rw (folds_marks v (noting js s), noted_marks js s) at m)) [ inl a ↦ inr (uses a) | inr n ↦ inl n ];
+    uses = λ s m. elim (marked_then js (marks_of s) j (rw (folds_marks v (noting js s), noted_marks js s) at m)) [ inl a ↦ inr (uses a) | inr n ↦ inl n ];
     used = λ s i u. rw (folds_marks v (noting js s), noted_marks js s, mark_noted js (marks_of s) j i, used u) refl;
   }
 
@@ -194,22 +194,22 @@ module _ (more : ℕ → ℕ) (rows : Rows) (j : ℕ) where
   module _ (σ : Simplifier) (asked : Tree → State → Asking) (l : MarksAll σ asked) where
     again_mark : MarksAll (again σ) (asked_again rows σ asked)
     unfolding again asked_again
-    again_mark t = in-turn σ (stores-mark t) l
+    again_mark t = in_turn σ (stores_mark t) l
 
     carries : (p : Plan) → Marks (carry_out rows σ p) (asked_carrying rows σ asked p)
     unfolding carry_out asked_carrying
-    carries (the t) = gives-mark t
-    carries (new t) = stores-mark t
-    carries (folded op a b) = folds-mark (calculate_infix rows op a b) (used_by_infix rows op a b) (infix_uses rows j op a b) λ u. infix_used rows j u.asked u.row
-    carries (called f z) = folds-mark (calculate_function rows f z) (used_by_function rows f z) (function_uses rows j f z) λ u. function_used rows j u.asked u.row
-    carries (negation p) = plain _ (carries p) λ t. stores-mark (minus t)
-    carries (combined op p q) = in-turn _ (carries p) λ t. plain _ (carries q) λ u. stores-mark (infixed op t u)
-    carries (S p) = in-turn σ (carries p) l
-    carries (lesser p q) = in-turn _ (carries p) λ t. plain _ (carries q) λ u. gives-mark (smaller t u)
+    carries (the t) = gives_mark t
+    carries (new t) = stores_mark t
+    carries (folded op a b) = folds_mark (calculate_infix rows op a b) (used_by_infix rows op a b) (infix_uses rows j op a b) λ u. infix_used rows j u.asked u.row
+    carries (called f z) = folds_mark (calculate_function rows f z) (used_by_function rows f z) (function_uses rows j f z) λ u. function_used rows j u.asked u.row
+    carries (negation p) = plain _ (carries p) λ t. stores_mark (minus t)
+    carries (combined op p q) = in_turn _ (carries p) λ t. plain _ (carries q) λ u. stores_mark (infixed op t u)
+    carries (S p) = in_turn σ (carries p) l
+    carries (lesser p q) = in_turn _ (carries p) λ t. plain _ (carries q) λ u. gives_mark (smaller t u)
     carries (affine a x b) =
-        in-turn _ (again_mark a) λ u.
-        in-turn _ (again_mark b) λ v.
-        in-turn _ (again_mark (product u x)) λ w.
+        in_turn _ (again_mark a) λ u.
+        in_turn _ (again_mark b) λ v.
+        in_turn _ (again_mark (product u x)) λ w.
         again_mark (sum w v)
 
   -- ---- one call of simplify
@@ -217,16 +217,16 @@ module _ (more : ℕ → ℕ) (rows : Rows) (j : ℕ) where
   module _ (σ σ' : Simplifier) (asked asked' : Tree → State → Asking) (l : MarksAll σ asked) (l' : MarksAll σ' asked') where
     performs : (task : Task) → Marks (perform rows σ σ' task) (asked_performing rows σ σ' asked asked' task)
     unfolding perform simplify_function_call simplify_prefix simplify_infix asked_performing
-    performs number_of_pi = stores-mark _
-    performs (itself t) = gives-mark t
-    performs (calling f t) = in-turn _ (l t) λ x. carries σ' asked' l' (function_plan f x)
-    performs (prefixing o t) = in-turn _ (l t) λ x. carries σ' asked' l' (prefix_plan o x)
-    performs (infixing o t u) = in-turn _ (l t) λ x. in-turn _ (l u) λ y. carries σ' asked' l' (infix_plan o x y)
+    performs number_of_pi = stores_mark _
+    performs (itself t) = gives_mark t
+    performs (calling f t) = in_turn _ (l t) λ x. carries σ' asked' l' (function_plan f x)
+    performs (prefixing o t) = in_turn _ (l t) λ x. carries σ' asked' l' (prefix_plan o x)
+    performs (infixing o t u) = in_turn _ (l t) λ x. in_turn _ (l u) λ y. carries σ' asked' l' (infix_plan o x y)
 
     resumes : (k : Kept) (limit : ℕ) → MarksAll (resume rows σ σ' k limit) (asked_resuming rows σ σ' asked asked' k limit)
     unfolding resume asked_resuming
-    resumes (result u) limit t = gives-mark u
-    resumes nothing limit t = keeps-mark t (performs (task_at limit t))
+    resumes (result u) limit t = gives_mark u
+    resumes nothing limit t = keeps_mark t (performs (task_at limit t))
 
     steps : (limit : ℕ) → MarksAll (step more rows σ σ' limit) (asked_step more rows σ σ' asked asked' limit)
     unfolding step asked_step
@@ -238,7 +238,7 @@ module _ (more : ℕ → ℕ) (rows : Rows) (j : ℕ) where
 
   simplifies : (k : ℕ) → MarksAll (simplify_by more rows k) (Asks more rows k)
   unfolding simplify_by Asks
-  simplifies zero = steps gives gives (λ t s. none) (λ t s. none) gives-mark gives-mark 0
+  simplifies zero = steps gives gives (λ t s. none) (λ t s. none) gives_mark gives_mark 0
   simplifies (suc zero) = steps (simplify_by more rows 0) (simplify_by more rows 0) (Asks more rows 0) (Asks more rows 0) (simplifies zero) (simplifies zero) 1
   simplifies (suc (suc k)) =
       steps (simplify_by more rows (suc k)) (simplify_by more rows k) (Asks more rows (suc k)) (Asks more rows k) (simplifies (suc k)) (simplifies k) (suc (suc k))

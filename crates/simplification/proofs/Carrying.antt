@@ -24,11 +24,11 @@ unfolding and_then
 assoc (gives t s) f g = refl
 assoc (refused why s) f g = refl
 
-assoc-inner : (a : Answer) (f : Simplifier) (g : Tree → Simplifier) (h : Simplifier)
+assoc_inner : (a : Answer) (f : Simplifier) (g : Tree → Simplifier) (h : Simplifier)
     → and_then (and_then a λ t s. and_then (f t s) (g t)) h ≡ and_then a (λ t s. and_then (f t s) λ u s. and_then (g t u s) h)
 unfolding and_then
-assoc-inner (gives t s) f g h = assoc (f t s) (g t) h
-assoc-inner (refused why s) f g h = refl
+assoc_inner (gives t s) f g h = assoc (f t s) (g t) h
+assoc_inner (refused why s) f g h = refl
 
 -- ---- what stays of the nodes that stood
 
@@ -42,10 +42,10 @@ node_stays p (Expression.FunctionCall f a) w = ap (function_call f) (p.stays a w
 node_stays p (Expression.Prefix o a) w = ap (prefixed o) (p.stays a w)
 node_stays p (Expression.Infix o a b) w = λ i. infixed o (p.stays a w.0 i) (p.stays b w.1 i)
 
-around-stays : {l l₁ : Lent} {i : ℕ} → Got l i l₁ → (outer : Outer) → OuterIn (count l.desk) outer → (p : Plan) → around l₁.rows outer p ≡ around l.rows outer p
-around-stays q Outer.Negated w p = refl
-around-stays q (Outer.Before o c) w p = ap (λ t. combined o p (the t)) (q.stays c w)
-around-stays q (Outer.After a o) w p = ap (λ t. combined o (the t) p) (q.stays a w)
+around_stays : {l l₁ : Lent} {i : ℕ} → Got l i l₁ → (outer : Outer) → OuterIn (count l.desk) outer → (p : Plan) → around l₁.rows outer p ≡ around l.rows outer p
+around_stays q Outer.Negated w p = refl
+around_stays q (Outer.Before o c) w p = ap (λ t. combined o p (the t)) (q.stays c w)
+around_stays q (Outer.After a o) w p = ap (λ t. combined o (the t) p) (q.stays a w)
 
 pub within_older : {l l₁ : Lent} {i : ℕ} → Got l i l₁ → (e : Expression) → Within (count l.desk) e → Within (count l₁.desk) e
 within_older p (Expression.Number z) w = tt
@@ -67,35 +67,35 @@ wrapped m Outer.Negated t = minus t
 wrapped m (Outer.Before o c) t = infixed o t (tree_at m c)
 wrapped m (Outer.After a o) t = infixed o (tree_at m a) t
 
-applied-tree : {l l₁ : Lent} {i : ℕ} → Got l i l₁ → (outer : Outer) → OuterIn (count l.desk) outer → tree_of l₁.rows (applied_to outer i) ≡ wrapped l.rows outer (tree_in l₁ i)
+applied_tree : {l l₁ : Lent} {i : ℕ} → Got l i l₁ → (outer : Outer) → OuterIn (count l.desk) outer → tree_of l₁.rows (applied_to outer i) ≡ wrapped l.rows outer (tree_in l₁ i)
 unfolding grown wrapped
-applied-tree p Outer.Negated w = refl
-applied-tree {l₁ = l₁} {i = i} p (Outer.Before o c) w = ap (infixed o (tree_in l₁ i)) (p.stays c w)
-applied-tree {l₁ = l₁} {i = i} p (Outer.After a o) w = ap (λ t. infixed o t (tree_in l₁ i)) (p.stays a w)
+applied_tree p Outer.Negated w = refl
+applied_tree {l₁ = l₁} {i = i} p (Outer.Before o c) w = ap (infixed o (tree_in l₁ i)) (p.stays c w)
+applied_tree {l₁ = l₁} {i = i} p (Outer.After a o) w = ap (λ t. infixed o t (tree_in l₁ i)) (p.stays a w)
 
-applied-within : {l l₁ : Lent} {i : ℕ} → Got l i l₁ → (outer : Outer) → OuterIn (count l.desk) outer → Within (count l₁.desk) (applied_to outer i)
-applied-within p Outer.Negated w = p.inside
-applied-within p (Outer.Before o c) w = (p.inside, older p w)
-applied-within p (Outer.After a o) w = (older p w, p.inside)
+applied_within : {l l₁ : Lent} {i : ℕ} → Got l i l₁ → (outer : Outer) → OuterIn (count l.desk) outer → Within (count l₁.desk) (applied_to outer i)
+applied_within p Outer.Negated w = p.inside
+applied_within p (Outer.Before o c) w = (p.inside, older p w)
+applied_within p (Outer.After a o) w = (older p w, p.inside)
 
 module _ (R : Rows) (σ : Simplifier) where
   -- ---- plans as steps
 
-  around-carried : (m : Memory) (outer : Outer) (p : Plan) (s : State) → carry_out R σ (around m outer p) s ≡ and_then (carry_out R σ p s) λ t s. intern (wrapped m outer t) s
+  around_carried : (m : Memory) (outer : Outer) (p : Plan) (s : State) → carry_out R σ (around m outer p) s ≡ and_then (carry_out R σ p s) λ t s. intern (wrapped m outer t) s
   unfolding carry_out and_then wrapped
-  around-carried m Outer.Negated p s = refl
-  around-carried m (Outer.Before o c) p s = refl
-  around-carried m (Outer.After a o) p s = refl
+  around_carried m Outer.Negated p s = refl
+  around_carried m (Outer.Before o c) p s = refl
+  around_carried m (Outer.After a o) p s = refl
 
   regrouped : (m : Memory) (outer : Outer) (p : Plan) (s : State)
       → carry_out R σ (S (around m outer p)) s ≡ and_then (carry_out R σ p s) λ t s. and_then (intern (wrapped m outer t) s) σ
   unfolding carry_out
-  regrouped m outer p s = ap (λ a. and_then a σ) (around-carried m outer p s) ∙ assoc (carry_out R σ p s) (λ t s. intern (wrapped m outer t) s) σ
+  regrouped m outer p s = ap (λ a. and_then a σ) (around_carried m outer p s) ∙ assoc (carry_out R σ p s) (λ t s. intern (wrapped m outer t) s) σ
 
   added : (p q : Plan) (s : State)
       → carry_out R σ (S (combined InfixOperator.Plus p q)) s ≡ and_then (carry_out R σ p s) λ t s. and_then (carry_out R σ q s) λ u s. and_then (intern (sum t u) s) σ
   unfolding carry_out
-  added p q s = assoc-inner (carry_out R σ p s) (λ t s. carry_out R σ q s) (λ t u s. intern (sum t u) s) σ
+  added p q s = assoc_inner (carry_out R σ p s) (λ t s. carry_out R σ q s) (λ t u s. intern (sum t u) s) σ
 
   with_number : (op : InfixOperator) (z : Complex) (x : Tree) (s : State)
       → carry_out R σ (S (combined op (constant z) (the x))) s ≡ and_then (intern (leaf (number z)) s) λ t s. carry_out R σ (S (new (infixed op t x))) s
@@ -153,7 +153,7 @@ module _ (R : Rows) (σ : Simplifier) where
   regroup_node l inner outer s {l₁ = l₁} w a b e f =
       named (sym (regrouped l.rows outer (S (new (tree_of l.rows inner))) s))
       (then_node (λ t s. and_then (intern (wrapped l.rows outer t) s) σ) b e
-      λ p. named (ap (λ t. and_then (intern t (state_in l₁)) σ) (ap (tree_of l₁.rows) a ∙ applied-tree p outer w)) (f p (rw a (applied-within p outer w))))
+      λ p. named (ap (λ t. and_then (intern t (state_in l₁)) σ) (ap (tree_of l₁.rows) a ∙ applied_tree p outer w)) (f p (rw a (applied_within p outer w))))
 
   -- min of a new node and a plan
   module _ (t : Tree) (P : Plan) (s : State) where
@@ -188,7 +188,7 @@ module _ (R : Rows) (σ : Simplifier) where
   pub regroup_later : {l l₁ : Lent} {i : ℕ} → Got l i l₁ → (inner : Expression) (outer : Outer) → Within (count l.desk) inner → OuterIn (count l.desk) outer
       → (s : State) → carry_out R σ (regroup_plan l₁.rows inner outer) s ≡ carry_out R σ (regroup_plan l.rows inner outer) s
   regroup_later {l} {l₁} p inner outer w o s =
-      ap (λ q. carry_out R σ (S q) s) (around-stays p outer o (S (new (tree_of l₁.rows inner))) ∙ ap (λ t. around l.rows outer (S (new t))) (node_stays p inner w))
+      ap (λ q. carry_out R σ (S q) s) (around_stays p outer o (S (new (tree_of l₁.rows inner))) ∙ ap (λ t. around l.rows outer (S (new t))) (node_stays p inner w))
 
   pub added_later : {l l₁ : Lent} {i : ℕ} → Got l i l₁ → (a b : Expression) → Within (count l.desk) a → Within (count l.desk) b
       → (s : State) → carry_out R σ (added_plan l₁.rows a b) s ≡ carry_out R σ (added_plan l.rows a b) s
@@ -247,9 +247,9 @@ module _ (R : Rows) (σ : Simplifier) where
     second : Simplifier
     second u s = and_then (again σ (tree_of l.rows b) s) (last u)
 
-    last-is : (u v : Tree) (s : State) → carry_out R σ (S (combined InfixOperator.Plus (S (new (product u (tree_in l x)))) (the v))) s ≡ last u v s
+    last_is : (u v : Tree) (s : State) → carry_out R σ (S (combined InfixOperator.Plus (S (new (product u (tree_in l x)))) (the v))) s ≡ last u v s
     unfolding last again carry_out and_then
-    last-is u v s = assoc (and_then (intern (product u (tree_in l x)) s) σ) (λ w s. intern (sum w v) s) σ
+    last_is u v s = assoc (and_then (intern (product u (tree_in l x)) s) σ) (λ w s. intern (sum w v) s) σ
 
     pub affine_refused : {o : ℕ} {l₁ : Lent} → Built (carry_out R σ (S (new (tree_of l.rows a))) s) o l l₁ → refused_from ≤ o
         → Built (carry_out R σ (affine (tree_of l.rows a) (tree_in l x) (tree_of l.rows b)) s) o l l₁
@@ -275,5 +275,5 @@ module _ (R : Rows) (σ : Simplifier) where
     affine_node {o} {q} {l₁ = l₁} {l₂} lx w y e f g h =
         then_node second y e λ p.
         then_node (last (tree_in l₁ o)) (named (ap (λ t. and_then (intern t (state_in l₁)) σ) (node_stays p b w)) (f p)) g λ z.
-        named ((λ v. carry_out R σ (S (combined InfixOperator.Plus (S (new (product (z.stays o p.inside v) ((z.stays x (older p lx) ∙ p.stays x lx) v)))) (the (tree_in l₂ q)))) (state_in l₂)) ∙ last-is (tree_in l₁ o) (tree_in l₂ q) (state_in l₂))
+        named ((λ v. carry_out R σ (S (combined InfixOperator.Plus (S (new (product (z.stays o p.inside v) ((z.stays x (older p lx) ∙ p.stays x lx) v)))) (the (tree_in l₂ q)))) (state_in l₂)) ∙ last_is (tree_in l₁ o) (tree_in l₂ q) (state_in l₂))
         (h z.sound (older z p.inside) (older z (older p lx)) z.inside)

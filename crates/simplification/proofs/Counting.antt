@@ -38,10 +38,10 @@ unfolding Below
 more (gives t s) l b = omega (arith, l, b)
 more (refused why s) l b = tt
 
-then-below : (n m : ℕ) (a : Answer) (f : Simplifier) → Below n a → ((t : Tree) (s : State) → count s ≤ n → Below m (f t s)) → Below m (and_then a f)
+then_below : (n m : ℕ) (a : Answer) (f : Simplifier) → Below n a → ((t : Tree) (s : State) → count s ≤ n → Below m (f t s)) → Below m (and_then a f)
 unfolding Below and_then
-then-below n m (gives t s) f b g = g t s b
-then-below n m (refused why s) f b g = tt
+then_below n m (gives t s) f b g = g t s b
+then_below n m (refused why s) f b g = tt
 
 -- ---- storing and noting count nothing
 
@@ -78,15 +78,15 @@ keeps n t (refused why s) b = tt
 
 -- ---- plans
 
-sum-le : (c a b n : ℕ) {x y : ℕ} → x ≤ c + a * n → y ≤ x + b * n → y ≤ c + (a + b) * n
-sum-le c a b n l k = omega (arith, l, k)
+sum_le : (c a b n : ℕ) {x y : ℕ} → x ≤ c + a * n → y ≤ x + b * n → y ≤ c + (a + b) * n
+sum_le c a b n l k = omega (arith, l, k)
 
-one-le : (c a n : ℕ) {x : ℕ} → x ≤ c + a * n → x + n ≤ c + (a + 1) * n
-one-le c a n l = omega (arith, l)
+one_le : (c a n : ℕ) {x : ℕ} → x ≤ c + a * n → x + n ≤ c + (a + 1) * n
+one_le c a n l = omega (arith, l)
 
-again-makes : (σ : Simplifier) (n : ℕ) → Makes σ n → Makes (again σ) n
+again_makes : (σ : Simplifier) (n : ℕ) → Makes σ n → Makes (again σ) n
 unfolding again Makes
-again-makes σ n f t s = then-below _ _ (intern t s) σ (stores t s) λ u s' l. more (σ u s') (omega (arith, l)) (f u s')
+again_makes σ n f t s = then_below _ _ (intern t s) σ (stores t s) λ u s' l. more (σ u s') (omega (arith, l)) (f u s')
 
 carries : (R : Rows) (σ : Simplifier) (n : ℕ) → Makes σ n → (p : Plan) (s : State) → Below (count s + weight p * n) (carry_out R σ p s)
 unfolding carry_out weight Makes Below
@@ -95,22 +95,22 @@ carries R σ n f (new t) s = more (intern t s) (omega arith) (stores t s)
 carries R σ n f (folded op x y) s = folds_noted n (used_by_infix R op x y) (calculate_infix R op x y) s
 carries R σ n f (called g x) s = folds_noted n (used_by_function R g x) (calculate_function R g x) s
 carries R σ n f (negation p) s =
-    then-below _ _ (carry_out R σ p s) (λ t s. intern (minus t) s) (carries R σ n f p s) λ t s' l. more (intern (minus t) s') l (stores (minus t) s')
+    then_below _ _ (carry_out R σ p s) (λ t s. intern (minus t) s) (carries R σ n f p s) λ t s' l. more (intern (minus t) s') l (stores (minus t) s')
 carries R σ n f (combined op p q) s =
-    then-below _ _ (carry_out R σ p s) (λ t s. and_then (carry_out R σ q s) λ u s. intern (infixed op t u) s) (carries R σ n f p s) λ t s' l.
-    then-below _ _ (carry_out R σ q s') (λ u s. intern (infixed op t u) s) (carries R σ n f q s') λ u s'' k.
-    more (intern (infixed op t u) s'') (sum-le (count s) (weight p) (weight q) n l k) (stores (infixed op t u) s'')
+    then_below _ _ (carry_out R σ p s) (λ t s. and_then (carry_out R σ q s) λ u s. intern (infixed op t u) s) (carries R σ n f p s) λ t s' l.
+    then_below _ _ (carry_out R σ q s') (λ u s. intern (infixed op t u) s) (carries R σ n f q s') λ u s'' k.
+    more (intern (infixed op t u) s'') (sum_le (count s) (weight p) (weight q) n l k) (stores (infixed op t u) s'')
 carries R σ n f (S p) s =
-    then-below _ _ (carry_out R σ p s) σ (carries R σ n f p s) λ t s' l. more (σ t s') (one-le (count s) (weight p) n l) (f t s')
+    then_below _ _ (carry_out R σ p s) σ (carries R σ n f p s) λ t s' l. more (σ t s') (one_le (count s) (weight p) n l) (f t s')
 carries R σ n f (lesser p q) s =
-    then-below _ _ (carry_out R σ p s) (λ t s. and_then (carry_out R σ q s) λ u s. gives (smaller t u) s) (carries R σ n f p s) λ t s' l.
-    then-below _ _ (carry_out R σ q s') (λ u s. gives (smaller t u) s) (carries R σ n f q s') λ u s'' k.
-    sum-le (count s) (weight p) (weight q) n l k
+    then_below _ _ (carry_out R σ p s) (λ t s. and_then (carry_out R σ q s) λ u s. gives (smaller t u) s) (carries R σ n f p s) λ t s' l.
+    then_below _ _ (carry_out R σ q s') (λ u s. gives (smaller t u) s) (carries R σ n f q s') λ u s'' k.
+    sum_le (count s) (weight p) (weight q) n l k
 carries R σ n f (affine a x b) s =
-    then-below _ _ (again σ a s) (λ u s. and_then (again σ b s) λ v s. and_then (again σ (product u x) s) λ w s. again σ (sum w v) s) (again-makes σ n f a s) λ u s₁ i.
-    then-below _ _ (again σ b s₁) (λ v s. and_then (again σ (product u x) s) λ w s. again σ (sum w v) s) (again-makes σ n f b s₁) λ v s₂ j.
-    then-below _ _ (again σ (product u x) s₂) (λ w s. again σ (sum w v) s) (again-makes σ n f (product u x) s₂) λ w s₃ k.
-    more (again σ (sum w v) s₃) (omega (arith, i, j, k)) (again-makes σ n f (sum w v) s₃)
+    then_below _ _ (again σ a s) (λ u s. and_then (again σ b s) λ v s. and_then (again σ (product u x) s) λ w s. again σ (sum w v) s) (again_makes σ n f a s) λ u s₁ i.
+    then_below _ _ (again σ b s₁) (λ v s. and_then (again σ (product u x) s) λ w s. again σ (sum w v) s) (again_makes σ n f b s₁) λ v s₂ j.
+    then_below _ _ (again σ (product u x) s₂) (λ w s. again σ (sum w v) s) (again_makes σ n f (product u x) s₂) λ w s₃ k.
+    more (again σ (sum w v) s₃) (omega (arith, i, j, k)) (again_makes σ n f (sum w v) s₃)
 
 -- of the arms' plans nothing else matters here
 Any : Tree → Type 0
@@ -150,14 +150,14 @@ module _ (R : Rows) (b f : Simplifier) (m n : ℕ) (x : Makes b m) (y : Makes f 
   performs number_of_pi s = more (intern _ s) (omega arith) (stores _ s)
   performs (itself t) s = omega arith
   performs (calling g a) s =
-      then-below _ _ (b a s) (λ z s. carry_out R f (function_plan g z) s) (x a s) λ z s' l.
+      then_below _ _ (b a s) (λ z s. carry_out R f (function_plan g z) s) (x a s) λ z s' l.
       more (carry_out R f (function_plan g z) s') (omega (arith, l)) (four R f n y (function_plan g z) (fine_function Any Any any g z tt) s')
   performs (prefixing o a) s =
-      then-below _ _ (b a s) (λ z s. carry_out R f (prefix_plan o z) s) (x a s) λ z s' l.
+      then_below _ _ (b a s) (λ z s. carry_out R f (prefix_plan o z) s) (x a s) λ z s' l.
       more (carry_out R f (prefix_plan o z) s') (omega (arith, l)) (four R f n y (prefix_plan o z) (fine_prefix Any Any any o z tt) s')
   performs (infixing o a c) s =
-      then-below _ _ (b a s) (λ z s. and_then (b c s) λ w s. carry_out R f (infix_plan o z w) s) (x a s) λ z s' l.
-      then-below _ _ (b c s') (λ w s. carry_out R f (infix_plan o z w) s) (x c s') λ w s'' k.
+      then_below _ _ (b a s) (λ z s. and_then (b c s) λ w s. carry_out R f (infix_plan o z w) s) (x a s) λ z s' l.
+      then_below _ _ (b c s') (λ w s. carry_out R f (infix_plan o z w) s) (x c s') λ w s'' k.
       more (carry_out R f (infix_plan o z w) s'') (omega (arith, l, k)) (four R f n y (infix_plan o z w) (fine_infix Any Any any o z w tt tt) s'')
 
   resumes : (k : Kept) (limit : ℕ) (t : Tree) (s : State) → Below (count s + (2 * m + 4 * n)) (resume R b f k limit t s)
@@ -171,21 +171,21 @@ module _ (R : Rows) (b f : Simplifier) (m n : ℕ) (x : Makes b m) (y : Makes f 
 
 -- ---- the bound
 
-gives-makes : Makes gives 0
+gives_makes : Makes gives 0
 unfolding Makes Below
-gives-makes t s = omega arith
+gives_makes t s = omega arith
 
-makes-bound : (R : Rows) (k : ℕ) → Makes (simplify R k) (most_calls k)
+makes_bound : (R : Rows) (k : ℕ) → Makes (simplify R k) (most_calls k)
 unfolding simplify_by most_calls Makes
-makes-bound R zero t s = steps R gives gives 0 0 gives-makes gives-makes 0 t s
-makes-bound R (suc zero) t s = steps R (simplify R 0) (simplify R 0) 1 1 (makes-bound R zero) (makes-bound R zero) 1 t s
-makes-bound R (suc (suc k)) t s =
-    steps R (simplify R (suc k)) (simplify R k) (most_calls (suc k)) (most_calls k) (makes-bound R (suc k)) (makes-bound R k) (suc (suc k)) t s
+makes_bound R zero t s = steps R gives gives 0 0 gives_makes gives_makes 0 t s
+makes_bound R (suc zero) t s = steps R (simplify R 0) (simplify R 0) 1 1 (makes_bound R zero) (makes_bound R zero) 1 t s
+makes_bound R (suc (suc k)) t s =
+    steps R (simplify R (suc k)) (simplify R k) (most_calls (suc k)) (most_calls k) (makes_bound R (suc k)) (makes_bound R k) (suc (suc k)) t s
 
 -- "It is at most 244,531 at limit 10"
 pub bounded : (R : Rows) (k : ℕ) (t : Tree) (s : State) → Below (count s + most_calls k) (simplify R k t s)
 unfolding Makes
-bounded R k t s = makes-bound R k t s
+bounded R k t s = makes_bound R k t s
 
 pub bound_at_ten : most_calls 10 ≡ 244531
 unfolding most_calls
@@ -197,18 +197,18 @@ grows zero = omega arith
 grows (suc zero) = omega arith
 grows (suc (suc k)) = omega (arith, grows (suc k), grows k)
 
-grows-by : (k d e : ℕ) → e ≡ d + k → most_calls k ≤ most_calls e
-grows-by k zero e p = subst (λ n. most_calls k ≤ most_calls n) (same k e p) (omega arith)
+grows_by : (k d e : ℕ) → e ≡ d + k → most_calls k ≤ most_calls e
+grows_by k zero e p = subst (λ n. most_calls k ≤ most_calls n) (same k e p) (omega arith)
   where
     same : (k e : ℕ) → e ≡ 0 + k → k ≡ e
     same k e p = omega (arith, p)
-grows-by k (suc d) e p = subst (λ n. most_calls k ≤ most_calls n) (next k d e p) (omega (arith, grows-by k d (d + k) refl, grows (d + k)))
+grows_by k (suc d) e p = subst (λ n. most_calls k ≤ most_calls n) (next k d e p) (omega (arith, grows_by k d (d + k) refl, grows (d + k)))
   where
     next : (k d e : ℕ) → e ≡ suc d + k → suc (d + k) ≡ e
     next k d e p = omega (arith, p)
 
 pub bound_to_ten : (k : ℕ) → k ≤ 10 → most_calls k ≤ 244531
-bound_to_ten k l = omega (arith, bound_at_ten, grows-by k (10 - k) 10 (back k l))
+bound_to_ten k l = omega (arith, bound_at_ten, grows_by k (10 - k) 10 (back k l))
   where
     back : (k : ℕ) → k ≤ 10 → 10 ≡ 10 - k + k
     back k l = omega (arith, l)

@@ -35,9 +35,9 @@ unfoldable pub Gives : (Tree → Type 0) → Answer → Type 0
 Gives P (gives t s) = P t × KeptAll P s
 Gives P (refused why s) = (6 ≤ number_of why) × (number_of why ≤ 9)
 
-kept-or : Kept → Tree → Tree
-kept-or nothing t = t
-kept-or (result u) t = u
+kept_or : Kept → Tree → Tree
+kept_or nothing t = t
+kept_or (result u) t = u
 
 -- nothing is kept in a store into which a listing was read
 pub unkept_all : (P : Tree → Type 0) (s : State) → ((t : Tree) → recall t s ≡ nothing) → KeptAll P s
@@ -72,17 +72,17 @@ module _ (P : Tree → Type 0) (closed : Closed P P) (numbers : (z : Complex) �
   folds Evaluation.Incomplete s h k = absurd h
   folds (Evaluation.Need operation x y) s h k = omega arith
 
-  noted-all : (js : List ℕ) (s : State) → KeptAll P s → KeptAll P (noting js s)
+  noted_all : (js : List ℕ) (s : State) → KeptAll P s → KeptAll P (noting js s)
   unfolding KeptAll noting recall
-  noted-all js (state room stored kept tally) k = k
+  noted_all js (state room stored kept tally) k = k
 
   pub keeps : (t : Tree) (a : Answer) → Gives P a → Gives P (keeping t a)
-  unfolding keeping Gives KeptAll keep recall and_then kept-or
+  unfolding keeping Gives KeptAll keep recall and_then kept_or
   keeps t (refused why s) x = x
   keeps t (gives u (state room stored kept tally)) x = (x.0, λ v w e. go v w (equal t v) e)
     where
       go : (v w : Tree) (b : Bool) → cond b (result u) (kept v) ≡ result w → P w
-      go v w true e = rw (ap (λ k. kept-or k u) e) at x.0
+      go v w true e = rw (ap (λ k. kept_or k u) e) at x.0
       go v w false e = x.1 v w e
 
   module _ (more : ℕ → ℕ) (R : Rows) where
@@ -97,8 +97,8 @@ module _ (P : Tree → Type 0) (closed : Closed P P) (numbers : (z : Complex) �
       unfolding carry_out Over Gives smaller
       carries (the t) s x k = (x, k)
       carries (new t) s x k = stores t s x k
-      carries (folded op y z) s x k = folds (calculate_infix R op y z) (noting (used_by_infix R op y z) s) (infix_known R op y z) (noted-all (used_by_infix R op y z) s k)
-      carries (called g y) s x k = folds (calculate_function R g y) (noting (used_by_function R g y) s) (function_known R g y) (noted-all (used_by_function R g y) s k)
+      carries (folded op y z) s x k = folds (calculate_infix R op y z) (noting (used_by_infix R op y z) s) (infix_known R op y z) (noted_all (used_by_infix R op y z) s k)
+      carries (called g y) s x k = folds (calculate_function R g y) (noting (used_by_function R g y) s) (function_known R g y) (noted_all (used_by_function R g y) s k)
       carries (negation p) s x k =
           then_gives (carry_out R σ p s) (λ t s. intern (minus t) s) (carries p s x k) λ t s' y l. stores (minus t) s' (closed.minus_of y) l
       carries (combined op p q) s x k =
@@ -125,9 +125,9 @@ module _ (P : Tree → Type 0) (closed : Closed P P) (numbers : (z : Complex) �
     Passes : Simplifier → Type 0
     Passes σ = (t : Tree) (s : State) → P t → KeptAll P s → Gives P (σ t s)
 
-    counted-all : (s : State) → KeptAll P s → KeptAll P (counted more s)
+    counted_all : (s : State) → KeptAll P s → KeptAll P (counted more s)
     unfolding KeptAll counted recall
-    counted-all (state room stored kept tally) k = k
+    counted_all (state room stored kept tally) k = k
 
     module _ (b f : Simplifier) where
       performs_leaf : (l : Leaf) (s : State) → P (leaf l) → KeptAll P s → Gives P (perform R b f (leaf_task l) s)
@@ -137,12 +137,12 @@ module _ (P : Tree → Type 0) (closed : Closed P P) (numbers : (z : Complex) �
       performs_leaf (variable v) s x k = (x, k)
       performs_leaf (cell region index) s x k = (x, k)
 
-      performs-none : (t : Tree) (s : State) → P t → KeptAll P s → Gives P (perform R b f (task_at 0 t) s)
+      performs_none : (t : Tree) (s : State) → P t → KeptAll P s → Gives P (perform R b f (task_at 0 t) s)
       unfolding perform task_at Gives
-      performs-none (leaf l) s x k = performs_leaf l s x k
-      performs-none (function_call g t) s x k = (x, k)
-      performs-none (prefixed o t) s x k = (x, k)
-      performs-none (infixed o t u) s x k = (x, k)
+      performs_none (leaf l) s x k = performs_leaf l s x k
+      performs_none (function_call g t) s x k = (x, k)
+      performs_none (prefixed o t) s x k = (x, k)
+      performs_none (infixed o t u) s x k = (x, k)
 
       performs : (k : ℕ) → Passes b → Passes f → (t : Tree) (s : State) → P t → KeptAll P s → Gives P (perform R b f (task_at (suc k) t) s)
       unfolding perform task_at simplify_function_call simplify_prefix simplify_infix Passes
@@ -164,17 +164,17 @@ module _ (P : Tree → Type 0) (closed : Closed P P) (numbers : (z : Complex) �
       steps limit t s k p = go (recall t s) refl
         where
           go : (r : Kept) → recall t s ≡ r → Gives P (resume R b f r limit t (counted more s))
-          go (result u) e = (k t u e, counted-all s k)
-          go nothing e = keeps t (perform R b f (task_at limit t) (counted more s)) (p (counted more s) (counted-all s k))
+          go (result u) e = (k t u e, counted_all s k)
+          go nothing e = keeps t (perform R b f (task_at limit t) (counted more s)) (p (counted more s) (counted_all s k))
 
-    simplify-gives : (limit : ℕ) (t : Tree) (s : State) → P t → KeptAll P s → Gives P (simplify_by more R limit t s)
+    simplify_gives : (limit : ℕ) (t : Tree) (s : State) → P t → KeptAll P s → Gives P (simplify_by more R limit t s)
     unfolding simplify_by Passes
-    simplify-gives zero t s x k = steps gives gives 0 t s k λ s l. performs-none gives gives t s x l
-    simplify-gives (suc zero) t s x k =
-        steps (simplify_by more R 0) (simplify_by more R 0) 1 t s k λ s l. performs (simplify_by more R 0) (simplify_by more R 0) 0 (simplify-gives zero) (simplify-gives zero) t s x l
-    simplify-gives (suc (suc n)) t s x k =
+    simplify_gives zero t s x k = steps gives gives 0 t s k λ s l. performs_none gives gives t s x l
+    simplify_gives (suc zero) t s x k =
+        steps (simplify_by more R 0) (simplify_by more R 0) 1 t s k λ s l. performs (simplify_by more R 0) (simplify_by more R 0) 0 (simplify_gives zero) (simplify_gives zero) t s x l
+    simplify_gives (suc (suc n)) t s x k =
         steps (simplify_by more R (suc n)) (simplify_by more R n) (suc (suc n)) t s k λ s l.
-        performs (simplify_by more R (suc n)) (simplify_by more R n) (suc n) (simplify-gives (suc n)) (simplify-gives n) t s x l
+        performs (simplify_by more R (suc n)) (simplify_by more R n) (suc n) (simplify_gives (suc n)) (simplify_gives n) t s x l
 
 -- ---- leaves
 
@@ -198,7 +198,7 @@ module _ (P : Leaf → Type 0) (numbers : (z : Complex) → P (number z)) where
   }
 
   pub simplify_leaves : (R : Rows) (limit : ℕ) (t : Tree) (s : State) → Leaves P t → KeptAll (Leaves P) s → Gives (Leaves P) (simplify R limit t s)
-  simplify_leaves = simplify-gives (Leaves P) leaves_closed numbers suc
+  simplify_leaves = simplify_gives (Leaves P) leaves_closed numbers suc
 
 -- ---- refusals
 
@@ -206,9 +206,9 @@ module _ (P : Leaf → Type 0) (numbers : (z : Complex) → P (number z)) where
 Any : Tree → Type 0
 Any t = Unit {0}
 
-any-closed : Closed Any Any
+any_closed : Closed Any Any
 unfolding Any
-any-closed = record { numeral = λ a b. tt; opposite = λ x. tt; call = λ f x. tt; minus_of = λ x. tt; infix_of = λ op x y. tt; call_part = λ x. tt; prefix_part = λ x. tt; infix_parts = λ x. (tt, tt) }
+any_closed = record { numeral = λ a b. tt; opposite = λ x. tt; call = λ f x. tt; minus_of = λ x. tt; infix_of = λ op x y. tt; call_part = λ x. tt; prefix_part = λ x. tt; infix_parts = λ x. (tt, tt) }
 
 -- a tree, or a refusal by 6 BIG, 7 DEEP, 8 ROOM or 9 NEED
 abbrev pub SixToNine : Answer → Type 0
@@ -218,7 +218,7 @@ SixToNine (refused why s) = (6 ≤ number_of why) × (number_of why ≤ 9)
 -- so simplifying never answers 10 INCOMPLETE, however its calls are counted
 pub six_to_nine : (more : ℕ → ℕ) (R : Rows) (limit : ℕ) (t : Tree) (s : State) → SixToNine (simplify_by more R limit t s)
 unfolding Gives KeptAll Any
-six_to_nine more R limit t s = go (simplify_by more R limit t s) (simplify-gives Any any-closed (λ z. tt) more R limit t s tt λ t u e. tt)
+six_to_nine more R limit t s = go (simplify_by more R limit t s) (simplify_gives Any any_closed (λ z. tt) more R limit t s tt λ t u e. tt)
   where
     go : (a : Answer) → Gives Any a → SixToNine a
     go (gives t s) x = tt

@@ -43,25 +43,25 @@ one_more n = elim (dec_lt n largest_word) [
 InWord : (machine endless : Tally) → Type 0
 InWord a b = a ≡ tally_in_word b
 
-counts-in-word : Passing InWord one_more suc
+counts_in_word : Passing InWord one_more suc
 unfolding InWord
-counts-in-word = record {
+counts_in_word = record {
   counts = λ a b e. ap (λ c. record { calls = one_more c.calls; marks = c.marks }) e ∙ (λ i. record { calls = one_more b.calls i; marks = b.marks });
   notes = λ js a b e. ap (λ c. record { calls = c.calls; marks = noted js c.marks }) e;
 }
 
-beside-itself : (s : State) → Beside InWord (in_word s) s
+beside_itself : (s : State) → Beside InWord (in_word s) s
 unfolding in_word InWord
-beside-itself (state room stored kept tally) = beside room stored kept _ tally refl
+beside_itself (state room stored kept tally) = beside room stored kept _ tally refl
 
-same-in-word : {a b : Answer} → Both InWord a b → a ≡ answer_in_word b
+same_in_word : {a b : Answer} → Both InWord a b → a ≡ answer_in_word b
 unfolding in_word answer_in_word InWord
-same-in-word (both_give t s s' (beside room stored kept a b e)) = ap (λ c. gives t (state room stored kept c)) e
-same-in-word (both_refuse why s s' (beside room stored kept a b e)) = ap (λ c. refused why (state room stored kept c)) e
+same_in_word (both_give t s s' (beside room stored kept a b e)) = ap (λ c. gives t (state room stored kept c)) e
+same_in_word (both_refuse why s s' (beside room stored kept a b e)) = ap (λ c. refused why (state room stored kept c)) e
 
 -- the machine's run is the definition's, but for a count beyond the largest word
 pub machine_counts : (R : Rows) (limit : ℕ) (t : Tree) (s : State) → simplify_by one_more R limit t (in_word s) ≡ answer_in_word (simplify R limit t s)
-machine_counts R limit t s = same-in-word (passed InWord one_more suc counts-in-word R limit t (in_word s) s (beside-itself s))
+machine_counts R limit t s = same_in_word (passed InWord one_more suc counts_in_word R limit t (in_word s) s (beside_itself s))
 
 -- ---- which is never reached
 

@@ -33,12 +33,12 @@ pub record Grown (before after : List ℕ) : Type 0 where
   pub rows : List ℕ
   pub are : after ≡ noted rows before
 
-more-grown : {before marks : List ℕ} (js : List ℕ) → Grown before marks → Grown before (noted js marks)
-more-grown {before} js g = record { rows = g.rows ++ js; are = ap (noted js) g.are ∙ sym (noted_append g.rows js before) }
+more_grown : {before marks : List ℕ} (js : List ℕ) → Grown before marks → Grown before (noted js marks)
+more_grown {before} js g = record { rows = g.rows ++ js; are = ap (noted js) g.are ∙ sym (noted_append g.rows js before) }
 
-not-yet-grown : (marks : List ℕ) → Grown marks marks
+not_yet_grown : (marks : List ℕ) → Grown marks marks
 unfolding noted
-not-yet-grown marks = record { rows = []; are = refl }
+not_yet_grown marks = record { rows = []; are = refl }
 
 -- of two tallies the first one's marks have grown since
 abbrev Since : (before : List ℕ) → Tally → Tally → Type 0
@@ -54,28 +54,28 @@ all_grown (both_refuse why s s' (beside room stored kept a b g)) = g
 abbrev Has : (marks : List ℕ) → Tally → Tally → Type 0
 Has marks a b = a.marks ≡ marks
 
-state-has : (s : State) → Beside (Has (marks_of s)) s s
+state_has : (s : State) → Beside (Has (marks_of s)) s s
 unfolding marks_of
-state-has (state room stored kept tally) = beside room stored kept tally tally refl
+state_has (state room stored kept tally) = beside room stored kept tally tally refl
 
-answer-has : (a : Answer) → Both (Has (marks_after a)) a a
+answer_has : (a : Answer) → Both (Has (marks_after a)) a a
 unfolding marks_after
-answer-has (gives t s) = both_give t s s (state-has s)
-answer-has (refused why s) = both_refuse why s s (state-has s)
+answer_has (gives t s) = both_give t s s (state_has s)
+answer_has (refused why s) = both_refuse why s s (state_has s)
 
-they-are : {marks : List ℕ} {a b : Answer} → Both (Has marks) a b → marks_after a ≡ marks
+they_are : {marks : List ℕ} {a b : Answer} → Both (Has marks) a b → marks_after a ≡ marks
 unfolding marks_of marks_after
-they-are (both_give t s s' (beside room stored kept a b e)) = e
-they-are (both_refuse why s s' (beside room stored kept a b e)) = e
+they_are (both_give t s s' (beside room stored kept a b e)) = e
+they_are (both_refuse why s s' (beside room stored kept a b e)) = e
 
 pub stores_marks : (t : Tree) (s : State) → marks_after (intern t s) ≡ marks_of s
-stores_marks t s = they-are (stores (Has (marks_of s)) t s s (state-has s))
+stores_marks t s = they_are (stores (Has (marks_of s)) t s s (state_has s))
 
 pub folds_marks : (v : Evaluation) (s : State) → marks_after (folded_to v s) ≡ marks_of s
-folds_marks v s = they-are (folds (Has (marks_of s)) v s s (state-has s))
+folds_marks v s = they_are (folds (Has (marks_of s)) v s s (state_has s))
 
 pub keeps_marks : (t : Tree) (a : Answer) → marks_after (keeping t a) ≡ marks_after a
-keeps_marks t a = they-are (keeps (Has (marks_after a)) t (answer-has a))
+keeps_marks t a = they_are (keeps (Has (marks_after a)) t (answer_has a))
 
 pub counted_marks : (more : ℕ → ℕ) (s : State) → marks_of (counted more s) ≡ marks_of s
 unfolding marks_of counted
@@ -96,7 +96,7 @@ module _ (more : ℕ → ℕ) (R : Rows) (limit : ℕ) (t : Tree) where
   pub marks_grow : (s : State) → Grown (marks_of s) (marks_after (simplify_by more R limit t s))
   unfolding marks_of
   marks_grow (state room stored kept tally) =
-      all_grown (passed (Since tally.marks) more more (record { counts = λ a b g. g; notes = λ js a b g. more-grown js g }) R limit t _ _ (beside room stored kept tally tally (not-yet-grown tally.marks)))
+      all_grown (passed (Since tally.marks) more more (record { counts = λ a b g. g; notes = λ js a b g. more_grown js g }) R limit t _ _ (beside room stored kept tally tally (not_yet_grown tally.marks)))
 
   pub mark_remains : (s : State) (j : ℕ) → get_or (marks_of s) j 0 ≡ 1 → get_or (marks_after (simplify_by more R limit t s)) j 0 ≡ 1
   mark_remains s j e = let g = marks_grow s in rw g.are (mark_stays g.rows (marks_of s) j e)

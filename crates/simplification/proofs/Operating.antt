@@ -101,9 +101,9 @@ module _ (desk : List ℕ) {desk' : List ℕ} (q : desk' ≡ with_calls desk (on
   pub sound_counted : (m : Memory) → Sound (of m desk) → Sound (of m desk')
   sound_counted m h = sound_on m count_same (ap length q ∙ length_kept desk _) h
 
-  state-counted : (m : Memory) → Sound (of m desk) → state_in (of m desk') ≡ counted one_more (state_in (of m desk))
+  state_counted : (m : Memory) → Sound (of m desk) → state_in (of m desk') ≡ counted one_more (state_in (of m desk))
   unfolding state_in counted
-  state-counted m h =
+  state_counted m h =
       let x : calls_on desk' ≡ one_more (calls_on desk) = ap calls_on q ∙ calls_set desk _ h.long in
       let y : marks_on desk' ≡ marks_on desk = ap marks_on q ∙ marks_kept desk _ in
       rw (count_same, x, y) refl
@@ -114,7 +114,7 @@ module _ (R : Rows) (k : ℕ) {kept : ℕ} {m : Memory} {desk desk' : List ℕ} 
       ≡ resume R (simplify_by one_more R (k - 1)) (simplify_by one_more R (k - 1 - 1)) u k (tree_at m node) (state_in (of m desk'))
   unfolding step state_in
   started u e =
-      λ i. resume R (simplify_by one_more R (k - 1)) (simplify_by one_more R (k - 1 - 1)) ((sym (c (count desk) (tally_on desk) h.holds o).1 ∙ e) i) k (tree_at m node) (sym (state-counted desk q m h) i)
+      λ i. resume R (simplify_by one_more R (k - 1)) (simplify_by one_more R (k - 1 - 1)) ((sym (c (count desk) (tally_on desk) h.holds o).1 ∙ e) i) k (tree_at m node) (sym (state_counted desk q m h) i)
 
   pub was_kept : (kept ≡ 0 → ⊥) → Built (simplify_by one_more R k (tree_at m node) (state_in (of m desk))) (kept - 1) (of m desk) (of m desk')
   unfolding resume

@@ -56,10 +56,10 @@ unfolding depth
 call_operand (pure x) = pure x
 call_operand (shallow l) = shallow (omega (arith, l))
 
-prefix-operand : {k : ℕ} {o : PrefixOperator} {t : Tree} → Ready (suc k) (prefixed o t) → Ready k t
+prefix_operand : {k : ℕ} {o : PrefixOperator} {t : Tree} → Ready (suc k) (prefixed o t) → Ready k t
 unfolding depth
-prefix-operand (pure x) = pure x
-prefix-operand (shallow l) = shallow (omega (arith, l))
+prefix_operand (pure x) = pure x
+prefix_operand (shallow l) = shallow (omega (arith, l))
 
 left_operand : {k : ℕ} {o : InfixOperator} {t u : Tree} → Ready (suc k) (infixed o t u) → Ready k t
 unfolding depth
@@ -84,12 +84,12 @@ module _ (R : Rows) (b f : Simplifier) where
   performs_leaf (variable v) s c = (tt, c)
   performs_leaf (cell region index) s c = (tt, c)
 
-  performs-none : (t : Tree) (s : State) → Ready 0 t → Clean s → Good (perform R b f (task_at 0 t) s)
+  performs_none : (t : Tree) (s : State) → Ready 0 t → Clean s → Good (perform R b f (task_at 0 t) s)
   unfolding perform task_at Gives depth
-  performs-none (leaf l) s r c = performs_leaf l s c
-  performs-none (function_call g t) s r c = (as_it_is r (λ l. omega (arith, l, depth_positive t)), c)
-  performs-none (prefixed o t) s r c = (as_it_is r (λ l. omega (arith, l, depth_positive t)), c)
-  performs-none (infixed o t u) s r c = (as_it_is r (λ l. omega (arith, l, depth_positive t)), c)
+  performs_none (leaf l) s r c = performs_leaf l s c
+  performs_none (function_call g t) s r c = (as_it_is r (λ l. omega (arith, l, depth_positive t)), c)
+  performs_none (prefixed o t) s r c = (as_it_is r (λ l. omega (arith, l, depth_positive t)), c)
+  performs_none (infixed o t u) s r c = (as_it_is r (λ l. omega (arith, l, depth_positive t)), c)
 
   performs : (k : ℕ) → Simplifies b k → ((t : Tree) (s : State) → Piless t → Clean s → Good (f t s))
       → (t : Tree) (s : State) → Ready (suc k) t → Clean s → Good (perform R b f (task_at (suc k) t) s)
@@ -99,7 +99,7 @@ module _ (R : Rows) (b f : Simplifier) where
       then_gives Piless piless numeral (b t s) (λ x s. carry_out R f (function_plan g x) s) (hb t s (call_operand r) c) λ x s' y d.
       carries Piless piless numeral suc R f hf (function_plan g x) s' (fine_function Piless Piless piless g x y).over d
   performs k hb hf (prefixed o t) s r c =
-      then_gives Piless piless numeral (b t s) (λ x s. carry_out R f (prefix_plan o x) s) (hb t s (prefix-operand r) c) λ x s' y d.
+      then_gives Piless piless numeral (b t s) (λ x s. carry_out R f (prefix_plan o x) s) (hb t s (prefix_operand r) c) λ x s' y d.
       carries Piless piless numeral suc R f hf (prefix_plan o x) s' (fine_prefix Piless Piless piless o x y).over d
   performs k hb hf (infixed o t u) s r c =
       then_gives Piless piless numeral (b t s) (λ x s. and_then (b u s) λ z s. carry_out R f (infix_plan o x z) s) (hb t s (left_operand r) c) λ x s' y d.
@@ -108,7 +108,7 @@ module _ (R : Rows) (b f : Simplifier) where
 
 simplifies : (R : Rows) (k : ℕ) → Simplifies (simplify R k) k
 unfolding simplify_by Simplifies
-simplifies R zero t s r c = steps Piless piless numeral suc R gives gives 0 t s c λ s d. performs-none R gives gives t s r d
+simplifies R zero t s r c = steps Piless piless numeral suc R gives gives 0 t s c λ s d. performs_none R gives gives t s r d
 simplifies R (suc zero) t s r c =
     steps Piless piless numeral suc R (simplify R 0) (simplify R 0) 1 t s c λ s d.
     performs R (simplify R 0) (simplify R 0) 0 (simplifies R zero) (λ t s x c. simplifies R zero t s (pure x) c) t s r d

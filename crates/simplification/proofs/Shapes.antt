@@ -56,13 +56,13 @@ pub record Fine (P Q : Tree → Type 0) (p : Plan) : Type 0 where
   pub light : weight p ≤ 4
   pub over : Over P Q p
 
-fine-told : {P Q : Tree → Type 0} (b : Bool) (p q : Plan) → (b ≡ true → Fine P Q p) → Fine P Q q → Fine P Q (arm_if b p q)
+fine_told : {P Q : Tree → Type 0} (b : Bool) (p q : Plan) → (b ≡ true → Fine P Q p) → Fine P Q q → Fine P Q (arm_if b p q)
 unfolding arm_if
-fine-told true p q x y = x refl
-fine-told false p q x y = y
+fine_told true p q x y = x refl
+fine_told false p q x y = y
 
-fine-if : {P Q : Tree → Type 0} (b : Bool) (p q : Plan) → Fine P Q p → Fine P Q q → Fine P Q (arm_if b p q)
-fine-if b p q x y = fine-told b p q (λ _. x) y
+fine_if : {P Q : Tree → Type 0} (b : Bool) (p q : Plan) → Fine P Q p → Fine P Q q → Fine P Q (arm_if b p q)
+fine_if b p q x y = fine_told b p q (λ _. x) y
 
 module _ (P Q : Tree → Type 0) (c : Closed P Q) where
   under_of : (t : Tree) → P t → P (under t)
@@ -72,12 +72,12 @@ module _ (P Q : Tree → Type 0) (c : Closed P Q) where
   under_of (prefixed o t) x = c.prefix_part x
   under_of (infixed o l r) x = (c.infix_parts x).0
 
-  left-of : (t : Tree) → P t → P (left t)
+  left_of : (t : Tree) → P t → P (left t)
   unfolding left
-  left-of (leaf l) x = x
-  left-of (function_call f t) x = c.call_part x
-  left-of (prefixed o t) x = c.prefix_part x
-  left-of (infixed o l r) x = (c.infix_parts x).0
+  left_of (leaf l) x = x
+  left_of (function_call f t) x = c.call_part x
+  left_of (prefixed o t) x = c.prefix_part x
+  left_of (infixed o l r) x = (c.infix_parts x).0
 
   right_of : (t : Tree) → P t → P (right t)
   unfolding right
@@ -86,102 +86,102 @@ module _ (P Q : Tree → Type 0) (c : Closed P Q) where
   right_of (prefixed o t) x = c.prefix_part x
   right_of (infixed o l r) x = (c.infix_parts x).1
 
-  opposite-of : (t : Tree) → is_number t ≡ true → P t → Q (leaf (number (negated (number_in t))))
+  opposite_of : (t : Tree) → is_number t ≡ true → P t → Q (leaf (number (negated (number_in t))))
   unfolding is_number_of number_in
-  opposite-of (leaf (number z)) e x = c.opposite x
-  opposite-of (leaf pi) e x = never e
-  opposite-of (leaf (variable v)) e x = never e
-  opposite-of (leaf (cell region index)) e x = never e
-  opposite-of (function_call f t) e x = never e
-  opposite-of (prefixed o t) e x = never e
-  opposite-of (infixed o l r) e x = never e
+  opposite_of (leaf (number z)) e x = c.opposite x
+  opposite_of (leaf pi) e x = never e
+  opposite_of (leaf (variable v)) e x = never e
+  opposite_of (leaf (cell region index)) e x = never e
+  opposite_of (function_call f t) e x = never e
+  opposite_of (prefixed o t) e x = never e
+  opposite_of (infixed o l r) e x = never e
 
-  fine-right : (op : InfixOperator) (l r : Tree) → P l → P r → Fine P Q (grouped_right op l r)
+  fine_right : (op : InfixOperator) (l r : Tree) → P l → P r → Fine P Q (grouped_right op l r)
   unfolding grouped_right weight Over
-  fine-right op l r x y = fine-if _ _ _ (record { light = omega arith; over = (c.infix_of op (x) (y), (c.infix_of (uninverted op) (x) (right_of r y), left-of r y)) }) (record { light = omega arith; over = (c.infix_of op (x) (y), (c.infix_of op (x) (left-of r y), right_of r y)) })
+  fine_right op l r x y = fine_if _ _ _ (record { light = omega arith; over = (c.infix_of op (x) (y), (c.infix_of (uninverted op) (x) (right_of r y), left_of r y)) }) (record { light = omega arith; over = (c.infix_of op (x) (y), (c.infix_of op (x) (left_of r y), right_of r y)) })
 
-  fine-grouped : (op : InfixOperator) (l r : Tree) → P l → P r → Fine P Q (grouped op l r)
+  fine_grouped : (op : InfixOperator) (l r : Tree) → P l → P r → Fine P Q (grouped op l r)
   unfolding grouped weight Over
-  fine-grouped op l r x y = fine-if _ _ _ (fine-right op l r x y) (record { light = omega arith; over = (c.infix_of op (x) (y), (left-of l x, c.infix_of op (right_of l x) (y))) })
+  fine_grouped op l r x y = fine_if _ _ _ (fine_right op l r x y) (record { light = omega arith; over = (c.infix_of op (x) (y), (left_of l x, c.infix_of op (right_of l x) (y))) })
 
   fine_moved : (op : InfixOperator) (l r : Tree) → P l → P r → Fine P Q (moved op l r)
   unfolding moved weight Over
-  fine_moved op l r x y = fine-if _ _ _ (record { light = omega arith; over = (c.infix_of InfixOperator.Star (x) (y), (c.minus_of x, under_of r y)) }) (record { light = omega arith; over = (c.infix_of InfixOperator.Star (x) (y), (under_of l x, c.minus_of y)) })
+  fine_moved op l r x y = fine_if _ _ _ (record { light = omega arith; over = (c.infix_of InfixOperator.Star (x) (y), (c.minus_of x, under_of r y)) }) (record { light = omega arith; over = (c.infix_of InfixOperator.Star (x) (y), (under_of l x, c.minus_of y)) })
 
-  fine-sharing : (p q p' q' bs : Tree) → P p → P q → P p' → P q' → Q bs → Fine P Q (sharing p q p' q' bs)
+  fine_sharing : (p q p' q' bs : Tree) → P p → P q → P p' → P q' → Q bs → Fine P Q (sharing p q p' q' bs)
   unfolding sharing weight Over
-  fine-sharing p q p' q' bs x y x' y' z = fine-if _ _ _ (record { light = omega arith; over = (c.infix_of InfixOperator.Plus y y', x, z) }) (fine-if _ _ _ (record { light = omega arith; over = (c.infix_of InfixOperator.Plus y x', x, z) }) (fine-if _ _ _ (record { light = omega arith; over = (c.infix_of InfixOperator.Plus x y', y, z) }) (record { light = omega arith; over = (c.infix_of InfixOperator.Plus x x', y', z) })))
+  fine_sharing p q p' q' bs x y x' y' z = fine_if _ _ _ (record { light = omega arith; over = (c.infix_of InfixOperator.Plus y y', x, z) }) (fine_if _ _ _ (record { light = omega arith; over = (c.infix_of InfixOperator.Plus y x', x, z) }) (fine_if _ _ _ (record { light = omega arith; over = (c.infix_of InfixOperator.Plus x y', y, z) }) (record { light = omega arith; over = (c.infix_of InfixOperator.Plus x x', y', z) })))
 
-  fine-affine : (l r : Tree) → P l → P r → Fine P Q (affine_sum l r)
+  fine_affine : (l r : Tree) → P l → P r → Fine P Q (affine_sum l r)
   unfolding affine_sum weight Over
-  fine-affine l r x y = fine-if _ _ _ (fine-sharing _ _ _ _ _ (left-of (left l) (left-of l x)) (right_of (left l) (left-of l x)) (left-of (left r) (left-of r y)) (right_of (left r) (left-of r y)) (c.infix_of InfixOperator.Plus (right_of l x) (right_of r y))) (fine-if _ _ _ (record { light = omega arith; over = (c.infix_of InfixOperator.Plus (left-of l x) (left-of r y), right_of l x) }) (fine-if _ _ _ (record { light = omega arith; over = ((c.numeral _ _, left-of l x), c.infix_of InfixOperator.Plus (right_of l x) (right_of r y)) }) (fine-if _ _ _ (fine-grouped InfixOperator.Plus l r x y) (record { light = omega arith; over = c.infix_of InfixOperator.Plus (x) (y) }))))
+  fine_affine l r x y = fine_if _ _ _ (fine_sharing _ _ _ _ _ (left_of (left l) (left_of l x)) (right_of (left l) (left_of l x)) (left_of (left r) (left_of r y)) (right_of (left r) (left_of r y)) (c.infix_of InfixOperator.Plus (right_of l x) (right_of r y))) (fine_if _ _ _ (record { light = omega arith; over = (c.infix_of InfixOperator.Plus (left_of l x) (left_of r y), right_of l x) }) (fine_if _ _ _ (record { light = omega arith; over = ((c.numeral _ _, left_of l x), c.infix_of InfixOperator.Plus (right_of l x) (right_of r y)) }) (fine_if _ _ _ (fine_grouped InfixOperator.Plus l r x y) (record { light = omega arith; over = c.infix_of InfixOperator.Plus (x) (y) }))))
 
-  fine-sum : (l r : Tree) → P l → P r → Fine P Q (sum_plan l r)
+  fine_sum : (l r : Tree) → P l → P r → Fine P Q (sum_plan l r)
   unfolding sum_plan weight Over
-  fine-sum l r x y = fine-if _ _ _ (record { light = omega arith; over = y }) (fine-if _ _ _ (record { light = omega arith; over = x }) (fine-if _ _ _ (record { light = omega arith; over = tt }) (fine-if _ _ _ (record { light = omega arith; over = c.infix_of InfixOperator.Minus (x) (under_of r y) }) (fine-if _ _ _ (record { light = omega arith; over = c.infix_of InfixOperator.Minus (y) (under_of l x) }) (fine-affine l r x y)))))
+  fine_sum l r x y = fine_if _ _ _ (record { light = omega arith; over = y }) (fine_if _ _ _ (record { light = omega arith; over = x }) (fine_if _ _ _ (record { light = omega arith; over = tt }) (fine_if _ _ _ (record { light = omega arith; over = c.infix_of InfixOperator.Minus (x) (under_of r y) }) (fine_if _ _ _ (record { light = omega arith; over = c.infix_of InfixOperator.Minus (y) (under_of l x) }) (fine_affine l r x y)))))
 
-  fine-signed-difference : (l r : Tree) → P l → P r → Fine P Q (signed_difference l r)
+  fine_signed_difference : (l r : Tree) → P l → P r → Fine P Q (signed_difference l r)
   unfolding signed_difference weight Over
-  fine-signed-difference l r x y = fine-if _ _ _ (record { light = omega arith; over = c.infix_of InfixOperator.Plus (x) (under_of r y) }) (fine-if _ _ _ (record { light = omega arith; over = (c.infix_of InfixOperator.Minus (x) (y), c.infix_of InfixOperator.Plus (under_of l x) (y)) }) (fine-if _ _ _ (fine-grouped InfixOperator.Minus l r x y) (record { light = omega arith; over = c.infix_of InfixOperator.Minus (x) (y) })))
+  fine_signed_difference l r x y = fine_if _ _ _ (record { light = omega arith; over = c.infix_of InfixOperator.Plus (x) (under_of r y) }) (fine_if _ _ _ (record { light = omega arith; over = (c.infix_of InfixOperator.Minus (x) (y), c.infix_of InfixOperator.Plus (under_of l x) (y)) }) (fine_if _ _ _ (fine_grouped InfixOperator.Minus l r x y) (record { light = omega arith; over = c.infix_of InfixOperator.Minus (x) (y) })))
 
-  fine-difference : (l r : Tree) → P l → P r → Fine P Q (difference_plan l r)
+  fine_difference : (l r : Tree) → P l → P r → Fine P Q (difference_plan l r)
   unfolding difference_plan weight Over
-  fine-difference l r x y = fine-if _ _ _ (record { light = omega arith; over = c.minus_of y }) (fine-if _ _ _ (record { light = omega arith; over = x }) (fine-if _ _ _ (record { light = omega arith; over = c.numeral _ _ }) (fine-if _ _ _ (record { light = omega arith; over = tt }) (fine-signed-difference l r x y))))
+  fine_difference l r x y = fine_if _ _ _ (record { light = omega arith; over = c.minus_of y }) (fine_if _ _ _ (record { light = omega arith; over = x }) (fine_if _ _ _ (record { light = omega arith; over = c.numeral _ _ }) (fine_if _ _ _ (record { light = omega arith; over = tt }) (fine_signed_difference l r x y))))
 
-  fine-signed-product : (l r : Tree) → P l → P r → Fine P Q (signed_product l r)
+  fine_signed_product : (l r : Tree) → P l → P r → Fine P Q (signed_product l r)
   unfolding signed_product weight Over
-  fine-signed-product l r x y = fine-if _ _ _ (record { light = omega arith; over = c.infix_of InfixOperator.Star (under_of l x) (under_of r y) }) (fine_moved InfixOperator.Star l r x y)
+  fine_signed_product l r x y = fine_if _ _ _ (record { light = omega arith; over = c.infix_of InfixOperator.Star (under_of l x) (under_of r y) }) (fine_moved InfixOperator.Star l r x y)
 
-  fine-distributed : (l r : Tree) → P l → P r → Fine P Q (distributed l r)
+  fine_distributed : (l r : Tree) → P l → P r → Fine P Q (distributed l r)
   unfolding distributed weight Over
-  fine-distributed l r x y = fine-if _ _ _ (record { light = omega arith; over = (c.infix_of InfixOperator.Star (x) (y), (c.infix_of InfixOperator.Star (x) (left-of r y), c.infix_of InfixOperator.Star (x) (right_of r y))) }) (fine-if _ _ _ (record { light = omega arith; over = (c.infix_of InfixOperator.Star (x) (y), (c.infix_of InfixOperator.Star (left-of l x) (y), c.infix_of InfixOperator.Star (right_of l x) (y))) }) (fine-if _ _ _ (record { light = omega arith; over = left-of l x }) (fine-if _ _ _ (record { light = omega arith; over = left-of r y }) (record { light = omega arith; over = c.infix_of InfixOperator.Star (x) (y) }))))
+  fine_distributed l r x y = fine_if _ _ _ (record { light = omega arith; over = (c.infix_of InfixOperator.Star (x) (y), (c.infix_of InfixOperator.Star (x) (left_of r y), c.infix_of InfixOperator.Star (x) (right_of r y))) }) (fine_if _ _ _ (record { light = omega arith; over = (c.infix_of InfixOperator.Star (x) (y), (c.infix_of InfixOperator.Star (left_of l x) (y), c.infix_of InfixOperator.Star (right_of l x) (y))) }) (fine_if _ _ _ (record { light = omega arith; over = left_of l x }) (fine_if _ _ _ (record { light = omega arith; over = left_of r y }) (record { light = omega arith; over = c.infix_of InfixOperator.Star (x) (y) }))))
 
-  fine-product : (l r : Tree) → P l → P r → Fine P Q (product_plan l r)
+  fine_product : (l r : Tree) → P l → P r → Fine P Q (product_plan l r)
   unfolding product_plan weight Over
-  fine-product l r x y = fine-if _ _ _ (record { light = omega arith; over = c.numeral _ _ }) (fine-if _ _ _ (record { light = omega arith; over = y }) (fine-if _ _ _ (record { light = omega arith; over = x }) (fine-if _ _ _ (record { light = omega arith; over = tt }) (fine-if _ _ _ (fine-signed-product l r x y) (fine-if _ _ _ (fine-grouped InfixOperator.Star l r x y) (fine-distributed l r x y))))))
+  fine_product l r x y = fine_if _ _ _ (record { light = omega arith; over = c.numeral _ _ }) (fine_if _ _ _ (record { light = omega arith; over = y }) (fine_if _ _ _ (record { light = omega arith; over = x }) (fine_if _ _ _ (record { light = omega arith; over = tt }) (fine_if _ _ _ (fine_signed_product l r x y) (fine_if _ _ _ (fine_grouped InfixOperator.Star l r x y) (fine_distributed l r x y))))))
 
-  fine-signed-quotient : (l r : Tree) → P l → P r → Fine P Q (signed_quotient l r)
+  fine_signed_quotient : (l r : Tree) → P l → P r → Fine P Q (signed_quotient l r)
   unfolding signed_quotient weight Over
-  fine-signed-quotient l r x y = fine-if _ _ _ (record { light = omega arith; over = c.infix_of InfixOperator.Slash (under_of l x) (under_of r y) }) (fine-if _ _ _ (record { light = omega arith; over = c.numeral _ _ }) (fine-if _ _ _ (record { light = omega arith; over = c.numeral _ _ }) (fine_moved InfixOperator.Slash l r x y)))
+  fine_signed_quotient l r x y = fine_if _ _ _ (record { light = omega arith; over = c.infix_of InfixOperator.Slash (under_of l x) (under_of r y) }) (fine_if _ _ _ (record { light = omega arith; over = c.numeral _ _ }) (fine_if _ _ _ (record { light = omega arith; over = c.numeral _ _ }) (fine_moved InfixOperator.Slash l r x y)))
 
-  fine-split : (l r : Tree) → P l → P r → Fine P Q (split l r)
+  fine_split : (l r : Tree) → P l → P r → Fine P Q (split l r)
   unfolding split weight Over
-  fine-split l r x y = fine-if _ _ _ (record { light = omega arith; over = (c.infix_of InfixOperator.Slash (x) (y), (left-of l x, c.infix_of InfixOperator.Slash (right_of l x) (y))) }) (fine-if _ _ _ (record { light = omega arith; over = (c.infix_of InfixOperator.Slash (x) (y), (c.infix_of InfixOperator.Slash (x) (left-of r y), right_of r y)) }) (record { light = omega arith; over = c.infix_of InfixOperator.Slash (x) (y) }))
+  fine_split l r x y = fine_if _ _ _ (record { light = omega arith; over = (c.infix_of InfixOperator.Slash (x) (y), (left_of l x, c.infix_of InfixOperator.Slash (right_of l x) (y))) }) (fine_if _ _ _ (record { light = omega arith; over = (c.infix_of InfixOperator.Slash (x) (y), (c.infix_of InfixOperator.Slash (x) (left_of r y), right_of r y)) }) (record { light = omega arith; over = c.infix_of InfixOperator.Slash (x) (y) }))
 
-  fine-cancelled : (l r : Tree) → P l → P r → Fine P Q (cancelled l r)
+  fine_cancelled : (l r : Tree) → P l → P r → Fine P Q (cancelled l r)
   unfolding cancelled weight Over
-  fine-cancelled l r x y = fine-if _ _ _ (record { light = omega arith; over = right_of l x }) (fine-if _ _ _ (record { light = omega arith; over = left-of l x }) (fine-if _ _ _ (record { light = omega arith; over = (c.numeral _ _, right_of r y) }) (fine-if _ _ _ (record { light = omega arith; over = (c.numeral _ _, left-of r y) }) (fine-split l r x y))))
+  fine_cancelled l r x y = fine_if _ _ _ (record { light = omega arith; over = right_of l x }) (fine_if _ _ _ (record { light = omega arith; over = left_of l x }) (fine_if _ _ _ (record { light = omega arith; over = (c.numeral _ _, right_of r y) }) (fine_if _ _ _ (record { light = omega arith; over = (c.numeral _ _, left_of r y) }) (fine_split l r x y))))
 
-  fine-quotient : (l r : Tree) → P l → P r → Fine P Q (quotient_plan l r)
+  fine_quotient : (l r : Tree) → P l → P r → Fine P Q (quotient_plan l r)
   unfolding quotient_plan weight Over
-  fine-quotient l r x y = fine-if _ _ _ (record { light = omega arith; over = c.numeral _ _ }) (fine-if _ _ _ (record { light = omega arith; over = c.numeral _ _ }) (fine-if _ _ _ (record { light = omega arith; over = x }) (fine-if _ _ _ (record { light = omega arith; over = c.numeral _ _ }) (fine-if _ _ _ (record { light = omega arith; over = tt }) (fine-if _ _ _ (fine-signed-quotient l r x y) (fine-if _ _ _ (fine-grouped InfixOperator.Slash l r x y) (fine-cancelled l r x y)))))))
+  fine_quotient l r x y = fine_if _ _ _ (record { light = omega arith; over = c.numeral _ _ }) (fine_if _ _ _ (record { light = omega arith; over = c.numeral _ _ }) (fine_if _ _ _ (record { light = omega arith; over = x }) (fine_if _ _ _ (record { light = omega arith; over = c.numeral _ _ }) (fine_if _ _ _ (record { light = omega arith; over = tt }) (fine_if _ _ _ (fine_signed_quotient l r x y) (fine_if _ _ _ (fine_grouped InfixOperator.Slash l r x y) (fine_cancelled l r x y)))))))
 
-  fine-power : (l r : Tree) → P l → P r → Fine P Q (power_plan l r)
+  fine_power : (l r : Tree) → P l → P r → Fine P Q (power_plan l r)
   unfolding power_plan weight Over
-  fine-power l r x y = fine-if _ _ _ (record { light = omega arith; over = c.numeral _ _ }) (fine-if _ _ _ (record { light = omega arith; over = c.numeral _ _ }) (fine-if _ _ _ (record { light = omega arith; over = c.numeral _ _ }) (fine-if _ _ _ (record { light = omega arith; over = x }) (fine-if _ _ _ (record { light = omega arith; over = tt }) (record { light = omega arith; over = c.infix_of InfixOperator.Caret (x) (y) })))))
+  fine_power l r x y = fine_if _ _ _ (record { light = omega arith; over = c.numeral _ _ }) (fine_if _ _ _ (record { light = omega arith; over = c.numeral _ _ }) (fine_if _ _ _ (record { light = omega arith; over = c.numeral _ _ }) (fine_if _ _ _ (record { light = omega arith; over = x }) (fine_if _ _ _ (record { light = omega arith; over = tt }) (record { light = omega arith; over = c.infix_of InfixOperator.Caret (x) (y) })))))
 
-  fine-table : (op : InfixOperator) (l r : Tree) → P l → P r → Fine P Q (table_plan op l r)
+  fine_table : (op : InfixOperator) (l r : Tree) → P l → P r → Fine P Q (table_plan op l r)
   unfolding table_plan
-  fine-table InfixOperator.Plus l r x y = fine-sum l r x y
-  fine-table InfixOperator.Minus l r x y = fine-difference l r x y
-  fine-table InfixOperator.Star l r x y = fine-product l r x y
-  fine-table InfixOperator.Slash l r x y = fine-quotient l r x y
-  fine-table InfixOperator.Caret l r x y = fine-power l r x y
+  fine_table InfixOperator.Plus l r x y = fine_sum l r x y
+  fine_table InfixOperator.Minus l r x y = fine_difference l r x y
+  fine_table InfixOperator.Star l r x y = fine_product l r x y
+  fine_table InfixOperator.Slash l r x y = fine_quotient l r x y
+  fine_table InfixOperator.Caret l r x y = fine_power l r x y
 
   pub fine_infix : (op : InfixOperator) (l r : Tree) → P l → P r → Fine P Q (infix_plan op l r)
-  fine_infix op l r x y = subst (Fine P Q) (sym (by_tables op l r)) (fine-table op l r x y)
+  fine_infix op l r x y = subst (Fine P Q) (sym (by_tables op l r)) (fine_table op l r x y)
 
   pub fine_function : (f : ExpressionFunction) (t : Tree) → P t → Fine P Q (function_plan f t)
   unfolding function_plan weight Over
-  fine_function f t x = fine-if _ _ _ (record { light = omega arith; over = tt }) (record { light = omega arith; over = c.call f x })
+  fine_function f t x = fine_if _ _ _ (record { light = omega arith; over = tt }) (record { light = omega arith; over = c.call f x })
 
-  fine-minus : (t : Tree) → P t → Fine P Q (minus_plan t)
+  fine_minus : (t : Tree) → P t → Fine P Q (minus_plan t)
   unfolding minus_plan weight Over
-  fine-minus t x =
-      fine-told _ _ _ (λ e. record { light = omega arith; over = opposite-of t e x })
-      (fine-if _ _ _ (record { light = omega arith; over = under_of t x }) (record { light = omega arith; over = c.minus_of x }))
+  fine_minus t x =
+      fine_told _ _ _ (λ e. record { light = omega arith; over = opposite_of t e x })
+      (fine_if _ _ _ (record { light = omega arith; over = under_of t x }) (record { light = omega arith; over = c.minus_of x }))
 
   pub fine_prefix : (o : PrefixOperator) (t : Tree) → P t → Fine P Q (prefix_plan o t)
   unfolding prefix_plan weight Over
   fine_prefix PrefixOperator.Plus t x = record { light = omega arith; over = x }
-  fine_prefix PrefixOperator.Minus t x = fine-minus t x
+  fine_prefix PrefixOperator.Minus t x = fine_minus t x

@@ -80,9 +80,9 @@ module _ (Related : Tally → Tally → Type 0) where
     folds_noted : (js : List ℕ) (v : Evaluation) (s s' : State) → Beside Related s s' → Both Related (folded_to v (noting js s)) (folded_to v (noting js s'))
     folds_noted js v s s' x = folds v (noting js s) (noting js s') (notes js s s' x)
 
-    again-agree : (σ τ : Simplifier) → Agree σ τ → Agree (again σ) (again τ)
+    again_agree : (σ τ : Simplifier) → Agree σ τ → Agree (again σ) (again τ)
     unfolding again Agree
-    again-agree σ τ h t s s' x = next σ τ (stores t s s' x) h
+    again_agree σ τ h t s s' x = next σ τ (stores t s s' x) h
 
     carries : (σ τ : Simplifier) → Agree σ τ → (p : Plan) (s s' : State) → Beside Related s s' → Both Related (carry_out R σ p s) (carry_out R τ p s')
     unfolding carry_out Agree
@@ -95,10 +95,10 @@ module _ (Related : Tally → Tally → Type 0) where
     carries σ τ h (S p) s s' x = next σ τ (carries σ τ h p s s' x) h
     carries σ τ h (lesser p q) s s' x = next _ _ (carries σ τ h p s s' x) λ t s s' x. next _ _ (carries σ τ h q s s' x) λ u s s' x. both_give (smaller t u) s s' x
     carries σ τ h (affine a y b) s s' x =
-        next _ _ (again-agree σ τ h a s s' x) λ u s s' x.
-        next _ _ (again-agree σ τ h b s s' x) λ v s s' x.
-        next _ _ (again-agree σ τ h (product u y) s s' x) λ w s s' x.
-        again-agree σ τ h (sum w v) s s' x
+        next _ _ (again_agree σ τ h a s s' x) λ u s s' x.
+        next _ _ (again_agree σ τ h b s s' x) λ v s s' x.
+        next _ _ (again_agree σ τ h (product u y) s s' x) λ w s s' x.
+        again_agree σ τ h (sum w v) s s' x
 
     -- ---- one call of simplify
 
@@ -120,13 +120,13 @@ module _ (Related : Tally → Tally → Type 0) where
       unfolding step Agree recall counted
       steps limit t s s' (beside room stored kept a b x) = resumes (kept t) limit t _ _ (beside room stored kept _ _ (law.counts a b x))
 
-    gives-agree : Agree gives gives
+    gives_agree : Agree gives gives
     unfolding Agree
-    gives-agree = both_give
+    gives_agree = both_give
 
     agree : (k : ℕ) → Agree (simplify_by more R k) (simplify_by more' R k)
     unfolding simplify_by Agree
-    agree zero t s s' x = steps gives gives gives gives gives-agree gives-agree 0 t s s' x
+    agree zero t s s' x = steps gives gives gives gives gives_agree gives_agree 0 t s s' x
     agree (suc zero) t s s' x = steps (simplify_by more R 0) (simplify_by more' R 0) (simplify_by more R 0) (simplify_by more' R 0) (agree zero) (agree zero) 1 t s s' x
     agree (suc (suc k)) t s s' x =
         steps (simplify_by more R (suc k)) (simplify_by more' R (suc k)) (simplify_by more R k) (simplify_by more' R k) (agree (suc k)) (agree k) (suc (suc k)) t s s' x

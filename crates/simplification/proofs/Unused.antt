@@ -46,125 +46,125 @@ module _ (more : ℕ → ℕ) (R : Rows) (j : ℕ) (Related : Tally → Tally �
 
   -- ---- one after another
 
-  remains-after : (a : Answer) (h k : Simplifier) → LikeAll h k → get_or (marks_after a) j 0 ≡ 1 → get_or (marks_after (and_then a h)) j 0 ≡ 1
+  remains_after : (a : Answer) (h k : Simplifier) → LikeAll h k → get_or (marks_after a) j 0 ≡ 1 → get_or (marks_after (and_then a h)) j 0 ≡ 1
   unfolding and_then marks_after
-  remains-after (gives t s) h k l m = (l t).remains s m
-  remains-after (refused why s) h k l m = m
+  remains_after (gives t s) h k l m = (l t).remains s m
+  remains_after (refused why s) h k l m = m
 
-  either-after : {a a' : Answer} (h k : Simplifier) → LikeAll h k → Either a a' → Either (and_then a h) (and_then a' k)
+  either_after : {a a' : Answer} (h k : Simplifier) → LikeAll h k → Either a a' → Either (and_then a h) (and_then a' k)
   unfolding and_then
-  either-after {a} h k l (marked m) = marked (remains-after a h k l m)
-  either-after h k l (same (both_give t s s' x)) = (l t).alike s s' x
-  either-after h k l (same (both_refuse why s s' x)) = same (both_refuse why s s' x)
+  either_after {a} h k l (marked m) = marked (remains_after a h k l m)
+  either_after h k l (same (both_give t s s' x)) = (l t).alike s s' x
+  either_after h k l (same (both_refuse why s s' x)) = same (both_refuse why s s' x)
 
   next : {f g : State → Answer} (h k : Simplifier) → Like f g → LikeAll h k → Like (λ s. and_then (f s) h) (λ s. and_then (g s) k)
   next {f} {g} h k first l = record {
-    remains = λ s m. remains-after (f s) h k l (first.remains s m);
-    alike = λ s s' x. either-after h k l (first.alike s s' x);
+    remains = λ s m. remains_after (f s) h k l (first.remains s m);
+    alike = λ s s' x. either_after h k l (first.alike s s' x);
   }
 
   -- ---- storing and keeping
 
-  gives-like : LikeAll gives gives
+  gives_like : LikeAll gives gives
   unfolding marks_after
-  gives-like t = record { remains = λ s m. m; alike = λ s s' x. same (both_give t s s' x) }
+  gives_like t = record { remains = λ s m. m; alike = λ s s' x. same (both_give t s s' x) }
 
-  stores-like : LikeAll intern intern
-  stores-like t = record {
+  stores_like : LikeAll intern intern
+  stores_like t = record {
     remains = λ s m. rw (stores_marks t s) m;
     alike = λ s s' x. same (stores Related t s s' x);
   }
 
-  either-kept : (t : Tree) {a a' : Answer} → Either a a' → Either (keeping t a) (keeping t a')
-  either-kept t {a} (marked m) = marked (rw (keeps_marks t a) m)
-  either-kept t (same b) = same (keeps Related t b)
+  either_kept : (t : Tree) {a a' : Answer} → Either a a' → Either (keeping t a) (keeping t a')
+  either_kept t {a} (marked m) = marked (rw (keeps_marks t a) m)
+  either_kept t (same b) = same (keeps Related t b)
 
-  keeps-like : (t : Tree) {f g : State → Answer} → Like f g → Like (λ s. keeping t (f s)) (λ s. keeping t (g s))
-  keeps-like t {f} {g} l = record {
+  keeps_like : (t : Tree) {f g : State → Answer} → Like f g → Like (λ s. keeping t (f s)) (λ s. keeping t (g s))
+  keeps_like t {f} {g} l = record {
     remains = λ s m. rw (keeps_marks t (f s)) (l.remains s m);
-    alike = λ s s' x. either-kept t (l.alike s s' x);
+    alike = λ s s' x. either_kept t (l.alike s s' x);
   }
 
-  again-like : (σ τ : Simplifier) → LikeAll σ τ → LikeAll (again σ) (again τ)
+  again_like : (σ τ : Simplifier) → LikeAll σ τ → LikeAll (again σ) (again τ)
   unfolding again
-  again-like σ τ l t = next σ τ (stores-like t) l
+  again_like σ τ l t = next σ τ (stores_like t) l
 
   -- ---- a fold: row j is among those that it notes, or it gives the same without it
 
-  notes-beside : (js : List ℕ) (s s' : State) → among j js ≡ false → Beside Related s s' → Beside Related (noting js s) (noting (map (renumbered j) js) s')
+  notes_beside : (js : List ℕ) (s s' : State) → among j js ≡ false → Beside Related s s' → Beside Related (noting js s) (noting (map (renumbered j) js) s')
   unfolding noting
-  notes-beside js s s' n (beside room stored kept a b x) = beside room stored kept _ _ (law.notes js a b n x)
+  notes_beside js s s' n (beside room stored kept a b x) = beside room stored kept _ _ (law.notes js a b n x)
 
-  notes-marked : (js : List ℕ) (s s' : State) → among j js ≡ true → Beside Related s s' → get_or (marks_of (noting js s)) j 0 ≡ 1
+  notes_marked : (js : List ℕ) (s s' : State) → among j js ≡ true → Beside Related s s' → get_or (marks_of (noting js s)) j 0 ≡ 1
   unfolding noting marks_of
-  notes-marked js s s' y (beside room stored kept a b x) = mark_noted js a.marks j (law.inside a b x) ∙ rw y refl
+  notes_marked js s s' y (beside room stored kept a b x) = mark_noted js a.marks j (law.inside a b x) ∙ rw y refl
 
-  folds-like : {v v' : Evaluation} {js js' : List ℕ} → (among j js ≡ false → Same j v v' js js') → Like (λ s. folded_to v (noting js s)) (λ s. folded_to v' (noting js' s))
-  folds-like {v} {v'} {js} {js'} h = record {
+  folds_like : {v v' : Evaluation} {js js' : List ℕ} → (among j js ≡ false → Same j v v' js js') → Like (λ s. folded_to v (noting js s)) (λ s. folded_to v' (noting js' s))
+  folds_like {v} {v'} {js} {js'} h = record {
     remains = λ s m. rw (folds_marks v (noting js s), noted_marks js s) (mark_stays js (marks_of s) j m);
     alike = λ s s' x. go (among j js) refl s s' x;
   }
     where
       go : (b : Bool) → among j js ≡ b → (s s' : State) → Beside Related s s' → Either (folded_to v (noting js s)) (folded_to v' (noting js' s'))
-      go true e s s' x = marked (rw (folds_marks v (noting js s)) (notes-marked js s s' e x))
-      go false e s s' x = let q = h e in rw (q.answer, q.used) (same (folds Related v (noting js s) (noting (map (renumbered j) js) s') (notes-beside js s s' e x)))
+      go true e s s' x = marked (rw (folds_marks v (noting js s)) (notes_marked js s s' e x))
+      go false e s s' x = let q = h e in rw (q.answer, q.used) (same (folds Related v (noting js s) (noting (map (renumbered j) js) s') (notes_beside js s s' e x)))
 
   -- ---- plans
 
   carries : (σ τ : Simplifier) → LikeAll σ τ → (p : Plan) → Like (carry_out R σ p) (carry_out (without_row j R) τ p)
   unfolding carry_out
-  carries σ τ l (the t) = gives-like t
-  carries σ τ l (new t) = stores-like t
-  carries σ τ l (folded op x y) = folds-like (infix_same R j op x y)
-  carries σ τ l (called f x) = folds-like (function_same R j f x)
-  carries σ τ l (negation p) = next _ _ (carries σ τ l p) λ t. stores-like (minus t)
-  carries σ τ l (combined op p q) = next _ _ (carries σ τ l p) λ t. next _ _ (carries σ τ l q) λ u. stores-like (infixed op t u)
+  carries σ τ l (the t) = gives_like t
+  carries σ τ l (new t) = stores_like t
+  carries σ τ l (folded op x y) = folds_like (infix_same R j op x y)
+  carries σ τ l (called f x) = folds_like (function_same R j f x)
+  carries σ τ l (negation p) = next _ _ (carries σ τ l p) λ t. stores_like (minus t)
+  carries σ τ l (combined op p q) = next _ _ (carries σ τ l p) λ t. next _ _ (carries σ τ l q) λ u. stores_like (infixed op t u)
   carries σ τ l (S p) = next σ τ (carries σ τ l p) l
-  carries σ τ l (lesser p q) = next _ _ (carries σ τ l p) λ t. next _ _ (carries σ τ l q) λ u. gives-like (smaller t u)
+  carries σ τ l (lesser p q) = next _ _ (carries σ τ l p) λ t. next _ _ (carries σ τ l q) λ u. gives_like (smaller t u)
   carries σ τ l (affine a x b) =
-      next _ _ (again-like σ τ l a) λ u.
-      next _ _ (again-like σ τ l b) λ v.
-      next _ _ (again-like σ τ l (product u x)) λ w.
-      again-like σ τ l (sum w v)
+      next _ _ (again_like σ τ l a) λ u.
+      next _ _ (again_like σ τ l b) λ v.
+      next _ _ (again_like σ τ l (product u x)) λ w.
+      again_like σ τ l (sum w v)
 
   -- ---- one call of simplify
 
   module _ (σ τ σ' τ' : Simplifier) (l : LikeAll σ τ) (l' : LikeAll σ' τ') where
     performs : (task : Task) → Like (perform R σ σ' task) (perform (without_row j R) τ τ' task)
     unfolding perform simplify_function_call simplify_prefix simplify_infix
-    performs number_of_pi = stores-like _
-    performs (itself t) = gives-like t
+    performs number_of_pi = stores_like _
+    performs (itself t) = gives_like t
     performs (calling f t) = next _ _ (l t) λ x. carries σ' τ' l' (function_plan f x)
     performs (prefixing o t) = next _ _ (l t) λ x. carries σ' τ' l' (prefix_plan o x)
     performs (infixing o t u) = next _ _ (l t) λ x. next _ _ (l u) λ y. carries σ' τ' l' (infix_plan o x y)
 
     resumes : (k : Kept) (limit : ℕ) → LikeAll (resume R σ σ' k limit) (resume (without_row j R) τ τ' k limit)
     unfolding resume
-    resumes (result u) limit t = gives-like u
-    resumes nothing limit t = keeps-like t (performs (task_at limit t))
+    resumes (result u) limit t = gives_like u
+    resumes nothing limit t = keeps_like t (performs (task_at limit t))
 
-    step-alike : (limit : ℕ) (t : Tree) (s s' : State) → Beside Related s s' → Either (step more R σ σ' limit t s) (step more (without_row j R) τ τ' limit t s')
+    step_alike : (limit : ℕ) (t : Tree) (s s' : State) → Beside Related s s' → Either (step more R σ σ' limit t s) (step more (without_row j R) τ τ' limit t s')
     unfolding step recall counted
-    step-alike limit t s s' (beside room stored kept a b x) = (resumes (kept t) limit t).alike _ _ (beside room stored kept _ _ (law.counts a b x))
+    step_alike limit t s s' (beside room stored kept a b x) = (resumes (kept t) limit t).alike _ _ (beside room stored kept _ _ (law.counts a b x))
 
     steps : (limit : ℕ) → LikeAll (step more R σ σ' limit) (step more (without_row j R) τ τ' limit)
     unfolding step
     steps limit t = record {
       remains = λ s m. (resumes (recall t s) limit t).remains (counted more s) (rw (counted_marks more s) m);
-      alike = step-alike limit t;
+      alike = step_alike limit t;
     }
 
   simplifies : (k : ℕ) → LikeAll (simplify_by more R k) (simplify_by more (without_row j R) k)
   unfolding simplify_by
-  simplifies zero = steps gives gives gives gives gives-like gives-like 0
+  simplifies zero = steps gives gives gives gives gives_like gives_like 0
   simplifies (suc zero) =
       steps (simplify_by more R 0) (simplify_by more (without_row j R) 0) (simplify_by more R 0) (simplify_by more (without_row j R) 0) (simplifies zero) (simplifies zero) 1
   simplifies (suc (suc k)) =
       steps (simplify_by more R (suc k)) (simplify_by more (without_row j R) (suc k)) (simplify_by more R k) (simplify_by more (without_row j R) k) (simplifies (suc k)) (simplifies k) (suc (suc k))
 
-  unmarked-same : {a a' : Answer} → get_or (marks_after a) j 0 ≡ 0 → Either a a' → Both Related a a'
-  unmarked-same z (marked m) = absurd (omega (arith, z, m))
-  unmarked-same z (same b) = b
+  unmarked_same : {a a' : Answer} → get_or (marks_after a) j 0 ≡ 0 → Either a a' → Both Related a a'
+  unmarked_same z (marked m) = absurd (omega (arith, z, m))
+  unmarked_same z (same b) = b
 
 -- ---- the same count, and the same rows noted, by the numbers that they then have; row j is none of them
 
@@ -179,9 +179,9 @@ none_noted : (j : ℕ) (marks marks' : List ℕ) (calls : ℕ) → Renumbered j 
 unfolding noted among
 none_noted j marks marks' calls = record { calls = refl; rows = []; other = refl; first = refl; second = refl }
 
-more-noted : {j : ℕ} {marks marks' : List ℕ} (js : List ℕ) {a b : Tally} → among j js ≡ false → Renumbered j marks marks' a b
+more_noted : {j : ℕ} {marks marks' : List ℕ} (js : List ℕ) {a b : Tally} → among j js ≡ false → Renumbered j marks marks' a b
     → Renumbered j marks marks' (record { calls = a.calls; marks = noted js a.marks }) (record { calls = b.calls; marks = noted (map (renumbered j) js) b.marks })
-more-noted {j} {marks} {marks'} js n x = record {
+more_noted {j} {marks} {marks'} js n x = record {
   calls = x.calls;
   rows = x.rows ++ js;
   other = rw (among_append j x.rows js, x.other) n;
@@ -194,7 +194,7 @@ renumbering : (more : ℕ → ℕ) (j : ℕ) (marks marks' : List ℕ) → j < l
 renumbering more j marks marks' h = record {
   inside = λ a b x. rw (x.first, noted_length x.rows marks) h;
   counts = λ a b x. record { calls = ap more x.calls; rows = x.rows; other = x.other; first = x.first; second = x.second };
-  notes = λ js a b n x. more-noted js n x;
+  notes = λ js a b n x. more_noted js n x;
 }
 
 -- a row that is not used can be taken away with no change of the answer, however a call is counted and whatever was marked
@@ -205,7 +205,7 @@ unfolding marks_of with_marks
 simplifies_without more R j limit t marks (state room stored kept tally) h z =
     let law = renumbering more j tally.marks marks h in
     let x = beside room stored kept tally _ (none_noted j tally.marks marks tally.calls) in
-    unmarked-same more R j _ law z ((simplifies more R j _ law limit t).alike _ _ x)
+    unmarked_same more R j _ law z ((simplifies more R j _ law limit t).alike _ _ x)
 
 -- so it is where none was marked before
 pub simplifies_unmarked : (more : ℕ → ℕ) (R : Rows) (j limit : ℕ) (t : Tree) (s : State) → marks_of s ≡ no_marks → j < most_marks → get_or (marks_after (simplify_by more R limit t s)) j 0 ≡ 0

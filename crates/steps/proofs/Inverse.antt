@@ -55,35 +55,35 @@ module _ (f : Fields) (rest : List ℕ) where
   all : List ℕ
   all = bytes_of f ++ rest
 
-  after-1 : drop 1 all ≡ little 1 f.sub ++ (little 2 f.half ++ (little 4 f.word ++ tail f rest))
+  after_1 : drop 1 all ≡ little 1 f.sub ++ (little 2 f.half ++ (little 4 f.word ++ tail f rest))
   unfolding all
-  after-1 = ap (drop 1) (spread f rest) ∙ skip 1 f.opcode _
+  after_1 = ap (drop 1) (spread f rest) ∙ skip 1 f.opcode _
 
-  after-2 : drop 2 all ≡ little 2 f.half ++ (little 4 f.word ++ tail f rest)
-  after-2 = sym (drop-drop 1 1 all) ∙ ap (drop 1) after-1 ∙ skip 1 f.sub _
+  after_2 : drop 2 all ≡ little 2 f.half ++ (little 4 f.word ++ tail f rest)
+  after_2 = sym (drop-drop 1 1 all) ∙ ap (drop 1) after_1 ∙ skip 1 f.sub _
 
-  after-4 : drop 4 all ≡ little 4 f.word ++ tail f rest
-  after-4 = sym (drop-drop 2 2 all) ∙ ap (drop 2) after-2 ∙ skip 2 f.half _
+  after_4 : drop 4 all ≡ little 4 f.word ++ tail f rest
+  after_4 = sym (drop-drop 2 2 all) ∙ ap (drop 2) after_2 ∙ skip 2 f.half _
 
-  after-8 : drop 8 all ≡ tail f rest
-  after-8 = sym (drop-drop 4 4 all) ∙ ap (drop 4) after-4 ∙ skip 4 f.word _
+  after_8 : drop 8 all ≡ tail f rest
+  after_8 = sym (drop-drop 4 4 all) ∙ ap (drop 4) after_4 ∙ skip 4 f.word _
 
-  after-16 : drop 16 all ≡ little 8 f.im ++ rest
-  after-16 = sym (drop-drop 8 8 all) ∙ ap (drop 8) after-8 ∙ skip 8 f.re _
+  after_16 : drop 16 all ≡ little 8 f.im ++ rest
+  after_16 = sym (drop-drop 8 8 all) ∙ ap (drop 8) after_8 ∙ skip 8 f.re _
 
   pub after_step : drop 24 (bytes_of f ++ rest) ≡ rest
   unfolding all
-  after_step = sym (drop-drop 8 16 all) ∙ ap (drop 8) after-16 ∙ skip 8 f.im rest
+  after_step = sym (drop-drop 8 16 all) ∙ ap (drop 8) after_16 ∙ skip 8 f.im rest
 
   pub fields_back : Fits f → fields_in (bytes_of f ++ rest) ≡ f
   unfolding fields_in all
   fields_back l =
       let a = ap (first 1) (spread f rest) ∙ part 1 f.opcode _ l.opcode in
-      let b = ap (first 1) after-1 ∙ part 1 f.sub _ l.sub in
-      let c = ap (first 2) after-2 ∙ part 2 f.half _ l.half in
-      let d = ap (first 4) after-4 ∙ part 4 f.word _ l.word in
-      let x = ap (first 8) after-8 ∙ part 8 f.re _ l.re in
-      let y = ap (first 8) after-16 ∙ part 8 f.im _ l.im in
+      let b = ap (first 1) after_1 ∙ part 1 f.sub _ l.sub in
+      let c = ap (first 2) after_2 ∙ part 2 f.half _ l.half in
+      let d = ap (first 4) after_4 ∙ part 4 f.word _ l.word in
+      let x = ap (first 8) after_8 ∙ part 8 f.re _ l.re in
+      let y = ap (first 8) after_16 ∙ part 8 f.im _ l.im in
       λ i. fields (a i) (b i) (c i) (d i) (x i) (y i)
 
 pub step_fits : (s : Step) → ProperStep s → Fits (fields_of s)

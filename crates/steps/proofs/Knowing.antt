@@ -62,14 +62,14 @@ module _ (last : ℕ) (code : ℕ → ℕ) (known-code : (k : ℕ) → Numbering
     | no l ↦ rw (le-ltb (suc k) (suc last) (omega (arith, l)), lt-ltb 0 (suc k) (omega arith)) (ne_eqb (suc k) (code (suc k)) λ e. l (omega (arith, e, (known-code (suc k)).most)))
   ]
 
-function-within : (k : ℕ) → eqb k (function_code (function_of k)) ≡ within 5 k
-function-within = code_within 5 (λ k. function_code (function_of k)) (λ k. function_known (function_of k)) function_code_back
+function_within : (k : ℕ) → eqb k (function_code (function_of k)) ≡ within 5 k
+function_within = code_within 5 (λ k. function_code (function_of k)) (λ k. function_known (function_of k)) function_code_back
 
-prefix-within : (k : ℕ) → eqb k (prefix_code (prefix_of k)) ≡ within 2 k
-prefix-within = code_within 2 (λ k. prefix_code (prefix_of k)) (λ k. prefix_known (prefix_of k)) prefix_code_back
+prefix_within : (k : ℕ) → eqb k (prefix_code (prefix_of k)) ≡ within 2 k
+prefix_within = code_within 2 (λ k. prefix_code (prefix_of k)) (λ k. prefix_known (prefix_of k)) prefix_code_back
 
-infix-within : (k : ℕ) → eqb k (infix_code (infix_of k)) ≡ within 5 k
-infix-within = code_within 5 (λ k. infix_code (infix_of k)) (λ k. infix_known (infix_of k)) infix_code_back
+infix_within : (k : ℕ) → eqb k (infix_code (infix_of k)) ≡ within 5 k
+infix_within = code_within 5 (λ k. infix_code (infix_of k)) (λ k. infix_known (infix_of k)) infix_code_back
 
 -- ---- each opcode
 
@@ -117,9 +117,9 @@ known_same f = elim (which f.opcode) [
   | two e ↦ rw e refl
   | three e ↦ rw (e, eq-eqb f.half _ refl) refl
   | four e ↦ rw (e, eq-eqb f.half _ refl, eq-eqb f.word _ refl) refl
-  | five e ↦ rw (e, function-within f.sub) refl
-  | six e ↦ rw (e, prefix-within f.sub) refl
-  | seven e ↦ rw (e, infix-within f.sub) refl
+  | five e ↦ rw (e, function_within f.sub) refl
+  | six e ↦ rw (e, prefix_within f.sub) refl
+  | seven e ↦ rw (e, infix_within f.sub) refl
   | other a b c d e g h ↦
       rw (ne_eqb f.opcode 1 a, ne_eqb f.opcode 2 b, ne_eqb f.opcode 3 c, ne_eqb f.opcode 4 d, ne_eqb f.opcode 5 e, ne_eqb f.opcode 6 g, ne_eqb f.opcode 7 h) refl
 ]

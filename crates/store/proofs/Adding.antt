@@ -63,21 +63,21 @@ module _ {m : Memory} {desk : List ℕ} {n : ℕ} (en : n ≡ count desk) {e : E
   w : Within n e
   w = rw en wl
 
-  state-is : state_in l ≡ state_of m n (tally_on desk)
+  state_is : state_in l ≡ state_of m n (tally_on desk)
   unfolding state_in
-  state-is = rw en refl
+  state_is = rw en refl
 
-  key-of-e : key ≡ key_of (class_at m) (fields_of e)
-  key-of-e = k.key_is ∙ ap (key_of (class_at m)) k.f_is
+  key_of_e : key ≡ key_of (class_at m) (fields_of e)
+  key_of_e = k.key_is ∙ ap (key_of (class_at m)) k.f_is
 
-  bucket-among : bucket ≡ bucket_of (room m) key
-  bucket-among = k.bucket_is ∙ ap (λ r. bucket_of r key) k.most_is
+  bucket_among : bucket ≡ bucket_of (room m) key
+  bucket_among = k.bucket_is ∙ ap (λ r. bucket_of r key) k.most_is
 
   walked : Walked m n (fields_of e) (key_of (class_at m) (fields_of e)) node class
-  walked = subst (λ g. Walked m n g (key_of (class_at m) (fields_of e)) node class) k.f_is (subst (λ x. Walked m n f x node class) key-of-e (k.walk h k.key_is (k.head_is ∙ ap (head_for m n) bucket-among)))
+  walked = subst (λ g. Walked m n g (key_of (class_at m) (fields_of e)) node class) k.f_is (subst (λ x. Walked m n f x node class) key_of_e (k.walk h k.key_is (k.head_is ∙ ap (head_for m n) bucket_among)))
 
   pub adds_found : node < n → Built (intern (tree_of m e) (state_in l)) node l l
-  adds_found o = stays hl (rw en at o) (rw state-is (found_answer h e k.sound w walked (tally_on desk) o))
+  adds_found o = stays hl (rw en at o) (rw state_is (found_answer h e k.sound w walked (tally_on desk) o))
 
   module _ (o : n ≤ node) {z y : ℕ} (ez : z ≡ measure_from ◌+◌ (size_at m) e) (ey : y ≡ measure_from max (depth_at m) e) {v : ℕ}
       (ev : v ≡ judged (ltb largest z) (ltb deepest y) (ltb n most)) where
@@ -87,17 +87,17 @@ module _ {m : Memory} {desk : List ℕ} {n : ℕ} (en : n ≡ count desk) {e : E
     depth_is : y ≡ depth (tree_of m e)
     depth_is = ey ∙ measure_grown max (tree_at m) (depth_at m) n e w (λ i l. (h.each i l).deep ∙ depth-measure (tree_at m i)) ∙ sym (depth-measure (tree_of m e))
 
-    verdict-is : v ≡ judged (ltb largest (size (tree_of m e))) (ltb deepest (depth (tree_of m e))) (ltb n (room m))
-    verdict-is = ev ∙ rw (size_is, depth_is, k.most_is) refl
+    verdict_is : v ≡ judged (ltb largest (size (tree_of m e))) (ltb deepest (depth (tree_of m e))) (ltb n (room m))
+    verdict_is = ev ∙ rw (size_is, depth_is, k.most_is) refl
 
     pub adds_refused : (v ≡ 0 → ⊥) → Built (intern (tree_of m e) (state_in l)) (refused_from + v) l l
     adds_refused x =
         refuses hl (omega arith)
         (let q : refused_from + v - refused_from ≡ v = omega arith in
-        rw (q, state-is) (refused_answer h e k.sound w walked (tally_on desk) o desk verdict-is x))
+        rw (q, state_is) (refused_answer h e k.sound w walked (tally_on desk) o desk verdict_is x))
 
     limits : v ≡ 0 → Limits (ltb largest (size (tree_of m e))) (ltb deepest (depth (tree_of m e))) (ltb n (room m))
-    limits x = allowed_limits _ _ _ (sym verdict-is ∙ x)
+    limits x = allowed_limits _ _ _ (sym verdict_is ∙ x)
 
     module _ (x : v ≡ 0) where
       abbrev m' : Memory
@@ -128,7 +128,7 @@ module _ {m : Memory} {desk : List ℕ} {n : ℕ} (en : n ≡ count desk) {e : E
       has_room = ltb-true n (room m) (limits x).has_room
 
       bucket-is-e : bucket ≡ bucket_of (room m) (key_of (class_at m) (fields_of e))
-      bucket-is-e = bucket-among ∙ ap (bucket_of (room m)) key-of-e
+      bucket-is-e = bucket_among ∙ ap (bucket_of (room m)) key_of_e
 
       sound-new : Held.Sound l'
       unfolding with_count
@@ -145,7 +145,7 @@ module _ {m : Memory} {desk : List ℕ} {n : ℕ} (en : n ≡ count desk) {e : E
       built-new =
           let more : n < count (with_count desk (n + 1)) = rw count-new (omega arith) in
           record {
-            answer = seen_node n l' (small {l = l'} sound-new more) ∙ rw (state-new, state-is) (new_answer h e k.sound w walked (tally_on desk) o not_big not_deep has_room bucket bucket-is-e z y size_is depth_is);
+            answer = seen_node n l' (small {l = l'} sound-new more) ∙ rw (state-new, state_is) (new_answer h e k.sound w walked (tally_on desk) o not_big not_deep has_room bucket bucket-is-e z y size_is depth_is);
             inside = λ _. more;
             step = record {
               sound = sound-new;

@@ -22,8 +22,8 @@ module _ (d : List ℕ) (o a b p q : ℕ) where
   abbrev written : List ℕ
   written = set (set (set (set (set d 2 o) 3 a) 4 b) 5 p) 6 q
 
-  length-written : length written ≡ length d
-  length-written =
+  length_written : length written ≡ length d
+  length_written =
       length-set (set (set (set (set d 2 o) 3 a) 4 b) 5 p) 6 q ∙ length-set (set (set (set d 2 o) 3 a) 4 b) 5 p ∙ length-set (set (set d 2 o) 3 a) 4 b
       ∙ length-set (set d 2 o) 3 a ∙ length-set d 2 o
 
@@ -67,15 +67,15 @@ module _ (d : List ℕ) (o a b p q : ℕ) where
     w6 : get_or written 6 0 ≡ q
     w6 = get_or-set_same (set (set (set (set d 2 o) 3 a) 4 b) 5 p) 6 q 0 l5
 
-  alike-written : Alike d written
+  alike_written : Alike d written
   unfolding count calls_on
-  alike-written = record {
+  alike_written = record {
     counted = other 0 (λ x. absurd (omega arith)) (λ x. absurd (omega arith)) (λ x. absurd (omega arith)) (λ x. absurd (omega arith)) (λ x. absurd (omega arith));
     called = other 1 (λ x. absurd (omega arith)) (λ x. absurd (omega arith)) (λ x. absurd (omega arith)) (λ x. absurd (omega arith)) (λ x. absurd (omega arith));
     marked =
         marks_below (set (set (set (set d 2 o) 3 a) 4 b) 5 p) 6 q (omega arith) ∙ marks_below (set (set (set d 2 o) 3 a) 4 b) 5 p (omega arith)
         ∙ marks_below (set (set d 2 o) 3 a) 4 b (omega arith) ∙ marks_below (set d 2 o) 3 a (omega arith) ∙ marks_below d 2 o (omega arith);
-    long = length-written;
+    long = length_written;
   }
 
 number_back : (z : Complex) → Fitting z → of_parts (bits_of z.re) (bits_of z.im) ≡ z
@@ -97,7 +97,7 @@ asked d operation x y fx fy = record {
       let ex = (λ i. of_parts (w3 d o a b p q h i) (w4 d o a b p q h i)) ∙ number_back x fx in
       let ey = (λ i. of_parts (w5 d o a b p q h i) (w6 d o a b p q h i)) ∙ number_back y fy in
       λ i. Refusal.Need (e i) (ex i) (ey i);
-  alike = alike-written d (operation_code operation) (bits_of x.re) (bits_of x.im) (bits_of y.re) (bits_of y.im);
+  alike = alike_written d (operation_code operation) (bits_of x.re) (bits_of x.im) (bits_of y.re) (bits_of y.im);
 }
 
 -- the calls that were counted

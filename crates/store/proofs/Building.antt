@@ -110,9 +110,9 @@ module _ (m : Memory) {desk desk' : List ℕ} where
     };
   }
 
-  state-on : Alike desk desk' → state_in (of m desk') ≡ state_in (of m desk)
+  state_on : Alike desk desk' → state_in (of m desk') ≡ state_in (of m desk)
   unfolding state_in
-  state-on x = λ i. state_of m (x.counted i) (record { calls = x.called i; marks = x.marked i })
+  state_on x = λ i. state_of m (x.counted i) (record { calls = x.called i; marks = x.marked i })
 
   pub state_noted : {first second : ℕ} → Notes first second desk desk' → state_in (of m desk') ≡ noting (numbered first ++ numbered second) (state_in (of m desk))
   unfolding state_in noting
@@ -129,4 +129,4 @@ unfolding refusal_on
 asks m a h =
     on_desk m a.alike.counted
     (turned (sym a.answer)
-    (refuses (sound_on m a.alike.counted a.alike.long h) (omega arith) (λ i. refused (a.need h.long i) (state-on m a.alike i))))
+    (refuses (sound_on m a.alike.counted a.alike.long h) (omega arith) (λ i. refused (a.need h.long i) (state_on m a.alike i))))

@@ -72,13 +72,13 @@ allowed_limits false true roomy x = absurd (omega (arith, x))
 allowed_limits false false true x = record { not_big = refl; not_deep = refl; has_room = refl }
 allowed_limits false false false x = absurd (omega (arith, x))
 
-latest-here : (f : ℕ → ℕ) (b n : ℕ) → f n ≡ b → latest f b (n + 1) ≡ n + 1
+latest_here : (f : ℕ → ℕ) (b n : ℕ) → f n ≡ b → latest f b (n + 1) ≡ n + 1
 unfolding latest
-latest-here f b n e = rw (add-one, eq-eqb (f n) b e) refl
+latest_here f b n e = rw (add-one, eq-eqb (f n) b e) refl
 
-latest-past : (f : ℕ → ℕ) (b n : ℕ) → (f n ≡ b → ⊥) → latest f b (n + 1) ≡ latest f b n
+latest_past : (f : ℕ → ℕ) (b n : ℕ) → (f n ≡ b → ⊥) → latest f b (n + 1) ≡ latest f b n
 unfolding latest
-latest-past f b n q = rw (add-one, ne_eqb (f n) b q) refl
+latest_past f b n q = rw (add-one, ne_eqb (f n) b q) refl
 
 module _ {m : Memory} {n : ℕ} (h : Holds m n) (e : Expression) (s : Sound e) (w : Within n e) {node class : ℕ}
     (q : Walked m n (fields_of e) (key_of (class_at m) (fields_of e)) node class) (tally : Tally) where
@@ -170,9 +170,9 @@ module _ {m : Memory} {n : ℕ} (h : Holds m n) (e : Expression) (s : Sound e) (
             let d : k ≡ n → ⊥ = λ x. omega arith in
             rw (get_or-set_other m.tag n k (tag_of f.code z y bucket) 0 d, get_or-set_other m.first n k f.first 0 d, get_or-set_other m.second n k f.second 0 d) refl
 
-        fields-new : fields_at m' n ≡ f
+        fields_new : fields_at m' n ≡ f
         unfolding fields_on
-        fields-new =
+        fields_new =
             let a = ap code_in (get_or-set_same m.tag n (tag_of f.code z y bucket) 0 (omega (arith, there.tags))) ∙ word.code in
             let b = get_or-set_same m.first n f.first 0 (omega (arith, there.firsts)) in
             let c = get_or-set_same m.second n f.second 0 (omega (arith, there.seconds)) in
@@ -218,7 +218,7 @@ module _ {m : Memory} {n : ℕ} (h : Holds m n) (e : Expression) (s : Sound e) (
 
         expression-new : expression_at m' n ≡ e
         unfolding expression_at
-        expression-new = ap expression_of fields-new ∙ back e s
+        expression-new = ap expression_of fields_new ∙ back e s
 
         trees-old : trees m' n ≡ ts
         trees-old = trees_alike m m' n fields-old
@@ -262,7 +262,7 @@ module _ {m : Memory} {n : ℕ} (h : Holds m n) (e : Expression) (s : Sound e) (
 
         bucket-new : bucket_at m' n ≡ bucket
         unfolding bucket_at key_at
-        bucket-new = rw (room-new, fields-new, key_alike (class_at m') (class_at m) n e w λ i o. (rest i o).class) (sym bucket_is)
+        bucket-new = rw (room-new, fields_new, key_alike (class_at m') (class_at m) n e w λ i o. (rest i o).class) (sym bucket_is)
 
         right-old : (k : ℕ) → k < n → Right m' (n + 1) k
         right-old k l =
@@ -283,7 +283,7 @@ module _ {m : Memory} {n : ℕ} (h : Holds m n) (e : Expression) (s : Sound e) (
 
         right_new : Right m' (n + 1) n
         right_new = record {
-          formed = rw expression-new fields-new;
+          formed = rw expression-new fields_new;
           within = rw expression-new w;
           sized = rw tree-new (size-new ∙ ez);
           deep = rw tree-new (depth-new ∙ ey);
@@ -313,8 +313,8 @@ module _ {m : Memory} {n : ℕ} (h : Holds m n) (e : Expression) (s : Sound e) (
 
         -- a bucket that the new node does not join has the head that it had: a number that was none of the nodes may be the new node's now,
         -- but that one is at home elsewhere
-        head-same : (b : ℕ) → (b ≡ bucket → ⊥) → head_for m' (n + 1) b ≡ head_for m n b
-        head-same b x = go (head_at m b) refl (dec_lt n (head_at m b)) (ℕ_discrete (head_at m b) (n + 1))
+        head_same : (b : ℕ) → (b ≡ bucket → ⊥) → head_for m' (n + 1) b ≡ head_for m n b
+        head_same b x = go (head_at m b) refl (dec_lt n (head_at m b)) (ℕ_discrete (head_at m b) (n + 1))
           where
             here : head_at m b ≡ head_at m' b
             here = sym (head_old m.link n class head bucket ln lb sn sc sh b x)
@@ -336,12 +336,12 @@ module _ {m : Memory} {n : ℕ} (h : Holds m n) (e : Expression) (s : Sound e) (
             go (yes x) =
                 rw x
                 (sym (head_home m' (n + 1) bucket (sym (head_new m.link n class head bucket ln lb sn sc sh)) (omega arith) (ap (home_at m') (omega arith) ∙ home-new))
-                ∙ sym (latest-here (bucket_at m') bucket n bucket-new))
+                ∙ sym (latest_here (bucket_at m') bucket n bucket-new))
             go (no x) =
-                head-same b x
+                head_same b x
                 ∙ h.heads b (rw (sym room-new) l)
                 ∙ latest_alike (bucket_at m) (bucket_at m') b n (λ i o. sym (bucket-old i o))
-                ∙ sym (latest-past (bucket_at m') b n λ v. x (sym v ∙ bucket-new))
+                ∙ sym (latest_past (bucket_at m') b n λ v. x (sym v ∙ bucket-new))
 
         pub holds_new : Holds m' (n + 1)
         holds_new = record {

@@ -39,18 +39,18 @@ compares m a b p q n h l o =
 
 -- ---- what is kept for a node's tree
 
-recall-is : {m : Memory} {n : ℕ} (h : Holds m n) (e : ℕ) (tally : Tally) → e < n → recall (tree_at m e) (state_of m n tally) ≡ linked m (kept_at m (class_at m e))
+recall_is : {m : Memory} {n : ℕ} (h : Holds m n) (e : ℕ) (tally : Tally) → e < n → recall (tree_at m e) (state_of m n tally) ≡ linked m (kept_at m (class_at m e))
 unfolding recall kept_for
-recall-is {m} {n} h e tally l =
+recall_is {m} {n} h e tally l =
     let c = (h.each e l).classed in
     rw (sym c, lt-ltb (class_at m e) n (omega (arith, class_inside h e l))) refl
 
-class-below : {m : Memory} {n : ℕ} (h : Holds m n) (e : ℕ) → e < n → class_at m e < n
-class-below h e l = omega (arith, class_inside h e l)
+class_below : {m : Memory} {n : ℕ} (h : Holds m n) (e : ℕ) → e < n → class_at m e < n
+class_below h e l = omega (arith, class_inside h e l)
 
 pub recalls : (m : Memory) (e : ℕ) {x : ℕ} → x ≡ kept_at m (class_at m e) → Recalls m e x
 recalls m e {x} p n tally h l =
-    (omega (arith, p, (h.each (class_at m e) (class-below h e l)).kept), rw p (sym (recall-is h e tally l)))
+    (omega (arith, p, (h.each (class_at m e) (class_below h e l)).kept), rw p (sym (recall_is h e tally l)))
 
 -- ---- a result is kept
 
@@ -68,7 +68,7 @@ module _ (tag first second link : List ℕ) (n : ℕ) (h : Holds (columns tag fi
   m' = columns tag first second link'
 
   lc : c < n
-  lc = class-below h e le
+  lc = class_below h e le
 
   inside : c < length link
   inside = omega (arith, lc, (room_each m n h.fits).links)
@@ -76,53 +76,53 @@ module _ (tag first second link : List ℕ) (n : ℕ) (h : Holds (columns tag fi
   small : r < 4096
   small = omega (arith, lr, (room_each m n h.fits).most)
 
-  tree-same : (k : ℕ) → tree_at m' k ≡ tree_at m k
-  tree-same k = tree_alike m m' (suc k) (λ i l. refl) k (omega arith)
+  tree_same : (k : ℕ) → tree_at m' k ≡ tree_at m k
+  tree_same k = tree_alike m m' (suc k) (λ i l. refl) k (omega arith)
 
-  trees-same : trees m' n ≡ trees m n
-  trees-same = trees_alike m m' n λ i l. refl
+  trees_same : trees m' n ≡ trees m n
+  trees_same = trees_alike m m' n λ i l. refl
 
-  room-same : room m' ≡ room m
+  room_same : room m' ≡ room m
   unfolding room
-  room-same = rw (length-set link c (with_kept (get_or link c 0) r)) refl
+  room_same = rw (length-set link c (with_kept (get_or link c 0) r)) refl
 
   bucket_same : (k : ℕ) → bucket_at m' k ≡ bucket_at m k
   unfolding bucket_at key_at
-  bucket_same k = let f : class_at m' ≡ class_at m = fun_ext (keeping_class link c r inside small) in rw (room-same, f) refl
+  bucket_same k = let f : class_at m' ≡ class_at m = fun_ext (keeping_class link c r inside small) in rw (room_same, f) refl
 
-  kept-within : (k : ℕ) → k < n → kept_at m' k ≤ n
-  kept-within k l = go (ℕ_discrete k c)
+  kept_within : (k : ℕ) → k < n → kept_at m' k ≤ n
+  kept_within k l = go (ℕ_discrete k c)
     where
       go : Dec (k ≡ c) → kept_at m' k ≤ n
       go (yes p) = omega (arith, ap (kept_at m') p, keeping_new link c r inside small)
       go (no q) = omega (arith, keeping_old link c r inside small k q, (h.each k l).kept)
 
-  head-same : (b : ℕ) → head_for m' n b ≡ head_for m n b
+  head_same : (b : ℕ) → head_for m' n b ≡ head_for m n b
   unfolding head_for
-  head-same b = rw (keeping_head link c r inside small b) refl
+  head_same b = rw (keeping_head link c r inside small b) refl
 
   holds_kept : Holds m' n
   unfolding expression_at
   holds_kept = record {
-    fits = rw room-same h.fits;
+    fits = rw room_same h.fits;
     each = λ k l.
         let g = h.each k l in
         record {
           formed = g.formed;
           within = g.within;
-          sized = rw (tree-same k) g.sized;
-          deep = rw (tree-same k) g.deep;
-          limited = rw (tree-same k) g.limited;
+          sized = rw (tree_same k) g.sized;
+          deep = rw (tree_same k) g.deep;
+          limited = rw (tree_same k) g.limited;
           home = g.home ∙ sym (bucket_same k);
-          classed = rw (tree-same k, trees-same) (keeping_class link c r inside small k ∙ g.classed);
-          kept = kept-within k l;
+          classed = rw (tree_same k, trees_same) (keeping_class link c r inside small k ∙ g.classed);
+          kept = kept_within k l;
           next =
               keeping_next link c r inside small k ∙ g.next ∙ ap (λ b. latest (bucket_at m) b k) (sym (bucket_same k))
               ∙ latest_alike (bucket_at m) (bucket_at m') _ k λ i o. sym (bucket_same i);
         };
-    apart = λ i j l o p. h.apart i j l o (sym (tree-same i) ∙ p ∙ tree-same j);
+    apart = λ i j l o p. h.apart i j l o (sym (tree_same i) ∙ p ∙ tree_same j);
     heads = λ b l.
-        head-same b ∙ h.heads b (rw (sym room-same) l) ∙ latest_alike (bucket_at m) (bucket_at m') b n λ i o. sym (bucket_same i);
+        head_same b ∙ h.heads b (rw (sym room_same) l) ∙ latest_alike (bucket_at m) (bucket_at m') b n λ i o. sym (bucket_same i);
   }
 
   abbrev te : Tree
@@ -140,21 +140,21 @@ module _ (tag first second link : List ℕ) (n : ℕ) (h : Holds (columns tag fi
   kept_here v true x =
       let p : place (equal v) (trees m n) ≡ c = class_of_tree h v te (equal_sym te v (rw x tt)) ∙ sym (h.each e le).classed in
       let k : kept_at m' c ≡ suc r = omega (arith, keeping_new link c r inside small) in
-      rw (trees-same, p, lt-ltb c n lc, k) (ap result (tree-same r))
+      rw (trees_same, p, lt-ltb c n lc, k) (ap result (tree_same r))
   kept_here v false x = go (dec_lt (place (equal v) (trees m n)) n)
     where
       go : Dec (place (equal v) (trees m n) < n) → kept_for m' n v ≡ kept_for m n v
       go (yes l) =
           let p = place (equal v) (trees m n) in
-          rw (trees-same, lt-ltb p n l, keeping_old link c r inside small p (other_place v l λ t. subst T x t))
-          (linked_alike m m' n (kept_at m p) (λ i o. tree-same i) (h.each p l).kept)
-      go (no q) = rw (trees-same, le-ltb (place (equal v) (trees m n)) n (omega (arith, q))) refl
+          rw (trees_same, lt-ltb p n l, keeping_old link c r inside small p (other_place v l λ t. subst T x t))
+          (linked_alike m m' n (kept_at m p) (λ i o. tree_same i) (h.each p l).kept)
+      go (no q) = rw (trees_same, le-ltb (place (equal v) (trees m n)) n (omega (arith, q))) refl
 
-  kept-answer : (tally : Tally) → gives (tree_at m' r) (state_of m' n tally) ≡ gives (tree_at m r) (keep te (tree_at m r) (state_of m n tally))
+  kept_answer : (tally : Tally) → gives (tree_at m' r) (state_of m' n tally) ≡ gives (tree_at m r) (keep te (tree_at m r) (state_of m n tally))
   unfolding keep
-  kept-answer tally =
+  kept_answer tally =
       let f : kept_for m' n ≡ (λ v. cond (equal te v) (result (tree_at m r)) (kept_for m n v)) = fun_ext λ v. kept_here v (equal te v) refl in
-      rw (tree-same r, room-same, trees-same, f) refl
+      rw (tree_same r, room_same, trees_same, f) refl
 
 pub keeps : (m : Memory) (e r : ℕ) {m' : Memory} → m' ≡ kept_by m e r → Keeps m m' e r
 unfolding state_in
@@ -164,12 +164,12 @@ keeps m e r {m'} x desk h le lr =
     let s : Sound (record { rows = kept_by m e r; desk = desk }) = record { holds = k; long = h.long } in
     rw x
     (record {
-      answer = seen_node r (record { rows = kept_by m e r; desk = desk }) (number_small h lr) ∙ kept-answer m.tag m.first m.second m.link n h.holds e r le lr (tally_on desk);
+      answer = seen_node r (record { rows = kept_by m e r; desk = desk }) (number_small h lr) ∙ kept_answer m.tag m.first m.second m.link n h.holds e r le lr (tally_on desk);
       inside = λ _. lr;
       step = record {
         sound = s;
         grew = omega arith;
-        stays = λ i o. tree-same m.tag m.first m.second m.link n h.holds e r le lr i;
+        stays = λ i o. tree_same m.tag m.first m.second m.link n h.holds e r le lr i;
         traced = λ i o. refl;
         untraced = λ i a o. absurd (omega (arith, a, o));
       };

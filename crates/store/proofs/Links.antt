@@ -36,24 +36,24 @@ module _ (link : List ℕ) (n class head bucket : ℕ) (ln : n < length link) (l
   abbrev own : List ℕ
   own = with_own link n class head
 
-  length-own : length own ≡ length link
+  length_own : length own ≡ length link
   unfolding with_own
-  length-own = length-set link n _
+  length_own = length-set link n _
 
   pub length_joined : length (joined link n class head bucket) ≡ length link
   unfolding joined
-  length_joined = length-set own (bucket / 2) _ ∙ length-own
+  length_joined = length-set own (bucket / 2) _ ∙ length_own
 
   word : Linked (with_node (get_or link n 0) class head) (get_or link n 0 % 8192) (get_or link n 0 / 8192 % 8192) class 0 head
   word = with_node_lem (get_or link n 0) class head sc sh
 
-  own-word : get_or own n 0 ≡ with_node (get_or link n 0) class head
+  own_word : get_or own n 0 ≡ with_node (get_or link n 0) class head
   unfolding with_own
-  own-word = get_or-set_same link n _ 0 ln
+  own_word = get_or-set_same link n _ 0 ln
 
-  own-head : (b : ℕ) → head_on own b ≡ head_on link b
+  own_head : (b : ℕ) → head_on own b ≡ head_on link b
   unfolding with_own
-  own-head = same_heads link n _ ln word.even word.odd
+  own_head = same_heads link n _ ln word.even word.odd
 
   own_old : (k : ℕ) → (k ≡ n → ⊥) → Rest link own k
   unfolding with_own
@@ -71,11 +71,11 @@ module _ (link : List ℕ) (n class head bucket : ℕ) (ln : n < length link) (l
 
   set_word : get_or (joined link n class head bucket) c 0 ≡ with_half even old n
   unfolding joined
-  set_word = get_or-set_same own c _ 0 (rw length-own lb)
+  set_word = get_or-set_same own c _ 0 (rw length_own lb)
 
-  joined-rest : (k : ℕ) → Rest own (joined link n class head bucket) k
+  joined_rest : (k : ℕ) → Rest own (joined link n class head bucket) k
   unfolding joined class_on kept_on next_on
-  joined-rest k = go (ℕ_discrete k c)
+  joined_rest k = go (ℕ_discrete k c)
     where
       go : Dec (k ≡ c) → Rest own (joined link n class head bucket) k
       go (yes p) =
@@ -87,25 +87,25 @@ module _ (link : List ℕ) (n class head bucket : ℕ) (ln : n < length link) (l
 
   pub rest_old : (k : ℕ) → (k ≡ n → ⊥) → Rest link (joined link n class head bucket) k
   rest_old k q =
-      let a = joined-rest k in
+      let a = joined_rest k in
       let b = own_old k q in
       record { class = a.class ∙ b.class; kept = a.kept ∙ b.kept; next = a.next ∙ b.next }
 
   pub class_new : class_on (joined link n class head bucket) n ≡ class
   unfolding class_on
-  class_new = (joined-rest n).class ∙ ap class_in own-word ∙ word.class
+  class_new = (joined_rest n).class ∙ ap class_in own_word ∙ word.class
 
   pub kept_new : kept_on (joined link n class head bucket) n ≡ 0
   unfolding kept_on
-  kept_new = (joined-rest n).kept ∙ ap kept_in own-word ∙ word.kept
+  kept_new = (joined_rest n).kept ∙ ap kept_in own_word ∙ word.kept
 
   pub next_new : next_on (joined link n class head bucket) n ≡ head
   unfolding next_on
-  next_new = (joined-rest n).next ∙ ap next_in own-word ∙ word.next
+  next_new = (joined_rest n).next ∙ ap next_in own_word ∙ word.next
 
   pub head_old : (b : ℕ) → (b ≡ bucket → ⊥) → head_on (joined link n class head bucket) b ≡ head_on link b
   unfolding joined head_on
-  head_old b q = go (ℕ_discrete (b / 2) c) ∙ own-head b
+  head_old b q = go (ℕ_discrete (b / 2) c) ∙ own_head b
     where
       go : Dec (b / 2 ≡ c) → head_in b (get_or (joined link n class head bucket) (b / 2) 0) ≡ head_in b (get_or own (b / 2) 0)
       go (yes p) = rw (p, set_word) (half_other even (eqb (b % 2) 0) old n sn (siblings b bucket p q))

@@ -16,25 +16,25 @@ marks_below d k v l = drop-set-lt marks_from d k v l
 
 -- ---- one row
 
-count-marked : (d : List ℕ) (row : ℕ) → count (with_mark d row) ≡ count d
+count_marked : (d : List ℕ) (row : ℕ) → count (with_mark d row) ≡ count d
 unfolding count with_mark
-count-marked d zero = refl
-count-marked d (suc j) = get_or-set_other d (marks_from + j) 0 1 0 λ x. absurd (omega arith)
+count_marked d zero = refl
+count_marked d (suc j) = get_or-set_other d (marks_from + j) 0 1 0 λ x. absurd (omega arith)
 
-calls-marked : (d : List ℕ) (row : ℕ) → calls_on (with_mark d row) ≡ calls_on d
+calls_marked : (d : List ℕ) (row : ℕ) → calls_on (with_mark d row) ≡ calls_on d
 unfolding calls_on with_mark
-calls-marked d zero = refl
-calls-marked d (suc j) = get_or-set_other d (marks_from + j) 1 1 0 λ x. absurd (omega arith)
+calls_marked d zero = refl
+calls_marked d (suc j) = get_or-set_other d (marks_from + j) 1 1 0 λ x. absurd (omega arith)
 
 length_marked : (d : List ℕ) (row : ℕ) → length (with_mark d row) ≡ length d
 unfolding with_mark
 length_marked d zero = refl
 length_marked d (suc j) = length-set d (marks_from + j) 1
 
-marks-marked : (d : List ℕ) (row : ℕ) → marks_on (with_mark d row) ≡ noted (numbered row) (marks_on d)
+marks_marked : (d : List ℕ) (row : ℕ) → marks_on (with_mark d row) ≡ noted (numbered row) (marks_on d)
 unfolding marks_on with_mark noted numbered
-marks-marked d zero = refl
-marks-marked d (suc j) = drop-set-add marks_from d j 1
+marks_marked d zero = refl
+marks_marked d (suc j) = drop-set-add marks_from d j 1
 
 -- the word of a row
 pub marks_word : (d : List ℕ) (row : ℕ) {word : ℕ} {d' : List ℕ} → (row ≡ 0 → ⊥) → word ≡ marks_from + (row - 1) → d' ≡ set d word 1 → d' ≡ with_mark d row
@@ -52,8 +52,8 @@ marks_none d (suc j) {word} n l o x = x ∙ set_out d word 1 o ∙ sym (set_out 
 
 pub notes : (d : List ℕ) (first second : ℕ) {d₁ d₂ : List ℕ} → d₁ ≡ with_mark d first → d₂ ≡ with_mark d₁ second → Notes first second d d₂
 notes d first second e f = rw (f, e) (record {
-  counted = count-marked (with_mark d first) second ∙ count-marked d first;
-  called = calls-marked (with_mark d first) second ∙ calls-marked d first;
+  counted = count_marked (with_mark d first) second ∙ count_marked d first;
+  called = calls_marked (with_mark d first) second ∙ calls_marked d first;
   long = length_marked (with_mark d first) second ∙ length_marked d first;
-  marked = marks-marked (with_mark d first) second ∙ ap (noted (numbered second)) (marks-marked d first) ∙ sym (noted_append (numbered first) (numbered second) (marks_on d));
+  marked = marks_marked (with_mark d first) second ∙ ap (noted (numbered second)) (marks_marked d first) ∙ sym (noted_append (numbered first) (numbered second) (marks_on d));
 })

@@ -88,17 +88,17 @@ unfolding and_then
 complete_then (gives t σ) next c n = n t σ
 complete_then (refused why σ) next c n = c
 
-complete-if : (b : Bool) (x y : Answer) → Complete x → Complete y → Complete (cond b x y)
-complete-if true x y p q = p
-complete-if false x y p q = q
+complete_if : (b : Bool) (x y : Answer) → Complete x → Complete y → Complete (cond b x y)
+complete_if true x y p q = p
+complete_if false x y p q = q
 
 pub complete_stored : (t : Tree) (σ : State) → Complete (intern t σ)
 unfolding intern
 complete_stored t (state room stored kept tally) =
-    complete-if (among stored t) _ _ tt
-    (complete-if (ltb largest (size t)) _ _ (λ e. (let z : ◌≡◌ {A = ℕ} 0 1 = cc in omega arith))
-    (complete-if (ltb deepest (depth t)) _ _ (λ e. (let z : ◌≡◌ {A = ℕ} 0 1 = cc in omega arith))
-    (complete-if (ltb (length stored) room) _ _ tt (λ e. (let z : ◌≡◌ {A = ℕ} 0 1 = cc in omega arith)))))
+    complete_if (among stored t) _ _ tt
+    (complete_if (ltb largest (size t)) _ _ (λ e. (let z : ◌≡◌ {A = ℕ} 0 1 = cc in omega arith))
+    (complete_if (ltb deepest (depth t)) _ _ (λ e. (let z : ◌≡◌ {A = ℕ} 0 1 = cc in omega arith))
+    (complete_if (ltb (length stored) room) _ _ tt (λ e. (let z : ◌≡◌ {A = ℕ} 0 1 = cc in omega arith)))))
 
 pub one_added : (e : Expression) {l l₁ l₂ : Lent} (r r' : ℕ) → Sound l → Within (count l.desk) e → Adds e r l l₁ → Adds e r' l l₂ → r ≡ r'
 one_added e {l} r r' s w p q = one_word r r' (complete_stored (tree_of l.rows e) (state_in l)) (p s w) (q s w)
@@ -161,33 +161,33 @@ abbrev pub OfFour : List (List ℕ) → Type 0
 OfFour [] = Unit {0}
 OfFour (row ∷ rows) = (length row ≡ 4) × OfFour rows
 
-four-words : (row : List ℕ) → length row ≡ 4 → row ≡ get_or row 0 0 ∷ get_or row 1 0 ∷ get_or row 2 0 ∷ get_or row 3 0 ∷ []
-four-words [] e = absurd (omega (arith, e))
-four-words (a ∷ []) e = absurd (omega (arith, e))
-four-words (a ∷ b ∷ []) e = absurd (omega (arith, e))
-four-words (a ∷ b ∷ c ∷ []) e = absurd (omega (arith, e))
-four-words (a ∷ b ∷ c ∷ d ∷ []) e = refl
-four-words (a ∷ b ∷ c ∷ d ∷ f ∷ row) e = absurd (omega (arith, e))
+four_words : (row : List ℕ) → length row ≡ 4 → row ≡ get_or row 0 0 ∷ get_or row 1 0 ∷ get_or row 2 0 ∷ get_or row 3 0 ∷ []
+four_words [] e = absurd (omega (arith, e))
+four_words (a ∷ []) e = absurd (omega (arith, e))
+four_words (a ∷ b ∷ []) e = absurd (omega (arith, e))
+four_words (a ∷ b ∷ c ∷ []) e = absurd (omega (arith, e))
+four_words (a ∷ b ∷ c ∷ d ∷ []) e = refl
+four_words (a ∷ b ∷ c ∷ d ∷ f ∷ row) e = absurd (omega (arith, e))
 
-by-columns : (rows rows' : List (List ℕ)) → OfFour rows → OfFour rows' → ((k : ℕ) → k < 4 → column k rows ≡ column k rows') → rows ≡ rows'
+by_columns : (rows rows' : List (List ℕ)) → OfFour rows → OfFour rows' → ((k : ℕ) → k < 4 → column k rows ≡ column k rows') → rows ≡ rows'
 unfolding column
-by-columns [] [] f g e = refl
-by-columns [] (row ∷ rows) f g e = let c = e 0 (omega arith) in let z : ◌≡◌ {A = ℕ} 0 1 = cc in absurd (omega arith)
-by-columns (row ∷ rows) [] f g e = let c = e 0 (omega arith) in let z : ◌≡◌ {A = ℕ} 0 1 = cc in absurd (omega arith)
-by-columns (row ∷ rows) (row' ∷ rows') f g e =
+by_columns [] [] f g e = refl
+by_columns [] (row ∷ rows) f g e = let c = e 0 (omega arith) in let z : ◌≡◌ {A = ℕ} 0 1 = cc in absurd (omega arith)
+by_columns (row ∷ rows) [] f g e = let c = e 0 (omega arith) in let z : ◌≡◌ {A = ℕ} 0 1 = cc in absurd (omega arith)
+by_columns (row ∷ rows) (row' ∷ rows') f g e =
     let word : (k : ℕ) → k < 4 → get_or row k 0 ≡ get_or row' k 0 = λ k l. (let c = e k l in cc) in
-    let rest = by-columns rows rows' f.1 g.1 λ k l. (let c = e k l in cc) in
+    let rest = by_columns rows rows' f.1 g.1 λ k l. (let c = e k l in cc) in
     let a = word 0 (omega arith) in
     let b = word 1 (omega arith) in
     let c = word 2 (omega arith) in
     let d = word 3 (omega arith) in
-    let p = four-words row f.0 in
-    let q = four-words row' g.0 in
+    let p = four_words row f.0 in
+    let q = four_words row' g.0 in
     cc
 
 pub one_memory : (rows rows' : List (List ℕ)) → OfFour rows → OfFour rows' → memory rows ≡ memory rows' → rows ≡ rows'
 unfolding memory
-one_memory rows rows' f g e = by-columns rows rows' f g λ k l. each k l
+one_memory rows rows' f g e = by_columns rows rows' f g λ k l. each k l
   where
     each : (k : ℕ) → k < 4 → column k rows ≡ column k rows'
     each zero l = ap (λ m. m.link) e

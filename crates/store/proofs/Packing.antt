@@ -81,8 +81,8 @@ with_kept_lem w k l = record { even = omega arith; odd = omega arith; class = om
 
 -- ---- the head of one of two buckets
 
-eqb-ne : (a b : ℕ) → eqb a b ≡ false → a ≡ b → ⊥
-eqb-ne a b e d = subst T e (subst (λ x. T (eqb a x)) d (eqb_refl a))
+eqb_ne : (a b : ℕ) → eqb a b ≡ false → a ≡ b → ⊥
+eqb_ne a b e d = subst T e (subst (λ x. T (eqb a x)) d (eqb_refl a))
 
 abbrev half : Bool → ℕ → ℕ
 half b w = cond b (w % 8192) (w / 8192 % 8192)
@@ -123,4 +123,4 @@ siblings a b e q p = go (eqb (a % 2) 0) (eqb (b % 2) 0) refl refl p
     go true true x y z = q (let u = eqb→eq (a % 2) 0 (rw x tt) in let v = eqb→eq (b % 2) 0 (rw y tt) in omega arith)
     go true false x y z = subst T z tt
     go false true x y z = subst T (sym z) tt
-    go false false x y z = q (let u = eqb-ne (a % 2) 0 x in let v = eqb-ne (b % 2) 0 y in omega arith)
+    go false false x y z = q (let u = eqb_ne (a % 2) 0 x in let v = eqb_ne (b % 2) 0 y in omega arith)

@@ -8,10 +8,10 @@ use lib.ListN.{length, get_or, set, length-map, get_or-map, get_or-eq_default}
 use lib.Seq.{set-get_or, set_out}
 use Rattle.store.specs.Memory.{Memory, columns, column, memory, with_row, with_link, room}
 
-map-set : {A B : Type 0} (f : A → B) (l : List A) (i : ℕ) (a : A) → map f (set l i a) ≡ set (map f l) i (f a)
-map-set f [] i a = refl
-map-set f (x ∷ l) zero a = refl
-map-set f (x ∷ l) (suc i) a = ap (λ z. f x ∷ z) (map-set f l i a)
+map_set : {A B : Type 0} (f : A → B) (l : List A) (i : ℕ) (a : A) → map f (set l i a) ≡ set (map f l) i (f a)
+map_set f [] i a = refl
+map_set f (x ∷ l) zero a = refl
+map_set f (x ∷ l) (suc i) a = ap (λ z. f x ∷ z) (map_set f l i a)
 
 -- what is read of a row
 word_is : (s : List (List ℕ)) (i k : ℕ) → get_or (get_or s i []) k 0 ≡ get_or (column k s) i 0
@@ -21,13 +21,13 @@ word_is s i k = sym (get_or-map (λ (r : List ℕ). get_or r k 0) s i [])
 word_out : (s : List (List ℕ)) (i k : ℕ) → length s ≤ i → ◌≡◌ {A = ℕ} 0 (get_or (column k s) i 0)
 word_out s i k h = sym (sym (word_is s i k) ∙ ap (λ (r : List ℕ). get_or r k 0) (get_or-eq_default s [] h))
 
-length-column : (k : ℕ) (s : List (List ℕ)) → length (column k s) ≡ length s
+length_column : (k : ℕ) (s : List (List ℕ)) → length (column k s) ≡ length s
 unfolding column
-length-column k s = length-map s λ (r : List ℕ). get_or r k 0
+length_column k s = length-map s λ (r : List ℕ). get_or r k 0
 
-column-set : (k : ℕ) (s : List (List ℕ)) (i : ℕ) (r : List ℕ) → column k (set s i r) ≡ set (column k s) i (get_or r k 0)
+column_set : (k : ℕ) (s : List (List ℕ)) (i : ℕ) (r : List ℕ) → column k (set s i r) ≡ set (column k s) i (get_or r k 0)
 unfolding column
-column-set k s i r = map-set (λ (r : List ℕ). get_or r k 0) s i r
+column_set k s i r = map_set (λ (r : List ℕ). get_or r k 0) s i r
 
 -- each word of node i, where there is one and where there is none
 module _ (s : List (List ℕ)) (i : ℕ) where
@@ -68,7 +68,7 @@ module _ (s : List (List ℕ)) (i : ℕ) where
 module _ (s : List (List ℕ)) (i v a b l : ℕ) where
   pub written : memory (set s i (l ∷ v ∷ a ∷ b ∷ [])) ≡ with_row (memory s) i v a b l
   unfolding memory
-  written = rw (column-set 0 s i (l ∷ v ∷ a ∷ b ∷ []), column-set 1 s i (l ∷ v ∷ a ∷ b ∷ []), column-set 2 s i (l ∷ v ∷ a ∷ b ∷ []), column-set 3 s i (l ∷ v ∷ a ∷ b ∷ [])) refl
+  written = rw (column_set 0 s i (l ∷ v ∷ a ∷ b ∷ []), column_set 1 s i (l ∷ v ∷ a ∷ b ∷ []), column_set 2 s i (l ∷ v ∷ a ∷ b ∷ []), column_set 3 s i (l ∷ v ∷ a ∷ b ∷ [])) refl
 
   pub not_written : length s ≤ i → memory s ≡ with_row (memory s) i v a b l
   not_written h = ap memory (sym (set_out s i (l ∷ v ∷ a ∷ b ∷ []) h)) ∙ written
@@ -84,4 +84,4 @@ retagged m i t = rw (set-get_or m.first i 0, set-get_or m.second i 0, set-get_or
 -- "The store's capacity is the shortest work slice, at most 4096"
 pub room_is : (s : List (List ℕ)) → min (length s) 4096 ≡ room (memory s)
 unfolding memory room
-room_is s = rw (length-column 0 s, length-column 1 s, length-column 2 s, length-column 3 s) (omega arith)
+room_is s = rw (length_column 0 s, length_column 1 s, length_column 2 s, length_column 3 s) (omega arith)

@@ -78,40 +78,40 @@ module _ {m : Memory} {n : ℕ} (h : Holds m n) where
     abbrev t : Tree
     t = tree_of m e
 
-    tree-of-fields : (k : ℕ) → k < n → fields_at m k ≡ fields_of e → tree_at m k ≡ t
+    tree_of_fields : (k : ℕ) → k < n → fields_at m k ≡ fields_of e → tree_at m k ≡ t
     unfolding expression_at
-    tree-of-fields k l p = tree_is k l ∙ ap (tree_of m) (ap expression_of p ∙ back e s)
+    tree_of_fields k l p = tree_is k l ∙ ap (tree_of m) (ap expression_of p ∙ back e s)
 
-    fields-of-tree : (k : ℕ) → k < n → tree_at m k ≡ t → fields_at m k ≡ fields_of e
-    fields-of-tree k l p =
+    fields_of_tree : (k : ℕ) → k < n → tree_at m k ≡ t → fields_at m k ≡ fields_of e
+    fields_of_tree k l p =
         (h.each k l).formed ∙ same_fields (λ u. place (identical u) ts) (tree_at m) n own_place (expression_at m k) e (within k l) w (sym (tree_is k l) ∙ p)
 
-    key-at : (k : ℕ) → k < n → key_at m k ≡ key_of (class_at m) (fields_of (expression_at m k))
+    key_at_lem : (k : ℕ) → k < n → key_at m k ≡ key_of (class_at m) (fields_of (expression_at m k))
     unfolding key_at
-    key-at k l = ap (key_of (class_at m)) (h.each k l).formed
+    key_at_lem k l = ap (key_of (class_at m)) (h.each k l).formed
 
-    equal-of-key : (k : ℕ) → k < n → key_at m k ≡ key_of (class_at m) (fields_of e) → T (equal t (tree_at m k))
-    equal-of-key k l p =
+    equal_of_key : (k : ℕ) → k < n → key_at m k ≡ key_of (class_at m) (fields_of e) → T (equal t (tree_at m k))
+    equal_of_key k l p =
         subst (λ u. T (equal t u)) (sym (tree_is k l))
-        (key_equal (class_at m) (tree_at m) n class_equal e (expression_at m k) s (sound k) w (within k l) (sym p ∙ key-at k l))
+        (key_equal (class_at m) (tree_at m) n class_equal e (expression_at m k) s (sound k) w (within k l) (sym p ∙ key_at_lem k l))
 
-    key-of-equal : (k : ℕ) → k < n → T (equal t (tree_at m k)) → key_at m k ≡ key_of (class_at m) (fields_of e)
-    key-of-equal k l p =
-        key-at k l
+    key_of_equal : (k : ℕ) → k < n → T (equal t (tree_at m k)) → key_at m k ≡ key_of (class_at m) (fields_of e)
+    key_of_equal k l p =
+        key_at_lem k l
         ∙ sym
         (same_key (class_at m) (λ u. place (equal u) ts) (tree_at m) n (λ a o. sym (h.each a o).classed) class_of_tree e (expression_at m k) w (within k l)
         (proper_of m e s) (proper_of m (expression_at m k) (sound k)) (subst (λ u. T (equal t u)) (tree_is k l) p))
 
     module _ {node class : ℕ} (q : Walked m n (fields_of e) (key_of (class_at m) (fields_of e)) node class) where
       pub found_tree : node < n → tree_at m node ≡ t
-      found_tree l = tree-of-fields node l (q.own l)
+      found_tree l = tree_of_fields node l (q.own l)
 
       pub found_place : node < n → place (identical t) ts ≡ node
       found_place l = ap (λ u. place (identical u) ts) (sym (found_tree l)) ∙ own_place node l
 
       -- a tree that is nowhere
       pub nowhere : n ≤ node → (k : ℕ) → k < n → tree_at m k ≡ t → ⊥
-      nowhere o k l p = q.none o k l (fields-of-tree k l p)
+      nowhere o k l p = q.none o k l (fields_of_tree k l p)
 
       pub no_place : n ≤ node → place (identical t) ts ≡ n
       no_place o =
@@ -124,11 +124,11 @@ module _ {m : Memory} {n : ℕ} (h : Holds m n) where
       found_class o = go (q.kinship o)
         where
           go : Kinship m n (key_of (class_at m) (fields_of e)) 0 class → class ≡ place (equal t) ts
-          go (kin j l p c) = c ∙ (h.each j l).classed ∙ sym (class_of_tree t (tree_at m j) (equal-of-key j l p))
+          go (kin j l p c) = c ∙ (h.each j l).classed ∙ sym (class_of_tree t (tree_at m j) (equal_of_key j l p))
           go (stranger c f) =
               c
               ∙ sym
               (place_none (equal t) ts (λ k l p.
               let lk : k < n = omega (arith, l, length_trees m n) in
-              f k (omega arith) lk (key-of-equal k lk (subst (λ u. T (equal t u)) (trees_at m n k lk) p)))
+              f k (omega arith) lk (key_of_equal k lk (subst (λ u. T (equal t u)) (trees_at m n k lk) p)))
               ∙ length_trees m n)

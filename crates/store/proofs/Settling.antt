@@ -37,16 +37,16 @@ Numeral (Expression.FunctionCall f a) = ⊥
 Numeral (Expression.Prefix o a) = ⊥
 Numeral (Expression.Infix o a b) = ⊥
 
-numeral-kind : (k o a b : ℕ) → Numeral (expression_as k o a b) → k ≡ 1
+numeral_kind : (k o a b : ℕ) → Numeral (expression_as k o a b) → k ≡ 1
 unfolding Numeral expression_as
-numeral-kind zero o a b h = absurd h
-numeral-kind (suc zero) o a b h = refl
-numeral-kind (suc (suc zero)) o a b h = absurd h
-numeral-kind (suc (suc (suc zero))) o a b h = absurd h
-numeral-kind (suc (suc (suc (suc zero)))) o a b h = absurd h
-numeral-kind (suc (suc (suc (suc (suc zero))))) o a b h = absurd h
-numeral-kind (suc (suc (suc (suc (suc (suc zero)))))) o a b h = absurd h
-numeral-kind (suc (suc (suc (suc (suc (suc (suc k))))))) o a b h = absurd h
+numeral_kind zero o a b h = absurd h
+numeral_kind (suc zero) o a b h = refl
+numeral_kind (suc (suc zero)) o a b h = absurd h
+numeral_kind (suc (suc (suc zero))) o a b h = absurd h
+numeral_kind (suc (suc (suc (suc zero)))) o a b h = absurd h
+numeral_kind (suc (suc (suc (suc (suc zero))))) o a b h = absurd h
+numeral_kind (suc (suc (suc (suc (suc (suc zero)))))) o a b h = absurd h
+numeral_kind (suc (suc (suc (suc (suc (suc (suc k))))))) o a b h = absurd h
 
 as_number : (k o a b : ℕ) → k ≡ 1 → expression_as k o a b ≡ Expression.Number (of_parts a b)
 unfolding expression_as
@@ -58,7 +58,7 @@ tells_number m i t e = go (eqb (t % 8) 1) refl
   where
     go : (b : Bool) → eqb (t % 8) 1 ≡ b → Tells b (IsNumber m i)
     go true q = let k = eqb→eq (t % 8) 1 (rw q tt) in as_number _ _ _ _ (omega (arith, k, e))
-    go false q = λ h. (let k = numeral-kind _ _ _ _ (subst Numeral (sym h) tt) in let j : t % 8 ≡ 1 = omega (arith, k, e) in subst T q (subst (λ x. T (eqb x 1)) (sym j) tt))
+    go false q = λ h. (let k = numeral_kind _ _ _ _ (subst Numeral (sym h) tt) in let j : t % 8 ≡ 1 = omega (arith, k, e) in subst T q (subst (λ x. T (eqb x 1)) (sym j) tt))
 
 pub number_read : (m : Memory) (i : ℕ) {a b : ℕ} {x y : Float} → a ≡ get_or m.first i 0 → x ≡ double_of a → b ≡ get_or m.second i 0 → y ≡ double_of b
     → ◌≡◌ {A = Complex} (record { re = x; im = y }) (number_at m i)
@@ -121,29 +121,29 @@ module _ {A : Type 0} {F : Tree → A} (c : Compositional F) where
         let b = double_back z.im f.im in
         ap expression_of there ∙ λ i. Expression.Number (record { re = a i; im = b i })
 
-    other-there : (k : ℕ) → (k ≡ node → ⊥) → expression_at (with_number m node z) k ≡ expression_at m k
+    other_there : (k : ℕ) → (k ≡ node → ⊥) → expression_at (with_number m node z) k ≡ expression_at m k
     unfolding expression_at
-    other-there k d = ap expression_of (elsewhere k d)
+    other_there k d = ap expression_of (elsewhere k d)
 
     pub put_is_number : IsNumber (with_number m node z) node
     unfolding NumberIn expression_of expression_as
     put_is_number = subst NumberIn (sym there) refl
 
-    still-within : (k : ℕ) → k < n → Within k (expression_at (with_number m node z) k)
-    still-within k i = go (ℕ_discrete k node)
+    still_within : (k : ℕ) → k < n → Within k (expression_at (with_number m node z) k)
+    still_within k i = go (ℕ_discrete k node)
       where
         go : Dec (k ≡ node) → Within k (expression_at (with_number m node z) k)
         go (yes e) = rw (e, number_there) tt
-        go (no d) = rw (other-there k d) (o.within k i)
+        go (no d) = rw (other_there k d) (o.within k i)
 
-    still-ordered : Ordered (with_number m node z) n
+    still_ordered : Ordered (with_number m node z) n
     unfolding room
-    still-ordered = record { fits = rw (length-set m.tag node 1, length-set m.first node (bits_of z.re), length-set m.second node (bits_of z.im), length-set m.link node 0) o.fits; within = still-within }
+    still_ordered = record { fits = rw (length-set m.tag node 1, length-set m.first node (bits_of z.re), length-set m.second node (bits_of z.im), length-set m.link node 0) o.fits; within = still_within }
 
     module _ (p : F (leaf (number z)) ≡ F (tree_at m node)) where
       at-node : F (tree_at (with_number m node z) node) ≡ F (tree_at m node)
       unfolding grown
-      at-node = ap F (tree_own (with_number m node z) node (still-within node l) ∙ ap (tree_of (with_number m node z)) number_there) ∙ p
+      at-node = ap F (tree_own (with_number m node z) node (still_within node l) ∙ ap (tree_of (with_number m node z)) number_there) ∙ p
 
       still-same : (b k : ℕ) → k < b → k < n → F (tree_at (with_number m node z) k) ≡ F (tree_at m k)
       still-same zero k h i = absurd (omega arith)
@@ -152,12 +152,12 @@ module _ {A : Type 0} {F : Tree → A} (c : Compositional F) where
           go : ((j : ℕ) → j < k → F (tree_at (with_number m node z) j) ≡ F (tree_at m j)) → Dec (k ≡ node) → F (tree_at (with_number m node z) k) ≡ F (tree_at m k)
           go below (yes e) = rw e at-node
           go below (no d) =
-              ap F (tree_own (with_number m node z) k (still-within k i) ∙ ap (tree_of (with_number m node z)) (other-there k d))
+              ap F (tree_own (with_number m node z) k (still_within k i) ∙ ap (tree_of (with_number m node z)) (other_there k d))
               ∙ grown_same (tree_at (with_number m node z)) (tree_at m) k (expression_at m k) (o.within k i) below
               ∙ ap F (sym (tree_own m k (o.within k i)))
 
       pub settles : Settling F n m (with_number m node z)
-      settles = record { ordered = still-ordered; same = λ k i. still-same n k i i; rows = rows }
+      settles = record { ordered = still_ordered; same = λ k i. still-same n k i i; rows = rows }
         where
           rows : (k : ℕ) → IsNumber (with_number m node z) k ⊎ (fields_at (with_number m node z) k ≡ fields_at m k)
           rows k = go (ℕ_discrete k node)

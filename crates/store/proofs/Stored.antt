@@ -110,20 +110,20 @@ linked_above m (suc k) q = ap (λ i. result (tree_at m i)) (omega arith)
 
 -- ---- one answer: what is built determines the answer, whichever way what is lent was left
 
-tree-in : Answer → Tree
-tree-in (gives t σ) = t
-tree-in (refused why σ) = leaf pi
+tree_in_lem : Answer → Tree
+tree_in_lem (gives t σ) = t
+tree_in_lem (refused why σ) = leaf pi
 
-state-in : Answer → State
-state-in (gives t σ) = σ
-state-in (refused why σ) = σ
+state_in_lem : Answer → State
+state_in_lem (gives t σ) = σ
+state_in_lem (refused why σ) = σ
 
-stored-in : State → List Tree
-stored-in (state room stored kept tally) = stored
+stored_in_lem : State → List Tree
+stored_in_lem (state room stored kept tally) = stored
 
-why-in : Answer → Refusal
-why-in (gives t σ) = Refusal.Incomplete
-why-in (refused why σ) = why
+why_in : Answer → Refusal
+why_in (gives t σ) = Refusal.Incomplete
+why_in (refused why σ) = why
 
 Given : Answer → Type 0
 Given (gives t σ) = Unit {0}
@@ -134,9 +134,9 @@ node_given : {want : Answer} {r : ℕ} {l l' : Lent} → Built want r l l' → r
 unfolding Given
 node_given {r = r} {l' = l'} p x = subst Given (sym (seen_node r l' x) ∙ p.answer) tt
 
-refused-not : {want : Answer} {r : ℕ} {l l' : Lent} → Built want r l l' → refused_from ≤ r → Given want → ⊥
+refused_not : {want : Answer} {r : ℕ} {l l' : Lent} → Built want r l l' → refused_from ≤ r → Given want → ⊥
 unfolding Given
-refused-not {r = r} {l' = l'} p x g = subst Given (sym p.answer ∙ seen_refused r l' x) g
+refused_not {r = r} {l' = l'} p x g = subst Given (sym p.answer ∙ seen_refused r l' x) g
 
 -- two answers: they are one node, or one refusal; and the state is one
 pub record OneAnswer (r r' : ℕ) (l l' : Lent) : Type 0 where
@@ -144,31 +144,31 @@ pub record OneAnswer (r r' : ℕ) (l l' : Lent) : Type 0 where
   pub refusal : refused_from ≤ r → (refused_from ≤ r') × (refusal_on (r - refused_from) l.desk ≡ refusal_on (r' - refused_from) l'.desk)
   pub state : state_in l ≡ state_in l'
 
-seen-state : (r : ℕ) (l : Lent) → state-in (seen r l) ≡ state_in l
-unfolding state-in
-seen-state r l = go (dec_lt r refused_from)
+seen_state : (r : ℕ) (l : Lent) → state_in_lem (seen r l) ≡ state_in l
+unfolding state_in_lem
+seen_state r l = go (dec_lt r refused_from)
   where
-    go : Dec (r < refused_from) → state-in (seen r l) ≡ state_in l
-    go (yes x) = ap state-in (seen_node r l x)
-    go (no x) = ap state-in (seen_refused r l (omega (arith, x)))
+    go : Dec (r < refused_from) → state_in_lem (seen r l) ≡ state_in l
+    go (yes x) = ap state_in_lem (seen_node r l x)
+    go (no x) = ap state_in_lem (seen_refused r l (omega (arith, x)))
 
 pub one_answer : {want : Answer} {l l₁ l₂ : Lent} (r r' : ℕ) → Built want r l l₁ → Built want r' l l₂ → OneAnswer r r' l₁ l₂
-unfolding tree-in state-in stored-in why-in state_in
+unfolding tree_in_lem state_in_lem stored_in_lem why_in state_in
 one_answer {want} {l₁ = l₁} {l₂ = l₂} r r' p q = record {
   node = λ x.
       let y : r' < refused_from = go (dec_lt r' refused_from) (node_given p x) in
       let e = sym (seen_node r l₁ x) ∙ p.answer ∙ sym q.answer ∙ seen_node r' l₂ y in
-      sym (own_place p.step.sound.holds r (p.inside x)) ∙ (λ v. place (identical (tree-in (e v))) (stored-in (state-in (e v)))) ∙ own_place q.step.sound.holds r' (q.inside y);
+      sym (own_place p.step.sound.holds r (p.inside x)) ∙ (λ v. place (identical (tree_in_lem (e v))) (stored_in_lem (state_in_lem (e v)))) ∙ own_place q.step.sound.holds r' (q.inside y);
   refusal = λ x.
       let y : refused_from ≤ r' = back (dec_lt r' refused_from) x in
-      (y, ap why-in (sym (seen_refused r l₁ x) ∙ p.answer ∙ sym q.answer ∙ seen_refused r' l₂ y));
-  state = sym (seen-state r l₁) ∙ ap state-in (p.answer ∙ sym q.answer) ∙ seen-state r' l₂;
+      (y, ap why_in (sym (seen_refused r l₁ x) ∙ p.answer ∙ sym q.answer ∙ seen_refused r' l₂ y));
+  state = sym (seen_state r l₁) ∙ ap state_in_lem (p.answer ∙ sym q.answer) ∙ seen_state r' l₂;
 }
   where
     go : Dec (r' < refused_from) → Given want → r' < refused_from
     go (yes y) g = y
-    go (no y) g = absurd (refused-not q (omega (arith, y)) g)
+    go (no y) g = absurd (refused_not q (omega (arith, y)) g)
 
     back : Dec (r' < refused_from) → refused_from ≤ r → refused_from ≤ r'
-    back (yes y) x = absurd (refused-not p x (node_given q y))
+    back (yes y) x = absurd (refused_not p x (node_given q y))
     back (no y) x = omega (arith, y)

@@ -66,13 +66,13 @@ module _ {m m' : Memory} (r : Relabelled m m') where
   lower : (k : ℕ) → SameLower (get_or m'.tag k 0) (get_or m.tag k 0)
   lower k = same_lower (get_or m'.tag k 0) (get_or m.tag k 0) (r.low k)
 
-  room-same : room m' ≡ room m
+  room_same : room m' ≡ room m
   unfolding room
-  room-same = rw (r.tags, r.first, r.second, r.link) refl
+  room_same = rw (r.tags, r.first, r.second, r.link) refl
 
-  fields-same : (k : ℕ) → fields_at m' k ≡ fields_at m k
+  fields_same : (k : ℕ) → fields_at m' k ≡ fields_at m k
   unfolding fields_on
-  fields-same k = λ i. fields ((lower k).code i) (get_or (r.first i) k 0) (get_or (r.second i) k 0)
+  fields_same k = λ i. fields ((lower k).code i) (get_or (r.first i) k 0) (get_or (r.second i) k 0)
 
   home_same : (k : ℕ) → home_at m' k ≡ home_at m k
   unfolding home_on
@@ -80,17 +80,17 @@ module _ {m m' : Memory} (r : Relabelled m m') where
 
   bucket_same : (k : ℕ) → bucket_at m' k ≡ bucket_at m k
   unfolding bucket_at key_at
-  bucket_same k = rw (room-same, fields-same k, r.link) refl
+  bucket_same k = rw (room_same, fields_same k, r.link) refl
 
-  head-same : (n b : ℕ) → head_for m' n b ≡ head_for m n b
+  head_same : (n b : ℕ) → head_for m' n b ≡ head_for m n b
   unfolding head_for
-  head-same n b = rw (r.link, home_same (head_at m b - 1)) refl
+  head_same n b = rw (r.link, home_same (head_at m b - 1)) refl
 
   pub same_but : SameBut m m'
   unfolding size_on depth_on
   same_but = record {
-    roomy = room-same;
-    fields = fields-same;
+    roomy = room_same;
+    fields = fields_same;
     size = λ k. (lower k).size;
     depth = λ k. (lower k).depth;
     home = home_same;
@@ -99,25 +99,25 @@ module _ {m m' : Memory} (r : Relabelled m m') where
     kept = λ k. ap (λ ws. kept_on ws k) r.link;
     next = λ k. ap (λ ws. next_on ws k) r.link;
     bucket = bucket_same;
-    head = head-same;
+    head = head_same;
   }
 
   -- the trees
   pub trees_relabelled : (n : ℕ) → trees m' n ≡ trees m n
-  trees_relabelled n = trees_alike m m' n λ k l. fields-same k
+  trees_relabelled n = trees_alike m m' n λ k l. fields_same k
 
   pub tree_relabelled : (k : ℕ) → tree_at m' k ≡ tree_at m k
-  tree_relabelled k = tree_alike m m' (suc k) (λ i l. fields-same i) k (omega arith)
+  tree_relabelled k = tree_alike m m' (suc k) (λ i l. fields_same i) k (omega arith)
 
-  expression-same : (k : ℕ) → expression_at m' k ≡ expression_at m k
+  expression_same : (k : ℕ) → expression_at m' k ≡ expression_at m k
   unfolding expression_at
-  expression-same k = rw (fields-same k) refl
+  expression_same k = rw (fields_same k) refl
 
   -- a store is held
   right_same : {n k : ℕ} → Right m n k → Right m' n k
   right_same {n} {k} g = record {
-    formed = rw (expression-same k) (fields-same k ∙ g.formed);
-    within = rw (expression-same k) g.within;
+    formed = rw (expression_same k) (fields_same k ∙ g.formed);
+    within = rw (expression_same k) g.within;
     sized = rw (tree_relabelled k) (same_but.size k ∙ g.sized);
     deep = rw (tree_relabelled k) (same_but.depth k ∙ g.deep);
     limited = rw (tree_relabelled k) g.limited;
@@ -138,14 +138,14 @@ module _ {m m' : Memory} (r : Relabelled m m') where
 
 pub holds_relabelled : {m m' : Memory} {n : ℕ} → Relabelled m m' → Holds m n → Holds m' n
 holds_relabelled {m} {m'} {n} r h = record {
-  fits = rw (room-same r) h.fits;
+  fits = rw (room_same r) h.fits;
   each = λ k l. right_same r (h.each k l);
   apart = λ i j l o p. h.apart i j l o (sym (tree_relabelled r i) ∙ p ∙ tree_relabelled r j);
-  heads = λ b l. head-same r n b ∙ h.heads b (rw (sym (room-same r)) l) ∙ latest_alike (bucket_at m) (bucket_at m') b n λ i o. sym (bucket_same r i);
+  heads = λ b l. head_same r n b ∙ h.heads b (rw (sym (room_same r)) l) ∙ latest_alike (bucket_at m) (bucket_at m') b n λ i o. sym (bucket_same r i);
 }
 
 pub state_relabelled : {m m' : Memory} → Relabelled m m' → (n : ℕ) (tally : Tally) → state_of m' n tally ≡ state_of m n tally
-state_relabelled r n tally = rw (room-same r, trees_relabelled r n, kept_same r n) refl
+state_relabelled r n tally = rw (room_same r, trees_relabelled r n, kept_same r n) refl
 
 -- ---- the first line of a tree
 
@@ -171,8 +171,8 @@ module _ (given : List Tree) (s t : Tree) where
   length_more : length more ≡ suc (length given)
   length_more = length-append given (s ∷ []) ∙ omega arith
 
-  origin-kept : place (identical t) given < length given → origin_of more t ≡ origin_of given t
-  origin-kept l =
+  origin_kept : place (identical t) given < length given → origin_of more t ≡ origin_of given t
+  origin_kept l =
       let p = place_old (identical t) given (s ∷ []) l in
       origin_some more t (omega (arith, p, l, length_more)) ∙ ap suc p ∙ sym (origin_some given t l)
 
@@ -181,11 +181,11 @@ module _ (given : List Tree) (s t : Tree) where
       let p : place (identical t) more ≡ length given = place_new (identical t) given s e ∙ rw (is_true (identical t s) h) refl in
       origin_some more t (omega (arith, p, length_more)) ∙ ap suc p
 
-  origin-other : (T (identical t s) → ⊥) → origin_of more t ≡ origin_of given t
-  origin-other q = go (dec_lt (place (identical t) given) (length given))
+  origin_other : (T (identical t s) → ⊥) → origin_of more t ≡ origin_of given t
+  origin_other q = go (dec_lt (place (identical t) given) (length given))
     where
       go : Dec (place (identical t) given < length given) → origin_of more t ≡ origin_of given t
-      go (yes l) = origin-kept l
+      go (yes l) = origin_kept l
       go (no x) =
           let e : place (identical t) given ≡ length given = omega (arith, x, place_within (identical t) given) in
           let p : place (identical t) more ≡ length more = place_new (identical t) given s e ∙ rw (untruth (identical t s) q, length_more) refl in
@@ -234,13 +234,13 @@ module _ (m : Memory) (i line : ℕ) where
   unfolding origin_on
   mark_other k q = ap origin_in (get_or-set_other m.tag i k _ 0 q)
 
-  mark-kept : i < length m.tag → (origin_at m i ≡ 0 → ⊥) → origin_at (with_mark m i line) i ≡ origin_at m i
+  mark_kept : i < length m.tag → (origin_at m i ≡ 0 → ⊥) → origin_at (with_mark m i line) i ≡ origin_at m i
   unfolding origin_on
-  mark-kept l q = ap origin_in (get_or-set_same m.tag i _ 0 l ∙ first_stays (get_or m.tag i 0) line q)
+  mark_kept l q = ap origin_in (get_or-set_same m.tag i _ 0 l ∙ first_stays (get_or m.tag i 0) line q)
 
-  mark-new : i < length m.tag → line < 1024 → origin_at m i ≡ 0 → origin_at (with_mark m i line) i ≡ suc line
+  mark_new : i < length m.tag → line < 1024 → origin_at m i ≡ 0 → origin_at (with_mark m i line) i ≡ suc line
   unfolding origin_on
-  mark-new l b e = ap origin_in (get_or-set_same m.tag i _ 0 l) ∙ first_origin (get_or m.tag i 0) line e b ∙ omega arith
+  mark_new l b e = ap origin_in (get_or-set_same m.tag i _ 0 l) ∙ first_origin (get_or m.tag i 0) line e b ∙ omega arith
 
 module _ {given : List Tree} {l : Lent} (i : ℕ) (h : Sound l) (x : Traced given l) (o : i < count l.desk) (few : length given < 1024) where
   abbrev t : Tree
@@ -256,38 +256,38 @@ module _ {given : List Tree} {l : Lent} (i : ℕ) (h : Sound l) (x : Traced give
       go : Dec (place (identical t) given < length given) → origin_at (with_mark l.rows i (length given)) i ≡ origin_of (given ++ (t ∷ [])) t
       go (yes b) =
           let e = x.origins i o ∙ origin_some given t b in
-          mark-kept l.rows i (length given) inside (λ z. omega (arith, e, z)) ∙ x.origins i o ∙ sym (origin-kept given t t b)
+          mark_kept l.rows i (length given) inside (λ z. omega (arith, e, z)) ∙ x.origins i o ∙ sym (origin_kept given t t b)
       go (no b) =
           let e : place (identical t) given ≡ length given = omega (arith, b, place_within (identical t) given) in
-          mark-new l.rows i (length given) inside few (x.origins i o ∙ origin_none given t e) ∙ sym (origin_new given t t e (identical_refl t))
+          mark_new l.rows i (length given) inside few (x.origins i o ∙ origin_none given t e) ∙ sym (origin_new given t t e (identical_refl t))
 
   -- another has another tree
   origin_there : (k : ℕ) → k < count l.desk → (k ≡ i → ⊥) → origin_at (with_mark l.rows i (length given)) k ≡ origin_of (given ++ (t ∷ [])) (tree_in l k)
   origin_there k b q =
       mark_other l.rows i (length given) k q ∙ x.origins k b
-      ∙ sym (origin-other given t (tree_in l k) λ z. q (h.holds.apart k i b o (identical_same _ _ (proper_at l.rows k) (proper_at l.rows i) z)))
+      ∙ sym (origin_other given t (tree_in l k) λ z. q (h.holds.apart k i b o (identical_same _ _ (proper_at l.rows k) (proper_at l.rows i) z)))
 
-  origin-each : (k : ℕ) → k < count l.desk → Dec (k ≡ i) → origin_at (with_mark l.rows i (length given)) k ≡ origin_of (given ++ (t ∷ [])) (tree_in l k)
-  origin-each k b (yes e) = rw e origin_here
-  origin-each k b (no q) = origin_there k b q
+  origin_each : (k : ℕ) → k < count l.desk → Dec (k ≡ i) → origin_at (with_mark l.rows i (length given)) k ≡ origin_of (given ++ (t ∷ [])) (tree_in l k)
+  origin_each k b (yes e) = rw e origin_here
+  origin_each k b (no q) = origin_there k b q
 
-  tree-marked : (k : ℕ) → tree_in (marked l i (length given)) k ≡ tree_in l k
-  tree-marked = tree_relabelled (relabelled_mark l.rows i (length given))
+  tree_marked : (k : ℕ) → tree_in (marked l i (length given)) k ≡ tree_in l k
+  tree_marked = tree_relabelled (relabelled_mark l.rows i (length given))
 
-  stands-each : (j : ℕ) → j < length (given ++ (t ∷ [])) → Dec (j < length given) → Stands (marked l i (length given)) (get_or (given ++ (t ∷ [])) j (leaf pi))
-  stands-each j b (yes a) =
+  stands_each : (j : ℕ) → j < length (given ++ (t ∷ [])) → Dec (j < length given) → Stands (marked l i (length given)) (get_or (given ++ (t ∷ [])) j (leaf pi))
+  stands_each j b (yes a) =
       let s = x.stands j a in
-      record { node = s.node; inside = s.inside; is = tree-marked s.node ∙ s.is ∙ sym (get_or-append given (t ∷ []) (leaf pi) j a) }
-  stands-each j b (no a) =
+      record { node = s.node; inside = s.inside; is = tree_marked s.node ∙ s.is ∙ sym (get_or-append given (t ∷ []) (leaf pi) j a) }
+  stands_each j b (no a) =
       let e : length given ≡ j = omega (arith, a, b, length_more given t t) in
-      record { node = i; inside = o; is = tree-marked i ∙ sym (get_or_at given t [] (leaf pi) j e) }
+      record { node = i; inside = o; is = tree_marked i ∙ sym (get_or_at given t [] (leaf pi) j e) }
 
 pub traced_mark : {given : List Tree} {l : Lent} (i : ℕ) → Sound l → Traced given l → i < count l.desk → length given < 1024
     → Traced (given ++ (tree_in l i ∷ [])) (record { rows = with_mark l.rows i (length given); desk = l.desk })
 traced_mark {given} {l} i h x o few = record {
   few = omega (arith, few, length_more given (tree_in l i) (tree_in l i));
-  origins = λ k b. origin-each i h x o few k b (ℕ_discrete k i) ∙ ap (origin_of (given ++ (tree_in l i ∷ []))) (sym (tree-marked i h x o few k));
-  stands = λ j b. stands-each i h x o few j b (dec_lt j (length given));
+  origins = λ k b. origin_each i h x o few k b (ℕ_discrete k i) ∙ ap (origin_of (given ++ (tree_in l i ∷ []))) (sym (tree_marked i h x o few k));
+  stands = λ j b. stands_each i h x o few j b (dec_lt j (length given));
 }
 
 -- ---- where a store starts there is no line

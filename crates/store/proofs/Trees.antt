@@ -102,14 +102,14 @@ module _ (m : Memory) where
       (λ l. get_or-append (trees m n) _ (leaf pi) k (omega (arith, length_trees n)) ∙ trees_at n k l)
       (eq-or-lt_of_le {n = k} {m = n} (omega arith))
 
-  each-proper : (n k : ℕ) → Proper (get_or (trees m n) k (leaf pi))
+  each_proper : (n k : ℕ) → Proper (get_or (trees m n) k (leaf pi))
   unfolding trees expression_at
-  each-proper zero k = tt
-  each-proper (suc n) k =
-      snoc_all Proper (trees m n) _ tt (grown_proper (λ i. get_or (trees m n) i (leaf pi)) (each-proper n) _ (sound_of (fields_at m n))) (each-proper n) k
+  each_proper zero k = tt
+  each_proper (suc n) k =
+      snoc_all Proper (trees m n) _ tt (grown_proper (λ i. get_or (trees m n) i (leaf pi)) (each_proper n) _ (sound_of (fields_at m n))) (each_proper n) k
 
   pub proper_at : (k : ℕ) → Proper (tree_at m k)
-  proper_at k = subst Proper (trees_at (suc k) k (omega arith)) (each-proper (suc k) k)
+  proper_at k = subst Proper (trees_at (suc k) k (omega arith)) (each_proper (suc k) k)
 
   pub proper_of : (e : Expression) → Sound e → Proper (tree_of m e)
   proper_of e s = grown_proper (tree_at m) proper_at e s

@@ -35,15 +35,15 @@ wrap (Expression.FunctionCall f a) t u = function_call f u
 wrap (Expression.Prefix o a) t u = prefixed o u
 wrap (Expression.Infix o a b) t u = infixed o t u
 
-rebuilt-tree : (m : Memory) (e : Expression) (left last : ℕ) → tree_of m (with_operands e left last) ≡ wrap e (tree_at m left) (tree_at m last)
+rebuilt_tree : (m : Memory) (e : Expression) (left last : ℕ) → tree_of m (with_operands e left last) ≡ wrap e (tree_at m left) (tree_at m last)
 unfolding grown with_operands wrap
-rebuilt-tree m (Expression.Number z) left last = refl
-rebuilt-tree m Expression.PiConstant left last = refl
-rebuilt-tree m (Expression.Variable v) left last = refl
-rebuilt-tree m (Expression.Address region index) left last = refl
-rebuilt-tree m (Expression.FunctionCall f a) left last = refl
-rebuilt-tree m (Expression.Prefix o a) left last = refl
-rebuilt-tree m (Expression.Infix o a b) left last = refl
+rebuilt_tree m (Expression.Number z) left last = refl
+rebuilt_tree m Expression.PiConstant left last = refl
+rebuilt_tree m (Expression.Variable v) left last = refl
+rebuilt_tree m (Expression.Address region index) left last = refl
+rebuilt_tree m (Expression.FunctionCall f a) left last = refl
+rebuilt_tree m (Expression.Prefix o a) left last = refl
+rebuilt_tree m (Expression.Infix o a b) left last = refl
 
 -- the left operand, where there are two
 LeftIn : Expression → Memory → (k left : ℕ) → Tree → Type 0
@@ -65,15 +65,15 @@ left_in (Expression.FunctionCall f a) m k left t l p = tt
 left_in (Expression.Prefix o a) m k left t l p = tt
 left_in (Expression.Infix o a b) m k left t l p = (l, p)
 
-left-none : (e : Expression) (a : ℕ) → operands_of e ≡ Operands.One a → (m : Memory) (k left : ℕ) (t : Tree) → LeftIn e m k left t
+left_none : (e : Expression) (a : ℕ) → operands_of e ≡ Operands.One a → (m : Memory) (k left : ℕ) (t : Tree) → LeftIn e m k left t
 unfolding LeftIn operands_of IsOne
-left-none (Expression.Number z) a q m k left t = tt
-left-none Expression.PiConstant a q m k left t = tt
-left-none (Expression.Variable v) a q m k left t = tt
-left-none (Expression.Address region index) a q m k left t = tt
-left-none (Expression.FunctionCall f b) a q m k left t = tt
-left-none (Expression.Prefix o b) a q m k left t = tt
-left-none (Expression.Infix o b c) a q m k left t = absurd (one_under (Expression.Infix o b c) a q)
+left_none (Expression.Number z) a q m k left t = tt
+left_none Expression.PiConstant a q m k left t = tt
+left_none (Expression.Variable v) a q m k left t = tt
+left_none (Expression.Address region index) a q m k left t = tt
+left_none (Expression.FunctionCall f b) a q m k left t = tt
+left_none (Expression.Prefix o b) a q m k left t = tt
+left_none (Expression.Infix o b c) a q m k left t = absurd (one_under (Expression.Infix o b c) a q)
 
 wrap_left : (e : Expression) (m : Memory) (k left : ℕ) (t u : Tree) → LeftIn e m k left t → wrap e (tree_at m left) u ≡ wrap e t u
 unfolding wrap LeftIn
@@ -85,15 +85,15 @@ wrap_left (Expression.FunctionCall f a) m k left t u l = refl
 wrap_left (Expression.Prefix o a) m k left t u l = refl
 wrap_left (Expression.Infix o a b) m k left t u l = ap (λ t. infixed o t u) l.1
 
-within-rebuilt : (e : Expression) (m : Memory) (k left last : ℕ) (t : Tree) → LeftIn e m k left t → last < k → Within k (with_operands e left last)
+within_rebuilt : (e : Expression) (m : Memory) (k left last : ℕ) (t : Tree) → LeftIn e m k left t → last < k → Within k (with_operands e left last)
 unfolding with_operands LeftIn
-within-rebuilt (Expression.Number z) m k left last t l o = tt
-within-rebuilt Expression.PiConstant m k left last t l o = tt
-within-rebuilt (Expression.Variable v) m k left last t l o = tt
-within-rebuilt (Expression.Address region index) m k left last t l o = tt
-within-rebuilt (Expression.FunctionCall f a) m k left last t l o = o
-within-rebuilt (Expression.Prefix o a) m k left last t l q = q
-within-rebuilt (Expression.Infix o a b) m k left last t l q = (l.0, q)
+within_rebuilt (Expression.Number z) m k left last t l o = tt
+within_rebuilt Expression.PiConstant m k left last t l o = tt
+within_rebuilt (Expression.Variable v) m k left last t l o = tt
+within_rebuilt (Expression.Address region index) m k left last t l o = tt
+within_rebuilt (Expression.FunctionCall f a) m k left last t l o = o
+within_rebuilt (Expression.Prefix o a) m k left last t l q = q
+within_rebuilt (Expression.Infix o a b) m k left last t l q = (l.0, q)
 
 -- ---- what the definition does at an operation
 
@@ -101,8 +101,8 @@ module _ (swaps : List Listings.Swap) (m : Memory) (s : State) where
   from_one_lem : Expression → Tree → Tree → State → Answer
   from_one_lem e t u s = intern (wrap e t u) s
 
-  from-left : Expression → ℕ → Tree → State → Answer
-  from-left e b t s = and_then (substitute swaps (tree_at m b) s) (from_one_lem e t)
+  from_left : Expression → ℕ → Tree → State → Answer
+  from_left e b t s = and_then (substitute swaps (tree_at m b) s) (from_one_lem e t)
 
   one_step : (e : Expression) (a : ℕ) (t : Tree) → operands_of e ≡ Operands.One a
       → and_then (substitute swaps (tree_at m a) s) (from_one_lem e t) ≡ substitute swaps (tree_of m e) s
@@ -117,36 +117,36 @@ module _ (swaps : List Listings.Swap) (m : Memory) (s : State) where
       ap (λ k. and_then (substitute swaps (tree_at m k) s) (λ u s. intern (prefixed o u) s)) (sym (one_under (Expression.Prefix o b) a q))
   one_step (Expression.Infix o b c) a t q = absurd (one_under (Expression.Infix o b c) a q)
 
-  two-step : (e : Expression) (a b : ℕ) → operands_of e ≡ Operands.Two a b
-      → and_then (substitute swaps (tree_at m a) s) (from-left e b) ≡ substitute swaps (tree_of m e) s
-  unfolding operands_of IsTwo substitute grown wrap from_one_lem from-left
-  two-step (Expression.Number z) a b q = absurd (two_under (Expression.Number z) a b q)
-  two-step Expression.PiConstant a b q = absurd (two_under Expression.PiConstant a b q)
-  two-step (Expression.Variable v) a b q = absurd (two_under (Expression.Variable v) a b q)
-  two-step (Expression.Address region index) a b q = absurd (two_under (Expression.Address region index) a b q)
-  two-step (Expression.FunctionCall f c) a b q = absurd (two_under (Expression.FunctionCall f c) a b q)
-  two-step (Expression.Prefix o c) a b q = absurd (two_under (Expression.Prefix o c) a b q)
-  two-step (Expression.Infix o c d) a b q =
+  two_step : (e : Expression) (a b : ℕ) → operands_of e ≡ Operands.Two a b
+      → and_then (substitute swaps (tree_at m a) s) (from_left e b) ≡ substitute swaps (tree_of m e) s
+  unfolding operands_of IsTwo substitute grown wrap from_one_lem from_left
+  two_step (Expression.Number z) a b q = absurd (two_under (Expression.Number z) a b q)
+  two_step Expression.PiConstant a b q = absurd (two_under Expression.PiConstant a b q)
+  two_step (Expression.Variable v) a b q = absurd (two_under (Expression.Variable v) a b q)
+  two_step (Expression.Address region index) a b q = absurd (two_under (Expression.Address region index) a b q)
+  two_step (Expression.FunctionCall f c) a b q = absurd (two_under (Expression.FunctionCall f c) a b q)
+  two_step (Expression.Prefix o c) a b q = absurd (two_under (Expression.Prefix o c) a b q)
+  two_step (Expression.Infix o c d) a b q =
       let i = two_under (Expression.Infix o c d) a b q in
       λ v. and_then (substitute swaps (tree_at m (sym i.0 v)) s) (λ t s. and_then (substitute swaps (tree_at m (sym i.1 v)) s) (λ u s. intern (infixed o t u) s))
 
 -- ---- a leaf
 
-leaf-stays : (swaps : List Listings.Swap) (m : Memory) (s : State) (e : Expression) → operands_of e ≡ Operands.Nothing
+leaf_stays : (swaps : List Listings.Swap) (m : Memory) (s : State) (e : Expression) → operands_of e ≡ Operands.Nothing
     → OneOf (0 ∷ 1 ∷ 2 ∷ 3 ∷ 4 ∷ 5 ∷ []) (tag_of the_type e) → gives (tree_of m e) s ≡ substitute swaps (tree_of m e) s
 unfolding operands_of IsNothing substitute put_in_leaf grown
-leaf-stays swaps m s (Expression.Number z) q k = refl
-leaf-stays swaps m s Expression.PiConstant q k = refl
-leaf-stays swaps m s (Expression.Variable v) q k = absurd (miss (0 ∷ 1 ∷ 2 ∷ 3 ∷ 4 ∷ 5 ∷ []) 6 tt k)
-leaf-stays swaps m s (Expression.Address region index) q k = refl
-leaf-stays swaps m s (Expression.FunctionCall f a) q k = absurd (nothing_under (Expression.FunctionCall f a) q)
-leaf-stays swaps m s (Expression.Prefix o a) q k = absurd (nothing_under (Expression.Prefix o a) q)
-leaf-stays swaps m s (Expression.Infix o a b) q k = absurd (nothing_under (Expression.Infix o a b) q)
+leaf_stays swaps m s (Expression.Number z) q k = refl
+leaf_stays swaps m s Expression.PiConstant q k = refl
+leaf_stays swaps m s (Expression.Variable v) q k = absurd (miss (0 ∷ 1 ∷ 2 ∷ 3 ∷ 4 ∷ 5 ∷ []) 6 tt k)
+leaf_stays swaps m s (Expression.Address region index) q k = refl
+leaf_stays swaps m s (Expression.FunctionCall f a) q k = absurd (nothing_under (Expression.FunctionCall f a) q)
+leaf_stays swaps m s (Expression.Prefix o a) q k = absurd (nothing_under (Expression.Prefix o a) q)
+leaf_stays swaps m s (Expression.Infix o a b) q k = absurd (nothing_under (Expression.Infix o a b) q)
 
 module _ (m : Memory) {n node : ℕ} (l : node < n) (e : Expression) (tree : tree_of m e ≡ tree_at m node) (swaps : List Listings.Swap) where
   pub leaf_put : operands_of e ≡ Operands.Nothing → OneOf (0 ∷ 1 ∷ 2 ∷ 3 ∷ 4 ∷ 5 ∷ []) (tag_of the_type e)
       → (node < n) × ((s : State) → gives (tree_at m node) s ≡ substitute swaps (tree_at m node) s)
-  leaf_put q k = (l, λ s. subst (λ t. gives t s ≡ substitute swaps t s) tree (leaf-stays swaps m s e q k))
+  leaf_put q k = (l, λ s. subst (λ t. gives t s ≡ substitute swaps t s) tree (leaf_stays swaps m s e q k))
 
   module _ {v : ℕ} (told : e ≡ Expression.Variable v) where
     variable_put : {t : Tree} → t ≡ put_in v (swap_for v swaps) → (s : State) → gives t s ≡ substitute swaps (tree_at m node) s
@@ -176,18 +176,18 @@ module _ {node left last r : ℕ} {e : Expression} {l l' : Lent} {table table' :
       go (yes y) = y
       go (no y) = absurd (omega (arith, h, y, (q.passed (omega (arith, y))).0))
 
-  rebuilt-added : {l₀ : Lent} (t : Tree) → last < refused_from → Got l₀ last l → LeftIn e l.rows (count l.desk) left t
+  rebuilt_added : {l₀ : Lent} (t : Tree) → last < refused_from → Got l₀ last l → LeftIn e l.rows (count l.desk) left t
       → Built (intern (wrap e t (tree_in l last)) (state_in l)) r l l'
-  rebuilt-added t h p i =
-      named (ap (λ u. intern u (state_in l)) (rebuilt-tree l.rows e left last ∙ wrap_left e l.rows (count l.desk) left t (tree_in l last) i))
-      (q.added h p.sound (within-rebuilt e l.rows (count l.desk) left last t i p.inside))
+  rebuilt_added t h p i =
+      named (ap (λ u. intern u (state_in l)) (rebuilt_tree l.rows e left last ∙ wrap_left e l.rows (count l.desk) left t (tree_in l last) i))
+      (q.added h p.sound (within_rebuilt e l.rows (count l.desk) left last t i p.inside))
 
-  rebuilt-built : {want : Answer} {l₀ : Lent} (t : Tree) → Built want last l₀ l → (Got l₀ last l → LeftIn e l.rows (count l.desk) left t)
+  rebuilt_built : {want : Answer} {l₀ : Lent} (t : Tree) → Built want last l₀ l → (Got l₀ last l → LeftIn e l.rows (count l.desk) left t)
       → Built (and_then want (λ u s. intern (wrap e t u) s)) r l₀ l'
-  rebuilt-built {want} {l₀} t b f = go (dec_lt last refused_from)
+  rebuilt_built {want} {l₀} t b f = go (dec_lt last refused_from)
     where
       go : Dec (last < refused_from) → Built (and_then want (λ u s. intern (wrap e t u) s)) r l₀ l'
-      go (yes h) = then_node (λ u s. intern (wrap e t u) s) b h λ p. rebuilt-added t h p (f p)
+      go (yes h) = then_node (λ u s. intern (wrap e t u) s) b h λ p. rebuilt_added t h p (f p)
       go (no h) =
           let o : refused_from ≤ last = omega (arith, h) in
           turned (sym (q.passed o).0) (subst (λ l'. Built (and_then want (λ u s. intern (wrap e t u) s)) last l₀ l') (sym (q.passed o).1) (then_refused (λ u s. intern (wrap e t u) s) b o))
@@ -211,17 +211,17 @@ module _ {given : List Listings.Swap} {nodes swaps node : ℕ} {l : Lent} {table
   stands : node < count l.desk
   stands = omega (arith, o, k.stand)
 
-  in-node : Within node e
-  in-node = within_node k.lists.sound.holds stands e-is refl
+  in_node : Within node e
+  in_node = within_node k.lists.sound.holds stands e-is refl
 
   of_tree : tree_of l.rows e ≡ tree_in l node
   of_tree = tree_of_node k.lists.sound.holds stands e-is refl
 
   pub one_inside : {a : ℕ} → operands ≡ Operands.One a → a < node
-  one_inside {a} told = within_one node e a (sym o_is ∙ told) in-node
+  one_inside {a} told = within_one node e a (sym o_is ∙ told) in_node
 
   pub two_inside : {a b : ℕ} → operands ≡ Operands.Two a b → (a < node) × (b < node)
-  two_inside {a} {b} told = within_two node e a b (sym o_is ∙ told) in-node
+  two_inside {a} {b} told = within_two node e a b (sym o_is ∙ told) in_node
 
   of_node : (s : State) {w : Answer} → w ≡ substitute given (tree_of l.rows e) s → w ≡ substitute given (tree_in l node) s
   of_node s p = p ∙ ap (λ t. substitute given t s) of_tree
@@ -238,27 +238,27 @@ module _ {given : List Listings.Swap} {nodes swaps node : ℕ} {l : Lent} {table
     as_one s = of_node s (one_step given l.rows s e a (leaf pi) (sym o_is ∙ told))
 
     none : LeftIn e l₁.rows (count l₁.desk) 0 (leaf pi)
-    none = left-none e a (sym o_is ∙ told) l₁.rows (count l₁.desk) 0 (leaf pi)
+    none = left_none e a (sym o_is ∙ told) l₁.rows (count l₁.desk) 0 (leaf pi)
 
     one_known : r < refused_from → Settled given l₂ (tree_in l node) (tree_in l₂ r) × Knows given nodes swaps l₂ table₂
     unfolding from_one_lem and_then
     one_known h =
         let y = last_node q h in
         let p = got first.built y in
-        rebuilt_known q (wrap e (leaf pi) (tree_in l₁ x)) (first.knows y) o (p.stays node stands) h (rebuilt-added q (leaf pi) y p none) λ l'' step.
+        rebuilt_known q (wrap e (leaf pi) (tree_in l₁ x)) (first.knows y) o (p.stays node stands) h (rebuilt_added q (leaf pi) y p none) λ l'' step.
         sym (as_one (state_in l'')) ∙ ap (λ w. and_then w (from_one_lem given l.rows (state_in l'') e (leaf pi))) ((first.settled y).again l'' step)
 
     pub one_replaced : Replaced given nodes swaps node r l l₂ table₂
     unfolding from_one_lem
-    one_replaced = record { built = named (as_one (state_in l)) (rebuilt-built q (leaf pi) first.built (λ p. none)); settled = λ h. (one_known h).0; knows = λ h. (one_known h).1 }
+    one_replaced = record { built = named (as_one (state_in l)) (rebuilt_built q (leaf pi) first.built (λ p. none)); settled = λ h. (one_known h).0; knows = λ h. (one_known h).1 }
 
   module _ {a b left : ℕ} {l₁ : Lent} {table₁ : List ℕ} (told : operands ≡ Operands.Two a b) (first : Replaced given nodes swaps a left l l₁ table₁) where
-    as_two : (s : State) → and_then (substitute given (tree_in l a) s) (from-left given l.rows s e b) ≡ substitute given (tree_in l node) s
-    as_two s = of_node s (two-step given l.rows s e a b (sym o_is ∙ told))
+    as_two : (s : State) → and_then (substitute given (tree_in l a) s) (from_left given l.rows s e b) ≡ substitute given (tree_in l node) s
+    as_two s = of_node s (two_step given l.rows s e a b (sym o_is ∙ told))
 
     pub two_refused : refused_from ≤ left → Replaced given nodes swaps node left l l₁ table₁
     two_refused h = record {
-      built = named (as_two (state_in l)) (then_refused (from-left given l.rows (state_in l) e b) first.built h);
+      built = named (as_two (state_in l)) (then_refused (from_left given l.rows (state_in l) e b) first.built h);
       settled = λ z. absurd (omega (arith, h, z));
       knows = λ z. absurd (omega (arith, h, z));
     }
@@ -278,21 +278,21 @@ module _ {given : List Listings.Swap} {nodes swaps node : ℕ} {l : Lent} {table
       left-stands p₂ = left_in e l₂.rows (count l₂.desk) left (tree_in l₁ left) (older p₂ p.inside) (p₂.stays left p.inside)
 
       two-known : r < refused_from → Settled given l₃ (tree_in l node) (tree_in l₃ r) × Knows given nodes swaps l₃ table₃
-      unfolding from-left from_one_lem and_then
+      unfolding from_left from_one_lem and_then
       two-known z =
           let i = last_node q z in
           let p₂ = got second.built i in
           let tree : tree_in l₂ node ≡ tree_in l node = p₂.stays node (older p stands) ∙ p.stays node stands in
-          rebuilt_known q (wrap e (tree_in l₁ left) (tree_in l₂ y)) (second.knows i) o tree z (rebuilt-added q (tree_in l₁ left) i p₂ (left-stands p₂)) λ l'' step.
-          sym (as_two (state_in l'')) ∙ ap (λ w. and_then w (from-left given l.rows (state_in l'') e b)) ((first.settled h).again l'' (both second.built.step step))
+          rebuilt_known q (wrap e (tree_in l₁ left) (tree_in l₂ y)) (second.knows i) o tree z (rebuilt_added q (tree_in l₁ left) i p₂ (left-stands p₂)) λ l'' step.
+          sym (as_two (state_in l'')) ∙ ap (λ w. and_then w (from_left given l.rows (state_in l'') e b)) ((first.settled h).again l'' (both second.built.step step))
           ∙ ap (λ t. and_then (substitute given t (state_in l'')) (from_one_lem given l.rows (state_in l'') e (tree_in l₁ left))) (sym right-stays)
           ∙ ap (λ w. and_then w (from_one_lem given l.rows (state_in l'') e (tree_in l₁ left))) ((second.settled i).again l'' step)
 
       pub two_replaced : Replaced given nodes swaps node r l l₃ table₃
-      unfolding from-left from_one_lem
+      unfolding from_left from_one_lem
       two_replaced = record {
-        built = named (as_two (state_in l)) (then_node (from-left given l.rows (state_in l) e b) first.built h λ p.
-            rebuilt-built q (tree_in l₁ left) (named (ap (λ t. substitute given t (state_in l₁)) right-stays) second.built) left-stands);
+        built = named (as_two (state_in l)) (then_node (from_left given l.rows (state_in l) e b) first.built h λ p.
+            rebuilt_built q (tree_in l₁ left) (named (ap (λ t. substitute given t (state_in l₁)) right-stays) second.built) left-stands);
         settled = λ z. (two-known z).0;
         knows = λ z. (two-known z).1;
       }

@@ -30,17 +30,17 @@ Is : Tree → Answer → Type 0
 Is t (gives u s) = u ≡ t
 Is t (refused why s) = Unit {0}
 
-is-either : (t : Tree) (b : Bool) (x y : Answer) → Is t x → Is t y → Is t (cond b x y)
-is-either t true x y p q = p
-is-either t false x y p q = q
+is_either : (t : Tree) (b : Bool) (x y : Answer) → Is t x → Is t y → Is t (cond b x y)
+is_either t true x y p q = p
+is_either t false x y p q = q
 
 interned : (t : Tree) (s : State) → Is t (intern t s)
 unfolding intern Is
 interned t (state room stored kept tally) =
-    is-either t (among stored t) _ _ refl
-    (is-either t (ltb largest (size t)) _ _ tt
-    (is-either t (ltb deepest (depth t)) _ _ tt
-    (is-either t (ltb (length stored) room) _ _ refl tt)))
+    is_either t (among stored t) _ _ refl
+    (is_either t (ltb largest (size t)) _ _ tt
+    (is_either t (ltb deepest (depth t)) _ _ tt
+    (is_either t (ltb (length stored) room) _ _ refl tt)))
 
 -- a tree that stands is not stored again
 interned_again : {l : Lent} → Sound l → (r : ℕ) → r < count l.desk → intern (tree_in l r) (state_in l) ≡ gives (tree_in l r) (state_in l)
@@ -73,8 +73,8 @@ module _ {l : Lent} (table table' : List ℕ) {swaps : ℕ} (few : swaps ≤ 256
     ascends = record { each = λ j h. rw (alike (2 * j + swaps_from) (omega (arith, h, few)), alike (2 * (j + 1) + swaps_from) (omega (arith, h, few))) (li.ascends.each j h) };
   }
 
-  swaps-alike : swap_trees l.rows table' swaps ≡ swap_trees l.rows table swaps
-  swaps-alike =
+  swaps_alike : swap_trees l.rows table' swaps ≡ swap_trees l.rows table swaps
+  swaps_alike =
       up_to_alike swaps _ _ λ k o.
       (λ v. swap (alike (swaps_from + 2 * k) (omega (arith, o, few)) v) (tree_in l (alike (swaps_from + 2 * k + 1) (omega (arith, o, few)) v)))
 
@@ -82,8 +82,8 @@ module _ {l l' : Lent} {table : List ℕ} {swaps : ℕ} (li : Lists l table 0 sw
   lists_on : Lists l' table 0 swaps
   lists_on = record { sound = p.sound; nodes = λ k o. absurd (omega (arith, o)); named = λ k o. omega (arith, p.grew, li.named k o); ascends = li.ascends }
 
-  swaps-on : swap_trees l'.rows table swaps ≡ swap_trees l.rows table swaps
-  swaps-on = up_to_alike swaps _ _ (λ k o. ap (swap (get_or table (swaps_from + 2 * k) 0)) (p.stays (get_or table (swaps_from + 2 * k + 1) 0) (li.named k o)))
+  swaps_on : swap_trees l'.rows table swaps ≡ swap_trees l.rows table swaps
+  swaps_on = up_to_alike swaps _ _ (λ k o. ap (swap (get_or table (swaps_from + 2 * k) 0)) (p.stays (get_or table (swaps_from + 2 * k + 1) 0) (li.named k o)))
 
 -- ---- what the table knows
 
@@ -120,7 +120,7 @@ pub knows_nothing : {l : Lent} {table table' : List ℕ} {nodes swaps : ℕ} →
 knows_nothing {table = table} {table' = table'} few li e f = record {
   few = few;
   lists = lists_alike table table' few li f.alike;
-  same = swaps-alike table table' few li f.alike;
+  same = swaps_alike table table' few li f.alike;
   stand = omega (arith, e);
   results = λ k r o z. absurd (omega (arith, f.nothing k o, z));
 }
@@ -138,7 +138,7 @@ module _ {given : List Swap} {nodes swaps : ℕ} {l : Lent} {table : List ℕ} (
   knows_on p = record {
     few = k.few;
     lists = lists_on k.lists p;
-    same = swaps-on k.lists p ∙ k.same;
+    same = swaps_on k.lists p ∙ k.same;
     stand = omega (arith, k.stand, p.grew);
     results = λ i r o e.
         let x = k.results i r o e in
@@ -153,7 +153,7 @@ module _ {given : List Swap} {nodes swaps : ℕ} {l : Lent} {table : List ℕ} (
   knows_more node r inside o settled = record {
     few = k.few;
     lists = lists_alike table (set table (word_of node) (r + 1)) k.few k.lists alike;
-    same = swaps-alike table (set table (word_of node) (r + 1)) k.few k.lists alike ∙ k.same;
+    same = swaps_alike table (set table (word_of node) (r + 1)) k.few k.lists alike ∙ k.same;
     stand = k.stand;
     results = λ i q j e. go i q j e (ℕ_discrete i node);
   }

@@ -29,11 +29,11 @@ record OnStack (o : Outcome) (next : List Complex → List ℕ) (j : ℕ) : Type
   pub is : o ≡ stands stack
   pub among_next : among j (next stack) ≡ true
 
-on-stack : (o : Outcome) (next : List Complex → List ℕ) (j : ℕ) → among j (on_stack o next) ≡ true → OnStack o next j
+on_stack_lem : (o : Outcome) (next : List Complex → List ℕ) (j : ℕ) → among j (on_stack o next) ≡ true → OnStack o next j
 unfolding on_stack among
-on-stack (stands stack) next j p = record { stack = stack; is = refl; among_next = p }
-on-stack (lacks e) next j p = absurd (false≢true p)
-on-stack breaks next j p = absurd (false≢true p)
+on_stack_lem (stands stack) next j p = record { stack = stack; is = refl; among_next = p }
+on_stack_lem (lacks e) next j p = absurd (false≢true p)
+on_stack_lem breaks next j p = absurd (false≢true p)
 
 module _ (rows : Rows) (j : ℕ) where
   step_uses : (s : Step) (ss : List Step) (stack : List Complex) → among j (used_by_step rows s stack) ≡ true → Uses rows (Asks rows (s ∷ ss) stack) j
@@ -55,7 +55,7 @@ module _ (rows : Rows) (j : ℕ) where
   run_uses [] stack p = absurd (false≢true p)
   run_uses (s ∷ ss) stack p = elim (among_either j (used_by_step rows s stack) _ p) [
     | inl q ↦ step_uses s ss stack q
-    | inr q ↦ let v = on-stack (step rows s stack) _ j q in uses_more (run_uses ss v.stack v.among_next) λ o x y a. later v.is a
+    | inr q ↦ let v = on_stack_lem (step rows s stack) _ j q in uses_more (run_uses ss v.stack v.among_next) λ o x y a. later v.is a
   ]
 
   -- so it is where the row's mark is 1

@@ -90,8 +90,8 @@ pub check_bad : (step values : ℕ) (f : Fields) (fs : List Fields) → allowed 
 unfolding check_from
 check_bad step values f fs e = ap (λ b. cond b (check_from (suc step) (after values (step_of f)) fs) (Checked.Bad step)) e
 
-bad-sound : {A : Type 0} {k : ℕ} → Checked.Bad k ≡ Checked.Sound → A
-bad-sound e = absurd (subst Good (sym e) tt)
+bad_sound : {A : Type 0} {k : ℕ} → Checked.Bad k ≡ Checked.Sound → A
+bad_sound e = absurd (subst Good (sym e) tt)
   where
     Good : Checked → Type 0
     Good Checked.Sound = Unit {0}
@@ -103,7 +103,7 @@ on_sound at n f fs e = decide (allowed n f) refl
   where
     decide : (b : Bool) → allowed n f ≡ b → Allowed n f (after n (step_of f)) × (check_from (suc at) (after n (step_of f)) fs ≡ Checked.Sound)
     decide true p = (allowed_is n f p, sym (check_on at n f fs p) ∙ e)
-    decide false p = bad-sound (sym (check_bad at n f fs p) ∙ e)
+    decide false p = bad_sound (sym (check_bad at n f fs p) ∙ e)
 
 -- and its end
 pub one_left : (at n : ℕ) → check_from at n [] ≡ Checked.Sound → n ≡ 1
@@ -112,7 +112,7 @@ one_left at n e = decide (eqb n 1) refl
   where
     decide : (b : Bool) → eqb n 1 ≡ b → n ≡ 1
     decide true p = eqb-true n 1 p
-    decide false p = bad-sound (sym (ap (λ b. cond b Checked.Sound (Checked.Bad at)) p) ∙ e)
+    decide false p = bad_sound (sym (ap (λ b. cond b Checked.Sound (Checked.Bad at)) p) ∙ e)
 
 -- ---- the steps that are left
 
@@ -207,9 +207,9 @@ sound_is bs e = go (eqb (length bs % 24) 0) (ltb 0 (count bs)) (ltb (count bs) 5
 
         less : count bs < 513 → count bs ≤ 512
         less l = omega (arith, l)
-    go false b d p q r = bad-sound (rw p at e)
-    go true false d p q r = bad-sound (rw (p, q) at e)
-    go true true false p q r = bad-sound (rw (p, q, r) at e)
+    go false b d p q r = bad_sound (rw p at e)
+    go true false d p q r = bad_sound (rw (p, q) at e)
+    go true true false p q r = bad_sound (rw (p, q, r) at e)
 
 -- ---- the pick
 

@@ -32,39 +32,39 @@ abbrev pub AllProper : List Step → Type 0
 AllProper [] = Unit {0}
 AllProper (s ∷ ss) = ProperStep s × AllProper ss
 
-proper-append : (ss us : List Step) → AllProper ss → AllProper us → AllProper (ss ++ us)
-proper-append [] us p q = q
-proper-append (s ∷ ss) us p q = (p.0, proper-append ss us p.1 q)
+proper_append : (ss us : List Step) → AllProper ss → AllProper us → AllProper (ss ++ us)
+proper_append [] us p q = q
+proper_append (s ∷ ss) us p q = (p.0, proper_append ss us p.1 q)
 
-leaf-proper : (l : Leaf) → ProperLeaf l → ProperStep (leaf_step l)
+leaf_proper : (l : Leaf) → ProperLeaf l → ProperStep (leaf_step l)
 unfolding leaf_step
-leaf-proper (number z) p = p
-leaf-proper pi p = p
-leaf-proper (variable v) p = p
-leaf-proper (cell region index) p = p
+leaf_proper (number z) p = p
+leaf_proper pi p = p
+leaf_proper (variable v) p = p
+leaf_proper (cell region index) p = p
 
 pub steps_proper : (t : Tree) → Proper t → AllProper (steps t)
 unfolding steps
-steps_proper (leaf l) p = (leaf-proper l p, tt)
-steps_proper (function_call f t) p = proper-append (steps t) _ (steps_proper t p) (tt, tt)
-steps_proper (prefixed o t) p = proper-append (steps t) _ (steps_proper t p) (tt, tt)
-steps_proper (infixed o l r) p = proper-append (steps l) _ (steps_proper l p.0) (proper-append (steps r) _ (steps_proper r p.1) (tt, tt))
+steps_proper (leaf l) p = (leaf_proper l p, tt)
+steps_proper (function_call f t) p = proper_append (steps t) _ (steps_proper t p) (tt, tt)
+steps_proper (prefixed o t) p = proper_append (steps t) _ (steps_proper t p) (tt, tt)
+steps_proper (infixed o l r) p = proper_append (steps l) _ (steps_proper l p.0) (proper_append (steps r) _ (steps_proper r p.1) (tt, tt))
 
-tape-fields : (ss : List Step) → AllProper ss → fields_of_all (length ss) (tape_of ss) ≡ map fields_of ss
+tape_fields : (ss : List Step) → AllProper ss → fields_of_all (length ss) (tape_of ss) ≡ map fields_of ss
 unfolding fields_of_all tape_of
-tape-fields [] p = refl
-tape-fields (s ∷ ss) p = λ i. encoded_fields s (tape_of ss) p.0 i ∷ (ap (fields_of_all (length ss)) (after_encoded s (tape_of ss)) ∙ tape-fields ss p.1) i
+tape_fields [] p = refl
+tape_fields (s ∷ ss) p = λ i. encoded_fields s (tape_of ss) p.0 i ∷ (ap (fields_of_all (length ss)) (after_encoded s (tape_of ss)) ∙ tape_fields ss p.1) i
 
-fields-steps : (ss : List Step) → AllProper ss → map step_of (map fields_of ss) ≡ ss
-fields-steps [] p = refl
-fields-steps (s ∷ ss) p = λ i. step_back s p.0 i ∷ fields-steps ss p.1 i
+fields_steps : (ss : List Step) → AllProper ss → map step_of (map fields_of ss) ≡ ss
+fields_steps [] p = refl
+fields_steps (s ∷ ss) p = λ i. step_back s p.0 i ∷ fields_steps ss p.1 i
 
-tape-count : (ss : List Step) → count (tape_of ss) ≡ length ss
-tape-count ss = omega (arith, tape_size ss)
+tape_count : (ss : List Step) → count (tape_of ss) ≡ length ss
+tape_count ss = omega (arith, tape_size ss)
 
 -- the tape's bytes determine the steps: decoding what was encoded gives it back
 pub steps_back : (ss : List Step) → AllProper ss → steps_in (tape_of ss) ≡ ss
-steps_back ss p = ap (λ k. map step_of (fields_of_all k (tape_of ss))) (tape-count ss) ∙ ap (map step_of) (tape-fields ss p) ∙ fields-steps ss p
+steps_back ss p = ap (λ k. map step_of (fields_of_all k (tape_of ss))) (tape_count ss) ∙ ap (map step_of) (tape_fields ss p) ∙ fields_steps ss p
 
 -- so different steps have different bytes
 pub one_tape : (ss us : List Step) → AllProper ss → AllProper us → tape_of ss ≡ tape_of us → ss ≡ us
@@ -72,18 +72,18 @@ one_tape ss us p q e = sym (steps_back ss p) ∙ ap steps_in e ∙ steps_back us
 
 -- ---- it is sound
 
-max-left : (a b : ℕ) → a ≤ max a b
-max-left a b = omega arith
+max_left : (a b : ℕ) → a ≤ max a b
+max_left a b = omega arith
 
-max-right : (a b : ℕ) → b ≤ max a b
-max-right a b = omega arith
+max_right : (a b : ℕ) → b ≤ max a b
+max_right a b = omega arith
 
-size-some : (t : Tree) → 1 ≤ size t
+size_some : (t : Tree) → 1 ≤ size t
 unfolding size depth
-size-some (leaf l) = omega arith
-size-some (function_call f t) = omega arith
-size-some (prefixed o t) = omega arith
-size-some (infixed o l r) = omega arith
+size_some (leaf l) = omega arith
+size_some (function_call f t) = omega arith
+size_some (prefixed o t) = omega arith
+size_some (infixed o l r) = omega arith
 
 module _ (s : Step) (p : ProperStep s) where
   -- a proper step that finds what it takes and leaves no more than 64
@@ -94,12 +94,12 @@ module _ (s : Step) (p : ProperStep s) where
   checks : (at values : ℕ) (fs : List Fields) → takes s ≤ values → values - takes s < 64 → check_from at values (fields_of s ∷ fs) ≡ check_from (suc at) (after values s) fs
   checks at values fs l m = check_on at values (fields_of s) fs (passes values l m) ∙ ap (λ s. check_from (suc at) (after values s) fs) (step_back s p)
 
-leaf-takes : (l : Leaf) → takes (leaf_step l) ≡ 0
+leaf_takes : (l : Leaf) → takes (leaf_step l) ≡ 0
 unfolding takes leaf_step
-leaf-takes (number z) = refl
-leaf-takes pi = refl
-leaf-takes (variable v) = refl
-leaf-takes (cell region index) = refl
+leaf_takes (number z) = refl
+leaf_takes pi = refl
+leaf_takes (variable v) = refl
+leaf_takes (cell region index) = refl
 
 -- the fields of the steps of a tree, and then others
 fields_then : List Step → List Fields → List Fields
@@ -111,10 +111,10 @@ unfolding fields_then
 then_append [] us fs = refl
 then_append (s ∷ ss) us fs = ap (λ (gs : List Fields). fields_of s ∷ gs) (then_append ss us fs)
 
-then-none : (ss : List Step) → fields_then ss [] ≡ map fields_of ss
+then_none : (ss : List Step) → fields_then ss [] ≡ map fields_of ss
 unfolding fields_then
-then-none [] = refl
-then-none (s ∷ ss) = ap (λ (gs : List Fields). fields_of s ∷ gs) (then-none ss)
+then_none [] = refl
+then_none (s ∷ ss) = ap (λ (gs : List Fields). fields_of s ∷ gs) (then_none ss)
 
 same_place : {a a' v v' : ℕ} (fs : List Fields) → a ≡ a' → v ≡ v' → check_from a v fs ≡ check_from a' v' fs
 same_place fs p q = λ i. check_from (p i) (q i) fs
@@ -123,8 +123,8 @@ same_place fs p q = λ i. check_from (p i) (q i) fs
 tree_checks : (t : Tree) → Proper t → (at values : ℕ) (fs : List Fields) → values + depth t ≤ 64 → check_from at values (fields_then (steps t) fs) ≡ check_from (at + size t) (suc values) fs
 unfolding steps size depth fields_then takes
 tree_checks (leaf l) p at values fs d =
-    let z = leaf-takes l in
-    checks (leaf_step l) (leaf-proper l p) at values fs (omega (arith, z)) (omega (arith, z, d)) ∙ same_place fs (omega arith) (omega (arith, z))
+    let z = leaf_takes l in
+    checks (leaf_step l) (leaf_proper l p) at values fs (omega (arith, z)) (omega (arith, z, d)) ∙ same_place fs (omega arith) (omega (arith, z))
 tree_checks (function_call f t) p at values fs d =
     ap (check_from at values) (then_append (steps t) (Step.Function f ∷ []) fs)
     ∙ tree_checks t p at values (fields_of (Step.Function f) ∷ fs) (omega (arith, d))
@@ -136,8 +136,8 @@ tree_checks (prefixed o t) p at values fs d =
     ∙ checks (Step.Prefix o) tt (at + size t) (suc values) fs (omega arith) (omega (arith, d))
     ∙ same_place fs (omega arith) (omega arith)
 tree_checks (infixed o l r) p at values fs d =
-    let m = max-left (depth l) (depth r) in
-    let n = max-right (depth l) (depth r) in
+    let m = max_left (depth l) (depth r) in
+    let n = max_right (depth l) (depth r) in
     ap (check_from at values) (then_append (steps l) (steps r ++ (Step.Infix o ∷ [])) fs)
     ∙ tree_checks l p.0 at values (fields_then (steps r ++ (Step.Infix o ∷ [])) fs) (omega (arith, d, m))
     ∙ ap (check_from (at + size l) (suc values)) (then_append (steps r) (Step.Infix o ∷ []) fs)
@@ -150,13 +150,13 @@ pub tape_sound : (t : Tree) → Proper t → depth t ≤ 64 → size t ≤ 512 �
 unfolding check_from
 tape_sound t p d l =
     let n = tape_length t in
-    let s = size-some t in
-    let c : count (tape t) ≡ length (steps t) = tape-count (steps t) in
+    let s = size_some t in
+    let c : count (tape t) ≡ length (steps t) = tape_count (steps t) in
     sym
     (check_whole (tape t) (omega (arith, n)) (λ e. omega (arith, n, s, e)) (omega (arith, n, l))
     (sym
     (ap (λ k. check_from 0 0 (fields_of_all k (tape t))) c
-    ∙ ap (check_from 0 0) (tape-fields (steps t) (steps_proper t p) ∙ sym (then-none (steps t)))
+    ∙ ap (check_from 0 0) (tape_fields (steps t) (steps_proper t p) ∙ sym (then_none (steps t)))
     ∙ tree_checks t p 0 0 [] (omega (arith, d)))))
 
 -- ---- it plays what evaluating gives
@@ -167,11 +167,11 @@ afterwards (Evaluation.Value z) next = next z
 afterwards Evaluation.Incomplete next = lacks Evaluation.Incomplete
 afterwards (Evaluation.Need operation x y) next = lacks (Evaluation.Need operation x y)
 
-in-turn : (e : Evaluation) (k : Complex → Evaluation) (next : Complex → Outcome) → afterwards (Evaluating.and_then e k) next ≡ afterwards e (λ z. afterwards (k z) next)
+in_turn : (e : Evaluation) (k : Complex → Evaluation) (next : Complex → Outcome) → afterwards (Evaluating.and_then e k) next ≡ afterwards e (λ z. afterwards (k z) next)
 unfolding afterwards Evaluating.and_then
-in-turn (Evaluation.Value z) k next = refl
-in-turn Evaluation.Incomplete k next = refl
-in-turn (Evaluation.Need operation x y) k next = refl
+in_turn (Evaluation.Value z) k next = refl
+in_turn Evaluation.Incomplete k next = refl
+in_turn (Evaluation.Need operation x y) k next = refl
 
 pushed : (e : Evaluation) (stack : List Complex) (next : List Complex → Outcome) → length stack < 64 → and_then (push e stack) next ≡ afterwards e (λ z. next (z ∷ stack))
 unfolding afterwards and_then push
@@ -179,11 +179,11 @@ pushed (Evaluation.Value z) stack next l = ap (λ b. and_then (cond b (stands (z
 pushed Evaluation.Incomplete stack next l = refl
 pushed (Evaluation.Need operation x y) stack next l = refl
 
-afterwards-same : (e : Evaluation) {f g : Complex → Outcome} → ((z : Complex) → f z ≡ g z) → afterwards e f ≡ afterwards e g
+afterwards_same : (e : Evaluation) {f g : Complex → Outcome} → ((z : Complex) → f z ≡ g z) → afterwards e f ≡ afterwards e g
 unfolding afterwards
-afterwards-same (Evaluation.Value z) p = p z
-afterwards-same Evaluation.Incomplete p = refl
-afterwards-same (Evaluation.Need operation x y) p = refl
+afterwards_same (Evaluation.Value z) p = p z
+afterwards_same Evaluation.Incomplete p = refl
+afterwards_same (Evaluation.Need operation x y) p = refl
 
 module _ (rows : Rows) where
   leaf_step_lem : (l : Leaf) (stack : List Complex) → step rows (leaf_step l) stack ≡ push (leaf_value rows l) stack
@@ -193,33 +193,33 @@ module _ (rows : Rows) where
   leaf_step_lem (variable v) stack = refl
   leaf_step_lem (cell region index) stack = refl
 
-  tree-plays : (t : Tree) (ss : List Step) (stack : List Complex) → length stack + depth t ≤ 64
+  tree_plays : (t : Tree) (ss : List Step) (stack : List Complex) → length stack + depth t ≤ 64
       → run rows (steps t ++ ss) stack ≡ afterwards (evaluate rows t) (λ z. run rows ss (z ∷ stack))
   unfolding steps run step evaluate size depth
-  tree-plays (leaf l) ss stack d =
+  tree_plays (leaf l) ss stack d =
       ap (λ o. and_then o (λ stack. run rows ss stack)) (leaf_step_lem l stack) ∙ pushed (leaf_value rows l) stack (λ stack. run rows ss stack) (omega (arith, d))
-  tree-plays (function_call f t) ss stack d =
+  tree_plays (function_call f t) ss stack d =
       ap (λ us. run rows us stack) (append_assoc (steps t) (Step.Function f ∷ []) ss)
-      ∙ tree-plays t (Step.Function f ∷ ss) stack (omega (arith, d))
-      ∙ afterwards-same (evaluate rows t) (λ x. pushed (calculate_function rows f x) stack (λ stack. run rows ss stack) (omega (arith, d)))
-      ∙ sym (in-turn (evaluate rows t) (calculate_function rows f) (λ z. run rows ss (z ∷ stack)))
-  tree-plays (prefixed o t) ss stack d =
+      ∙ tree_plays t (Step.Function f ∷ ss) stack (omega (arith, d))
+      ∙ afterwards_same (evaluate rows t) (λ x. pushed (calculate_function rows f x) stack (λ stack. run rows ss stack) (omega (arith, d)))
+      ∙ sym (in_turn (evaluate rows t) (calculate_function rows f) (λ z. run rows ss (z ∷ stack)))
+  tree_plays (prefixed o t) ss stack d =
       ap (λ us. run rows us stack) (append_assoc (steps t) (Step.Prefix o ∷ []) ss)
-      ∙ tree-plays t (Step.Prefix o ∷ ss) stack (omega (arith, d))
-      ∙ afterwards-same (evaluate rows t) (λ x. pushed (Evaluation.Value (calculate_prefix o x)) stack (λ stack. run rows ss stack) (omega (arith, d)))
-      ∙ sym (in-turn (evaluate rows t) (λ x. Evaluation.Value (calculate_prefix o x)) (λ z. run rows ss (z ∷ stack)))
-  tree-plays (infixed o l r) ss stack d =
-      let m = max-left (depth l) (depth r) in
-      let n = max-right (depth l) (depth r) in
+      ∙ tree_plays t (Step.Prefix o ∷ ss) stack (omega (arith, d))
+      ∙ afterwards_same (evaluate rows t) (λ x. pushed (Evaluation.Value (calculate_prefix o x)) stack (λ stack. run rows ss stack) (omega (arith, d)))
+      ∙ sym (in_turn (evaluate rows t) (λ x. Evaluation.Value (calculate_prefix o x)) (λ z. run rows ss (z ∷ stack)))
+  tree_plays (infixed o l r) ss stack d =
+      let m = max_left (depth l) (depth r) in
+      let n = max_right (depth l) (depth r) in
       ap (λ us. run rows us stack) (append_assoc (steps l) (steps r ++ (Step.Infix o ∷ [])) ss)
-      ∙ tree-plays l ((steps r ++ (Step.Infix o ∷ [])) ++ ss) stack (omega (arith, d, m))
-      ∙ afterwards-same (evaluate rows l)
+      ∙ tree_plays l ((steps r ++ (Step.Infix o ∷ [])) ++ ss) stack (omega (arith, d, m))
+      ∙ afterwards_same (evaluate rows l)
       (λ x.
       ap (λ us. run rows us (x ∷ stack)) (append_assoc (steps r) (Step.Infix o ∷ []) ss)
-      ∙ tree-plays r (Step.Infix o ∷ ss) (x ∷ stack) (omega (arith, d, n))
-      ∙ afterwards-same (evaluate rows r) (λ y. pushed (calculate_infix rows o x y) stack (λ stack. run rows ss stack) (omega (arith, d)))
-      ∙ sym (in-turn (evaluate rows r) (calculate_infix rows o x) (λ z. run rows ss (z ∷ stack))))
-      ∙ sym (in-turn (evaluate rows l) (λ x. Evaluating.and_then (evaluate rows r) (calculate_infix rows o x)) (λ z. run rows ss (z ∷ stack)))
+      ∙ tree_plays r (Step.Infix o ∷ ss) (x ∷ stack) (omega (arith, d, n))
+      ∙ afterwards_same (evaluate rows r) (λ y. pushed (calculate_infix rows o x y) stack (λ stack. run rows ss stack) (omega (arith, d)))
+      ∙ sym (in_turn (evaluate rows r) (calculate_infix rows o x) (λ z. run rows ss (z ∷ stack))))
+      ∙ sym (in_turn (evaluate rows l) (λ x. Evaluating.and_then (evaluate rows r) (calculate_infix rows o x)) (λ z. run rows ss (z ∷ stack)))
 
   ended : (e : Evaluation) → result (afterwards e (λ z. run rows [] (z ∷ []))) ≡ e
   unfolding result afterwards run
@@ -231,5 +231,5 @@ module _ (rows : Rows) where
   pub tape_plays : (t : Tree) → Proper t → depth t ≤ 64 → played rows (tape t) ≡ evaluate rows t
   tape_plays t p d =
       ap (λ ss. result (run rows ss [])) (steps_back (steps t) (steps_proper t p) ∙ sym (append-nil (steps t)))
-      ∙ ap result (tree-plays t [] [] (omega (arith, d)))
+      ∙ ap result (tree_plays t [] [] (omega (arith, d)))
       ∙ ended (evaluate rows t)

@@ -41,38 +41,38 @@ need (function_call f t) = need t
 need (prefixed o t) = need t
 need (infixed o l r) = max (need l) (suc (need r))
 
-most-first : (start : ℕ) (ss : List Step) → start ≤ most start ss
+most_first : (start : ℕ) (ss : List Step) → start ≤ most start ss
 unfolding most
-most-first start [] = omega arith
-most-first start (s ∷ ss) = omega arith
+most_first start [] = omega arith
+most_first start (s ∷ ss) = omega arith
 
-leaf-after : (l : Leaf) (start : ℕ) → after start (leaf_step l) ≡ suc start
+leaf_after : (l : Leaf) (start : ℕ) → after start (leaf_step l) ≡ suc start
 unfolding takes leaf_step
-leaf-after (number z) start = omega arith
-leaf-after pi start = omega arith
-leaf-after (variable v) start = omega arith
-leaf-after (cell region index) start = omega arith
+leaf_after (number z) start = omega arith
+leaf_after pi start = omega arith
+leaf_after (variable v) start = omega arith
+leaf_after (cell region index) start = omega arith
 
-need-some : (t : Tree) → 1 ≤ need t
+need_some : (t : Tree) → 1 ≤ need t
 unfolding need
-need-some (leaf l) = omega arith
-need-some (function_call f t) = need-some t
-need-some (prefixed o t) = need-some t
-need-some (infixed o l r) = omega (arith, need-some l)
+need_some (leaf l) = omega arith
+need_some (function_call f t) = need_some t
+need_some (prefixed o t) = need_some t
+need_some (infixed o l r) = omega (arith, need_some l)
 
 -- the most values while a tree is played on top of others, and then more steps
 tree_most : (t : Tree) (start : ℕ) (ss : List Step) → most start (steps t ++ ss) ≡ max (start + need t) (most (suc start) ss)
 unfolding steps need most takes
-tree_most (leaf l) start ss = rw (leaf-after l start) (omega (arith, most-first (suc start) ss))
+tree_most (leaf l) start ss = rw (leaf_after l start) (omega (arith, most_first (suc start) ss))
 tree_most (function_call f t) start ss =
     let p : after (suc start) (Step.Function f) ≡ suc start = omega arith in
-    rw (append_assoc (steps t) (Step.Function f ∷ []) ss, tree_most t start (Step.Function f ∷ ss), p) (omega (arith, most-first (suc start) ss))
+    rw (append_assoc (steps t) (Step.Function f ∷ []) ss, tree_most t start (Step.Function f ∷ ss), p) (omega (arith, most_first (suc start) ss))
 tree_most (prefixed o t) start ss =
     let p : after (suc start) (Step.Prefix o) ≡ suc start = omega arith in
-    rw (append_assoc (steps t) (Step.Prefix o ∷ []) ss, tree_most t start (Step.Prefix o ∷ ss), p) (omega (arith, most-first (suc start) ss))
+    rw (append_assoc (steps t) (Step.Prefix o ∷ []) ss, tree_most t start (Step.Prefix o ∷ ss), p) (omega (arith, most_first (suc start) ss))
 tree_most (infixed o l r) start ss =
     let p : after (suc (suc start)) (Step.Infix o) ≡ suc start = omega arith in
-    let q = need-some r in
+    let q = need_some r in
     rw (
       append_assoc (steps l) (steps r ++ (Step.Infix o ∷ [])) ss,
       tree_most l start ((steps r ++ (Step.Infix o ∷ [])) ++ ss),
@@ -84,7 +84,7 @@ tree_most (infixed o l r) start ss =
 -- the maximum over the run is what the tree needs
 pub most_is : (t : Tree) → most 0 (steps t) ≡ need t
 unfolding most
-most_is t = ap (most 0) (sym (append-nil (steps t))) ∙ tree_most t 0 [] ∙ omega (arith, need-some t)
+most_is t = ap (most 0) (sym (append-nil (steps t))) ∙ tree_most t 0 [] ∙ omega (arith, need_some t)
 
 -- and that is at most its depth
 pub need_depth : (t : Tree) → need t ≤ depth t
@@ -129,55 +129,55 @@ Whole (stands stack) = Unit {0}
 Whole (lacks e) = Unit {0}
 Whole breaks = ⊥
 
-push-counted : (e : Evaluation) (stack : List Complex) {n : ℕ} → suc (length stack) ≡ n → Counted n (push e stack)
+push_counted : (e : Evaluation) (stack : List Complex) {n : ℕ} → suc (length stack) ≡ n → Counted n (push e stack)
 unfolding push
-push-counted (Evaluation.Value z) stack {n} p = go (ltb (length stack) 64)
+push_counted (Evaluation.Value z) stack {n} p = go (ltb (length stack) 64)
   where
     go : (b : Bool) → Counted n (cond b (stands (z ∷ stack)) breaks)
     go true = p
     go false = tt
-push-counted Evaluation.Incomplete stack p = tt
-push-counted (Evaluation.Need operation x y) stack p = tt
+push_counted Evaluation.Incomplete stack p = tt
+push_counted (Evaluation.Need operation x y) stack p = tt
 
-push-whole : (e : Evaluation) (stack : List Complex) → length stack < 64 → Whole (push e stack)
+push_whole : (e : Evaluation) (stack : List Complex) → length stack < 64 → Whole (push e stack)
 unfolding push
-push-whole (Evaluation.Value z) stack l = subst (λ b. Whole (cond b (stands (z ∷ stack)) breaks)) (sym (lt-ltb (length stack) 64 l)) tt
-push-whole Evaluation.Incomplete stack l = tt
-push-whole (Evaluation.Need operation x y) stack l = tt
+push_whole (Evaluation.Value z) stack l = subst (λ b. Whole (cond b (stands (z ∷ stack)) breaks)) (sym (lt-ltb (length stack) 64 l)) tt
+push_whole Evaluation.Incomplete stack l = tt
+push_whole (Evaluation.Need operation x y) stack l = tt
 
 module _ (rows : Rows) where
   step_counted : (s : Step) (stack : List Complex) → Counted (after (length stack) s) (step rows s stack)
   unfolding step takes
-  step_counted (Step.Number z) stack = push-counted (leaf_value rows (number z)) stack (omega arith)
-  step_counted Step.Pi stack = push-counted (leaf_value rows pi) stack (omega arith)
-  step_counted (Step.Variable v) stack = push-counted (leaf_value rows (variable v)) stack (omega arith)
-  step_counted (Step.Memory region index) stack = push-counted (leaf_value rows (cell region index)) stack (omega arith)
+  step_counted (Step.Number z) stack = push_counted (leaf_value rows (number z)) stack (omega arith)
+  step_counted Step.Pi stack = push_counted (leaf_value rows pi) stack (omega arith)
+  step_counted (Step.Variable v) stack = push_counted (leaf_value rows (variable v)) stack (omega arith)
+  step_counted (Step.Memory region index) stack = push_counted (leaf_value rows (cell region index)) stack (omega arith)
   step_counted (Step.Function f) [] = tt
-  step_counted (Step.Function f) (x ∷ stack) = push-counted (calculate_function rows f x) stack (omega arith)
+  step_counted (Step.Function f) (x ∷ stack) = push_counted (calculate_function rows f x) stack (omega arith)
   step_counted (Step.Prefix o) [] = tt
-  step_counted (Step.Prefix o) (x ∷ stack) = push-counted (Evaluation.Value (calculate_prefix o x)) stack (omega arith)
+  step_counted (Step.Prefix o) (x ∷ stack) = push_counted (Evaluation.Value (calculate_prefix o x)) stack (omega arith)
   step_counted (Step.Infix o) [] = tt
   step_counted (Step.Infix o) (y ∷ []) = tt
-  step_counted (Step.Infix o) (y ∷ x ∷ stack) = push-counted (calculate_infix rows o x y) stack (omega arith)
+  step_counted (Step.Infix o) (y ∷ x ∷ stack) = push_counted (calculate_infix rows o x y) stack (omega arith)
 
-  step-whole : (s : Step) (stack : List Complex) → takes s ≤ length stack → length stack - takes s < 64 → Whole (step rows s stack)
+  step_whole : (s : Step) (stack : List Complex) → takes s ≤ length stack → length stack - takes s < 64 → Whole (step rows s stack)
   unfolding step takes
-  step-whole (Step.Number z) stack l m = push-whole (leaf_value rows (number z)) stack (omega (arith, m))
-  step-whole Step.Pi stack l m = push-whole (leaf_value rows pi) stack (omega (arith, m))
-  step-whole (Step.Variable v) stack l m = push-whole (leaf_value rows (variable v)) stack (omega (arith, m))
-  step-whole (Step.Memory region index) stack l m = push-whole (leaf_value rows (cell region index)) stack (omega (arith, m))
-  step-whole (Step.Function f) [] l m = absurd (omega (arith, l))
-  step-whole (Step.Function f) (x ∷ stack) l m = push-whole (calculate_function rows f x) stack (omega (arith, m))
-  step-whole (Step.Prefix o) [] l m = absurd (omega (arith, l))
-  step-whole (Step.Prefix o) (x ∷ stack) l m = push-whole (Evaluation.Value (calculate_prefix o x)) stack (omega (arith, m))
-  step-whole (Step.Infix o) [] l m = absurd (omega (arith, l))
-  step-whole (Step.Infix o) (y ∷ []) l m = absurd (omega (arith, l))
-  step-whole (Step.Infix o) (y ∷ x ∷ stack) l m = push-whole (calculate_infix rows o x y) stack (omega (arith, m))
+  step_whole (Step.Number z) stack l m = push_whole (leaf_value rows (number z)) stack (omega (arith, m))
+  step_whole Step.Pi stack l m = push_whole (leaf_value rows pi) stack (omega (arith, m))
+  step_whole (Step.Variable v) stack l m = push_whole (leaf_value rows (variable v)) stack (omega (arith, m))
+  step_whole (Step.Memory region index) stack l m = push_whole (leaf_value rows (cell region index)) stack (omega (arith, m))
+  step_whole (Step.Function f) [] l m = absurd (omega (arith, l))
+  step_whole (Step.Function f) (x ∷ stack) l m = push_whole (calculate_function rows f x) stack (omega (arith, m))
+  step_whole (Step.Prefix o) [] l m = absurd (omega (arith, l))
+  step_whole (Step.Prefix o) (x ∷ stack) l m = push_whole (Evaluation.Value (calculate_prefix o x)) stack (omega (arith, m))
+  step_whole (Step.Infix o) [] l m = absurd (omega (arith, l))
+  step_whole (Step.Infix o) (y ∷ []) l m = absurd (omega (arith, l))
+  step_whole (Step.Infix o) (y ∷ x ∷ stack) l m = push_whole (calculate_infix rows o x y) stack (omega (arith, m))
 
-  run-counted : (ss : List Step) (stack : List Complex) → Counted (values (length stack) ss) (run rows ss stack)
+  run_counted : (ss : List Step) (stack : List Complex) → Counted (values (length stack) ss) (run rows ss stack)
   unfolding run values and_then
-  run-counted [] stack = refl
-  run-counted (s ∷ ss) stack = go (step rows s stack) (step_counted s stack) (λ next. run-counted ss next)
+  run_counted [] stack = refl
+  run_counted (s ∷ ss) stack = go (step rows s stack) (step_counted s stack) (λ next. run_counted ss next)
     where
       go : (o : Outcome) → Counted (after (length stack) s) o → ((next : List Complex) → Counted (values (length next) ss) (run rows ss next))
           → Counted (values (after (length stack) s) ss) (and_then o (λ stack. run rows ss stack))
@@ -185,43 +185,43 @@ module _ (rows : Rows) where
       go (lacks e) c more = tt
       go breaks c more = tt
 
-  values-most : (start : ℕ) (ss us : List Step) → values start ss ≤ most start (ss ++ us)
+  values_most : (start : ℕ) (ss us : List Step) → values start ss ≤ most start (ss ++ us)
   unfolding values most
-  values-most start [] us = most-first start us
-  values-most start (s ∷ ss) us = omega (arith, values-most (after start s) ss us)
+  values_most start [] us = most_first start us
+  values_most start (s ∷ ss) us = omega (arith, values_most (after start s) ss us)
 
   -- after each step of an expression's tape, under any sheet, the stack holds no more values than the expression is deep
   pub stack_depth : (t : Tree) (ss us : List Step) (stack : List Complex) → steps t ≡ ss ++ us → run rows ss [] ≡ stands stack → length stack ≤ depth t
   stack_depth t ss us stack e p =
-      let c : length stack ≡ values 0 ss = subst (Counted (values 0 ss)) p (run-counted ss []) in
-      let m = values-most 0 ss us in
+      let c : length stack ≡ values 0 ss = subst (Counted (values 0 ss)) p (run_counted ss []) in
+      let m = values_most 0 ss us in
       let q = ap (most 0) e in
       omega (arith, c, m, q, most_depth t)
 
   -- ---- any sound tape
 
-  then-whole : (o : Outcome) (n : ℕ) (next : List Complex → Outcome) → Whole o → Counted n o → ((stack : List Complex) → length stack ≡ n → Whole (next stack)) → Whole (and_then o next)
+  then_whole : (o : Outcome) (n : ℕ) (next : List Complex → Outcome) → Whole o → Counted n o → ((stack : List Complex) → length stack ≡ n → Whole (next stack)) → Whole (and_then o next)
   unfolding and_then
-  then-whole (stands stack) n next w c more = more stack c
-  then-whole (lacks x) n next w c more = tt
-  then-whole breaks n next w c more = w
+  then_whole (stands stack) n next w c more = more stack c
+  then_whole (lacks x) n next w c more = tt
+  then_whole breaks n next w c more = w
 
-  run-whole : (at : ℕ) (fs : List Fields) (stack : List Complex) → check_from at (length stack) fs ≡ Checked.Sound → Whole (run rows (map step_of fs) stack)
+  run_whole : (at : ℕ) (fs : List Fields) (stack : List Complex) → check_from at (length stack) fs ≡ Checked.Sound → Whole (run rows (map step_of fs) stack)
   unfolding run
-  run-whole at [] stack e = tt
-  run-whole at (f ∷ fs) stack e =
+  run_whole at [] stack e = tt
+  run_whole at (f ∷ fs) stack e =
       let a = on_sound at (length stack) f fs e in
-      then-whole (step rows (step_of f) stack) (after (length stack) (step_of f)) (λ stack. run rows (map step_of fs) stack) (step-whole (step_of f) stack a.0.enough (omega (arith, a.0.room)))
-      (step_counted (step_of f) stack) λ next c. run-whole (suc at) fs next (ap (λ n. check_from (suc at) n fs) c ∙ a.1)
+      then_whole (step rows (step_of f) stack) (after (length stack) (step_of f)) (λ stack. run rows (map step_of fs) stack) (step_whole (step_of f) stack a.0.enough (omega (arith, a.0.room)))
+      (step_counted (step_of f) stack) λ next c. run_whole (suc at) fs next (ap (λ n. check_from (suc at) n fs) c ∙ a.1)
 
-  run-one : (at : ℕ) (fs : List Fields) (n : ℕ) → check_from at n fs ≡ Checked.Sound → values n (map step_of fs) ≡ 1
+  run_one : (at : ℕ) (fs : List Fields) (n : ℕ) → check_from at n fs ≡ Checked.Sound → values n (map step_of fs) ≡ 1
   unfolding values
-  run-one at [] n e = one_left at n e
-  run-one at (f ∷ fs) n e = run-one (suc at) fs (after n (step_of f)) (on_sound at n f fs e).1
+  run_one at [] n e = one_left at n e
+  run_one at (f ∷ fs) n e = run_one (suc at) fs (after n (step_of f)) (on_sound at n f fs e).1
 
   -- "A tape from anywhere else is refused before its first step or plays without running out of stack": no pop of an empty stack, never more than
   -- 64 values, and where no value is lacking one is left at the end
   pub sound_plays : (bs : List ℕ) → check bs ≡ Checked.Sound → Whole (run rows (steps_in bs) []) × Counted 1 (run rows (steps_in bs) [])
   sound_plays bs e =
       let s = (sound_is bs e).steps in
-      (run-whole 0 (fields_of_all (count bs) bs) [] s, subst (λ n. Counted n (run rows (steps_in bs) [])) (run-one 0 (fields_of_all (count bs) bs) 0 s) (run-counted (steps_in bs) []))
+      (run_whole 0 (fields_of_all (count bs) bs) [] s, subst (λ n. Counted n (run rows (steps_in bs) [])) (run_one 0 (fields_of_all (count bs) bs) 0 s) (run_counted (steps_in bs) []))

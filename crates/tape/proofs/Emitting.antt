@@ -42,9 +42,9 @@ unfolding tape_of
 tape_append [] us = refl
 tape_append (s ∷ ss) us = ap (λ (bs : List ℕ). encoded s ++ bs) (tape_append ss us) ∙ sym (append_assoc (encoded s) (tape_of ss) (tape_of us))
 
-tape-one : (s : Step) → tape_of (s ∷ []) ≡ encoded s
+tape_one : (s : Step) → tape_of (s ∷ []) ≡ encoded s
 unfolding tape_of
-tape-one s = append-nil (encoded s)
+tape_one s = append-nil (encoded s)
 
 -- ---- a node's steps
 
@@ -58,26 +58,26 @@ steps_none m (Expression.FunctionCall f a) q = absurd (nothing_under (Expression
 steps_none m (Expression.Prefix o a) q = absurd (nothing_under (Expression.Prefix o a) q)
 steps_none m (Expression.Infix o a b) q = absurd (nothing_under (Expression.Infix o a b) q)
 
-steps-one : (m : Memory) (e : Expression) (a : ℕ) → operands_of e ≡ Operands.One a → steps (tree_of m e) ≡ steps (tree_at m a) ++ (step_for e ∷ [])
+steps_one : (m : Memory) (e : Expression) (a : ℕ) → operands_of e ≡ Operands.One a → steps (tree_of m e) ≡ steps (tree_at m a) ++ (step_for e ∷ [])
 unfolding operands_of IsOne steps step_for grown
-steps-one m (Expression.Number z) a q = absurd (one_under (Expression.Number z) a q)
-steps-one m Expression.PiConstant a q = absurd (one_under Expression.PiConstant a q)
-steps-one m (Expression.Variable v) a q = absurd (one_under (Expression.Variable v) a q)
-steps-one m (Expression.Address region index) a q = absurd (one_under (Expression.Address region index) a q)
-steps-one m (Expression.FunctionCall f b) a q = ap (λ k. steps (tree_at m k) ++ (Step.Function f ∷ [])) (one_under (Expression.FunctionCall f b) a q)
-steps-one m (Expression.Prefix o b) a q = ap (λ k. steps (tree_at m k) ++ (Step.Prefix o ∷ [])) (one_under (Expression.Prefix o b) a q)
-steps-one m (Expression.Infix o b c) a q = absurd (one_under (Expression.Infix o b c) a q)
+steps_one m (Expression.Number z) a q = absurd (one_under (Expression.Number z) a q)
+steps_one m Expression.PiConstant a q = absurd (one_under Expression.PiConstant a q)
+steps_one m (Expression.Variable v) a q = absurd (one_under (Expression.Variable v) a q)
+steps_one m (Expression.Address region index) a q = absurd (one_under (Expression.Address region index) a q)
+steps_one m (Expression.FunctionCall f b) a q = ap (λ k. steps (tree_at m k) ++ (Step.Function f ∷ [])) (one_under (Expression.FunctionCall f b) a q)
+steps_one m (Expression.Prefix o b) a q = ap (λ k. steps (tree_at m k) ++ (Step.Prefix o ∷ [])) (one_under (Expression.Prefix o b) a q)
+steps_one m (Expression.Infix o b c) a q = absurd (one_under (Expression.Infix o b c) a q)
 
-steps-two : (m : Memory) (e : Expression) (a b : ℕ) → operands_of e ≡ Operands.Two a b
+steps_two : (m : Memory) (e : Expression) (a b : ℕ) → operands_of e ≡ Operands.Two a b
     → steps (tree_of m e) ≡ steps (tree_at m a) ++ (steps (tree_at m b) ++ (step_for e ∷ []))
 unfolding operands_of IsTwo steps step_for grown
-steps-two m (Expression.Number z) a b q = absurd (two_under (Expression.Number z) a b q)
-steps-two m Expression.PiConstant a b q = absurd (two_under Expression.PiConstant a b q)
-steps-two m (Expression.Variable v) a b q = absurd (two_under (Expression.Variable v) a b q)
-steps-two m (Expression.Address region index) a b q = absurd (two_under (Expression.Address region index) a b q)
-steps-two m (Expression.FunctionCall f c) a b q = absurd (two_under (Expression.FunctionCall f c) a b q)
-steps-two m (Expression.Prefix o c) a b q = absurd (two_under (Expression.Prefix o c) a b q)
-steps-two m (Expression.Infix o c d) a b q =
+steps_two m (Expression.Number z) a b q = absurd (two_under (Expression.Number z) a b q)
+steps_two m Expression.PiConstant a b q = absurd (two_under Expression.PiConstant a b q)
+steps_two m (Expression.Variable v) a b q = absurd (two_under (Expression.Variable v) a b q)
+steps_two m (Expression.Address region index) a b q = absurd (two_under (Expression.Address region index) a b q)
+steps_two m (Expression.FunctionCall f c) a b q = absurd (two_under (Expression.FunctionCall f c) a b q)
+steps_two m (Expression.Prefix o c) a b q = absurd (two_under (Expression.Prefix o c) a b q)
+steps_two m (Expression.Infix o c d) a b q =
     let i = two_under (Expression.Infix o c d) a b q in
     λ v. steps (tree_at m (i.0 v)) ++ (steps (tree_at m (i.1 v)) ++ (Step.Infix o ∷ []))
 
@@ -95,23 +95,23 @@ module _ {m : Memory} {n node : ℕ} (h : Holds m n) (l : node < n) {e : Express
 
   module _ {s : Step} (s-is : s ≡ step_for e) where
     tape_none : operands ≡ Operands.Nothing → encoded s ≡ tape (tree_at m node)
-    tape_none told = ap encoded s-is ∙ sym (tape-one (step_for e)) ∙ ap tape_of (sym (steps_none m e (sym o_is ∙ told))) ∙ ap tape tree_is
+    tape_none told = ap encoded s-is ∙ sym (tape_one (step_for e)) ∙ ap tape_of (sym (steps_none m e (sym o_is ∙ told))) ∙ ap tape tree_is
 
-    tape-of-one : {a : ℕ} → operands ≡ Operands.One a → tape (tree_at m a) ++ encoded s ≡ tape (tree_at m node)
-    tape-of-one {a} told =
+    tape_of_one : {a : ℕ} → operands ≡ Operands.One a → tape (tree_at m a) ++ encoded s ≡ tape (tree_at m node)
+    tape_of_one {a} told =
         ap (λ s. tape (tree_at m a) ++ encoded s) s-is
-        ∙ ap (λ (bs : List ℕ). tape (tree_at m a) ++ bs) (sym (tape-one (step_for e)))
+        ∙ ap (λ (bs : List ℕ). tape (tree_at m a) ++ bs) (sym (tape_one (step_for e)))
         ∙ sym (tape_append (steps (tree_at m a)) (step_for e ∷ []))
-        ∙ ap tape_of (sym (steps-one m e a (sym o_is ∙ told)))
+        ∙ ap tape_of (sym (steps_one m e a (sym o_is ∙ told)))
         ∙ ap tape tree_is
 
-    tape-of-two : {a b : ℕ} → operands ≡ Operands.Two a b → tape (tree_at m a) ++ (tape (tree_at m b) ++ encoded s) ≡ tape (tree_at m node)
-    tape-of-two {a} {b} told =
+    tape_of_two : {a b : ℕ} → operands ≡ Operands.Two a b → tape (tree_at m a) ++ (tape (tree_at m b) ++ encoded s) ≡ tape (tree_at m node)
+    tape_of_two {a} {b} told =
         ap (λ s. tape (tree_at m a) ++ (tape (tree_at m b) ++ encoded s)) s-is
-        ∙ ap (λ (bs : List ℕ). tape (tree_at m a) ++ (tape (tree_at m b) ++ bs)) (sym (tape-one (step_for e)))
+        ∙ ap (λ (bs : List ℕ). tape (tree_at m a) ++ (tape (tree_at m b) ++ bs)) (sym (tape_one (step_for e)))
         ∙ ap (λ (bs : List ℕ). tape (tree_at m a) ++ bs) (sym (tape_append (steps (tree_at m b)) (step_for e ∷ [])))
         ∙ sym (tape_append (steps (tree_at m a)) (steps (tree_at m b) ++ (step_for e ∷ [])))
-        ∙ ap tape_of (sym (steps-two m e a b (sym o_is ∙ told)))
+        ∙ ap tape_of (sym (steps_two m e a b (sym o_is ∙ told)))
         ∙ ap tape tree_is
 
     pub emits_none : {at r : ℕ} {out out' : List ℕ} → operands ≡ Operands.Nothing → Places out at s r out' → at + length (tape (tree_at m node)) ≤ length out
@@ -123,7 +123,7 @@ module _ {m : Memory} {n node : ℕ} (h : Holds m n) (l : node < n) {e : Express
     pub emits_one : {a at p r : ℕ} {out out₁ out₂ : List ℕ} → operands ≡ Operands.One a → (at + length (tape (tree_at m a)) ≤ length out → Put out at (tape (tree_at m a)) p out₁)
         → Places out₁ p s r out₂ → at + length (tape (tree_at m node)) ≤ length out → Put out at (tape (tree_at m node)) r out₂
     emits_one {a} {at} {p} {r} {out} {out₁} {out₂} told x y room =
-        let t = tape-of-one told in
+        let t = tape_of_one told in
         let k = ap length t in
         let j = length-append (tape (tree_at m a)) (encoded s) in
         let x = x (omega (arith, room, k, j)) in
@@ -134,7 +134,7 @@ module _ {m : Memory} {n node : ℕ} (h : Holds m n) (l : node < n) {e : Express
         → (p + length (tape (tree_at m b)) ≤ length out₁ → Put out₁ p (tape (tree_at m b)) q out₂) → Places out₂ q s r out₃
         → at + length (tape (tree_at m node)) ≤ length out → Put out at (tape (tree_at m node)) r out₃
     emits_two {a} {b} {at} {p} {q} {r} {out} {out₁} {out₂} {out₃} told x y z room =
-        let t = tape-of-two told in
+        let t = tape_of_two told in
         let k = ap length t in
         let i = length-append (tape (tree_at m a)) (tape (tree_at m b) ++ encoded s) in
         let j = length-append (tape (tree_at m b)) (encoded s) in

@@ -57,33 +57,33 @@ module _ (rows : Rows) (s : Step) (x y : Complex) (r : Found) (v : seen_found r 
   pub marked_values : {u marks marks' : List ℕ} → u ≡ used_at rows s x y → marks' ≡ noted u marks → Values rows s x y r marks marks'
   marked_values {marks = marks} e p = record { value = v; marked = p ∙ ap (λ u. noted u marks) e }
 
-step-used : (rows : Rows) (s : Step) (xs : List Complex) (depth : ℕ) → takes s ≤ depth
+step_used : (rows : Rows) (s : Step) (xs : List Complex) (depth : ℕ) → takes s ≤ depth
     → used_by_step rows s (stack_of xs depth) ≡ used_at rows s (get_or xs (depth - takes s) filler) (get_or xs (suc (depth - takes s)) filler)
 unfolding takes used_by_step used_at stack_of
-step-used rows (Step.Number z) xs depth l = refl
-step-used rows Step.Pi xs depth l = refl
-step-used rows (Step.Variable v) xs depth l = refl
-step-used rows (Step.Memory region index) xs depth l = refl
-step-used rows (Step.Function f) xs zero l = absurd (omega (arith, l))
-step-used rows (Step.Function f) xs (suc k) l =
+step_used rows (Step.Number z) xs depth l = refl
+step_used rows Step.Pi xs depth l = refl
+step_used rows (Step.Variable v) xs depth l = refl
+step_used rows (Step.Memory region index) xs depth l = refl
+step_used rows (Step.Function f) xs zero l = absurd (omega (arith, l))
+step_used rows (Step.Function f) xs (suc k) l =
     let p : suc k - 1 ≡ k = omega arith in
     rw p refl
-step-used rows (Step.Prefix o) xs depth l = refl
-step-used rows (Step.Infix o) xs zero l = absurd (omega (arith, l))
-step-used rows (Step.Infix o) xs (suc zero) l = absurd (omega (arith, l))
-step-used rows (Step.Infix o) xs (suc (suc k)) l =
+step_used rows (Step.Prefix o) xs depth l = refl
+step_used rows (Step.Infix o) xs zero l = absurd (omega (arith, l))
+step_used rows (Step.Infix o) xs (suc zero) l = absurd (omega (arith, l))
+step_used rows (Step.Infix o) xs (suc (suc k)) l =
     let p : suc (suc k) - 2 ≡ k = omega arith in
     rw p refl
 
-used-second : (rows : Rows) (s : Step) (x y y' : Complex) → (takes s ≡ 2 → y ≡ y') → used_at rows s x y ≡ used_at rows s x y'
+used_second : (rows : Rows) (s : Step) (x y y' : Complex) → (takes s ≡ 2 → y ≡ y') → used_at rows s x y ≡ used_at rows s x y'
 unfolding takes used_at
-used-second rows (Step.Number z) x y y' p = refl
-used-second rows Step.Pi x y y' p = refl
-used-second rows (Step.Variable v) x y y' p = refl
-used-second rows (Step.Memory region index) x y y' p = refl
-used-second rows (Step.Function f) x y y' p = refl
-used-second rows (Step.Prefix o) x y y' p = refl
-used-second rows (Step.Infix o) x y y' p = ap (used_at rows (Step.Infix o) x) (p refl)
+used_second rows (Step.Number z) x y y' p = refl
+used_second rows Step.Pi x y y' p = refl
+used_second rows (Step.Variable v) x y y' p = refl
+used_second rows (Step.Memory region index) x y y' p = refl
+used_second rows (Step.Function f) x y y' p = refl
+used_second rows (Step.Prefix o) x y y' p = refl
+used_second rows (Step.Infix o) x y y' p = ap (used_at rows (Step.Infix o) x) (p refl)
 
 -- after a lack nothing is used
 on_lack : (w : Evaluation) (stack : List Complex) (next : List Complex → List ℕ) → Lacks w → on_stack (push w stack) next ≡ []
@@ -104,9 +104,9 @@ module _ {bs : List ℕ} {i depth : ℕ} (h : Left bs i depth) (l : i < count bs
     (u : marks' ≡ noted (used_at rows s (get_or xs (depth - k) filler) y) marks) where
   used_now : used_by_step rows s (stack_of xs depth) ≡ used_at rows s (get_or xs (depth - k) filler) y
   used_now =
-      step-used rows s xs depth (taken h l e t).enough
+      step_used rows s xs depth (taken h l e t).enough
       ∙ (λ j. used_at rows s (get_or xs (depth - sym w j) filler) (get_or xs (suc (depth - sym w j)) filler))
-      ∙ sym (used-second rows s (get_or xs (depth - k) filler) y (get_or xs (suc (depth - k)) filler) λ two. q (omega (arith, w, two, (taken h l e t).enough, h.few)))
+      ∙ sym (used_second rows s (get_or xs (depth - k) filler) y (get_or xs (suc (depth - k)) filler) λ two. q (omega (arith, w, two, (taken h l e t).enough, h.few)))
 
   -- the marks of this step, and then of the rest
   now_marked : noted (on_stack (step rows s (stack_of xs depth)) λ stack. used_in_run rows (left_steps bs (i + 1)) stack) marks' ≡ noted (used_playing rows bs) marks₀

@@ -48,21 +48,21 @@ Left (lacks Evaluation.Incomplete) = Unit {0}
 Left (lacks (Evaluation.Need operation x y)) = Unit {0}
 Left breaks = Unit {0}
 
-push-left : (e : Evaluation) (stack : List Complex) → Left (push e stack)
+push_left : (e : Evaluation) (stack : List Complex) → Left (push e stack)
 unfolding push Left
-push-left (Evaluation.Value z) stack = go (ltb (length stack) 64) refl
+push_left (Evaluation.Value z) stack = go (ltb (length stack) 64) refl
   where
     go : (b : Bool) → ltb (length stack) 64 ≡ b → Left (cond b (stands (z ∷ stack)) breaks)
     go true e = omega (arith, ltb-true (length stack) 64 e)
     go false e = tt
-push-left Evaluation.Incomplete stack = tt
-push-left (Evaluation.Need operation x y) stack = tt
+push_left Evaluation.Incomplete stack = tt
+push_left (Evaluation.Need operation x y) stack = tt
 
-then-left : (o : Outcome) (next : List Complex → Outcome) → Left o → ((stack : List Complex) → length stack ≤ 64 → Left (next stack)) → Left (and_then o next)
+then_left : (o : Outcome) (next : List Complex → Outcome) → Left o → ((stack : List Complex) → length stack ≤ 64 → Left (next stack)) → Left (and_then o next)
 unfolding and_then Left
-then-left (stands stack) next l more = more stack l
-then-left (lacks e) next l more = l
-then-left breaks next l more = tt
+then_left (stands stack) next l more = more stack l
+then_left (lacks e) next l more = l
+then_left breaks next l more = tt
 
 ends : (o : Outcome) → Whole o → Counted 1 o → Left o → Ends o
 unfolding Left
@@ -76,11 +76,11 @@ ends breaks w c l = absurd w
 
 -- ---- some steps after others
 
-in-turn : (o : Outcome) (f g h : List Complex → Outcome) → ((stack : List Complex) → f stack ≡ and_then (g stack) h) → and_then o f ≡ and_then (and_then o g) h
+in_turn : (o : Outcome) (f g h : List Complex → Outcome) → ((stack : List Complex) → f stack ≡ and_then (g stack) h) → and_then o f ≡ and_then (and_then o g) h
 unfolding and_then
-in-turn (stands stack) f g h p = p stack
-in-turn (lacks e) f g h p = refl
-in-turn breaks f g h p = refl
+in_turn (stands stack) f g h p = p stack
+in_turn (lacks e) f g h p = refl
+in_turn breaks f g h p = refl
 
 before : (o : Outcome) (next : List Complex → Outcome) → Whole (and_then o next) → Whole o
 unfolding and_then
@@ -91,28 +91,28 @@ before breaks next w = w
 module _ (rows : Rows) where
   step_left : (s : Step) (stack : List Complex) → Left (step rows s stack)
   unfolding step Left
-  step_left (Step.Number z) stack = push-left (leaf_value rows (number z)) stack
-  step_left Step.Pi stack = push-left (leaf_value rows pi) stack
-  step_left (Step.Variable v) stack = push-left (leaf_value rows (variable v)) stack
-  step_left (Step.Memory region index) stack = push-left (leaf_value rows (cell region index)) stack
+  step_left (Step.Number z) stack = push_left (leaf_value rows (number z)) stack
+  step_left Step.Pi stack = push_left (leaf_value rows pi) stack
+  step_left (Step.Variable v) stack = push_left (leaf_value rows (variable v)) stack
+  step_left (Step.Memory region index) stack = push_left (leaf_value rows (cell region index)) stack
   step_left (Step.Function f) [] = tt
-  step_left (Step.Function f) (x ∷ stack) = push-left (calculate_function rows f x) stack
+  step_left (Step.Function f) (x ∷ stack) = push_left (calculate_function rows f x) stack
   step_left (Step.Prefix o) [] = tt
-  step_left (Step.Prefix o) (x ∷ stack) = push-left (Evaluation.Value (calculate_prefix o x)) stack
+  step_left (Step.Prefix o) (x ∷ stack) = push_left (Evaluation.Value (calculate_prefix o x)) stack
   step_left (Step.Infix o) [] = tt
   step_left (Step.Infix o) (y ∷ []) = tt
-  step_left (Step.Infix o) (y ∷ x ∷ stack) = push-left (calculate_infix rows o x y) stack
+  step_left (Step.Infix o) (y ∷ x ∷ stack) = push_left (calculate_infix rows o x y) stack
 
-  run-left : (ss : List Step) (stack : List Complex) → length stack ≤ 64 → Left (run rows ss stack)
+  run_left : (ss : List Step) (stack : List Complex) → length stack ≤ 64 → Left (run rows ss stack)
   unfolding run Left
-  run-left [] stack l = l
-  run-left (s ∷ ss) stack l = then-left (step rows s stack) (λ stack. run rows ss stack) (step_left s stack) λ next m. run-left ss next m
+  run_left [] stack l = l
+  run_left (s ∷ ss) stack l = then_left (step rows s stack) (λ stack. run rows ss stack) (step_left s stack) λ next m. run_left ss next m
 
   pub run_append : (ss us : List Step) (stack : List Complex) → run rows (ss ++ us) stack ≡ and_then (run rows ss stack) (λ stack. run rows us stack)
   unfolding run and_then
   run_append [] us stack = refl
   run_append (s ∷ ss) us stack =
-      in-turn (step rows s stack) (λ stack. run rows (ss ++ us) stack) (λ stack. run rows ss stack) (λ stack. run rows us stack) λ next. run_append ss us next
+      in_turn (step rows s stack) (λ stack. run rows (ss ++ us) stack) (λ stack. run rows ss stack) (λ stack. run rows us stack) λ next. run_append ss us next
 
   -- steps that do not run out of stack have not after the first ones
   first_whole : (ss : List Step) (k : ℕ) → Whole (run rows ss []) → Whole (run rows (take k ss) [])
@@ -127,10 +127,10 @@ module _ (rows : Rows) where
     unfolding Left
     sound_prefix k =
         at_most 64 (run rows (take k (steps_in bs)) []) (first_whole (steps_in bs) k (sound_plays rows bs sound).0) λ stack e.
-        subst Left e (run-left (take k (steps_in bs)) [] (omega arith))
+        subst Left e (run_left (take k (steps_in bs)) [] (omega arith))
 
     pub sound_ends : Ends (run rows (steps_in bs) [])
-    sound_ends = ends (run rows (steps_in bs) []) (sound_plays rows bs sound).0 (sound_plays rows bs sound).1 (run-left (steps_in bs) [] (omega arith))
+    sound_ends = ends (run rows (steps_in bs) []) (sound_plays rows bs sound).0 (sound_plays rows bs sound).1 (run_left (steps_in bs) [] (omega arith))
 
   -- ---- the tape of an expression
 

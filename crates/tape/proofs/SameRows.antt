@@ -23,11 +23,11 @@ use Rattle.tape.proofs.Demand.{steps_proper, steps_back}
 
 -- ---- what is used after a value
 
-on-pushed : (e : Evaluation) (stack : List Complex) (next : List Complex → List ℕ) → length stack < 64 → on_stack (push e stack) next ≡ after_value e (λ z. next (z ∷ stack))
+on_pushed : (e : Evaluation) (stack : List Complex) (next : List Complex → List ℕ) → length stack < 64 → on_stack (push e stack) next ≡ after_value e (λ z. next (z ∷ stack))
 unfolding on_stack push after_value
-on-pushed (Evaluation.Value z) stack next l = ap (λ b. on_stack (cond b (stands (z ∷ stack)) breaks) next) (lt-ltb (length stack) 64 l)
-on-pushed Evaluation.Incomplete stack next l = refl
-on-pushed (Evaluation.Need operation x y) stack next l = refl
+on_pushed (Evaluation.Value z) stack next l = ap (λ b. on_stack (cond b (stands (z ∷ stack)) breaks) next) (lt-ltb (length stack) 64 l)
+on_pushed Evaluation.Incomplete stack next l = refl
+on_pushed (Evaluation.Need operation x y) stack next l = refl
 
 after_same : (e : Evaluation) {f g : Complex → List ℕ} → ((z : Complex) → f z ≡ g z) → after_value e f ≡ after_value e g
 unfolding after_value
@@ -46,17 +46,17 @@ module _ (e : Evaluation) (then : Complex → Evaluation) (next : Complex → Li
   unfolding after_value Evaluating.and_then
   plainly = elim e [ Evaluation.Value z ↦ refl | Evaluation.Incomplete ↦ refl | Evaluation.Need operation x y ↦ refl ]
 
-  in-turn : (rows : Complex → List ℕ) → after_value e (λ x. rows x ++ after_value (then x) next) ≡ after_value e rows ++ after_value (Evaluating.and_then e then) next
+  in_turn : (rows : Complex → List ℕ) → after_value e (λ x. rows x ++ after_value (then x) next) ≡ after_value e rows ++ after_value (Evaluating.and_then e then) next
   unfolding after_value Evaluating.and_then
-  in-turn rows = elim e [ Evaluation.Value z ↦ refl | Evaluation.Incomplete ↦ refl | Evaluation.Need operation x y ↦ refl ]
+  in_turn rows = elim e [ Evaluation.Value z ↦ refl | Evaluation.Incomplete ↦ refl | Evaluation.Need operation x y ↦ refl ]
 
 -- ---- a tree's steps use what the tree does
 
-max-left : (a b : ℕ) → a ≤ max a b
-max-left a b = omega arith
+max_left : (a b : ℕ) → a ≤ max a b
+max_left a b = omega arith
 
-max-right : (a b : ℕ) → b ≤ max a b
-max-right a b = omega arith
+max_right : (a b : ℕ) → b ≤ max a b
+max_right a b = omega arith
 
 module _ (rows : Rows) where
   leaf_uses : (l : Leaf) (ss : List Step) (stack : List Complex) → used_in_run rows (leaf_step l ∷ ss) stack ≡ on_stack (push (leaf_value rows l) stack) (λ stack. used_in_run rows ss stack)
@@ -69,7 +69,7 @@ module _ (rows : Rows) where
   -- what is used after a step that leaves a value on the stack
   stepped : (e : Evaluation) (ss : List Step) (stack : List Complex) → length stack < 64
       → on_stack (push e stack) (λ stack. used_in_run rows ss stack) ≡ after_value e (λ z. used_in_run rows ss (z ∷ stack))
-  stepped e ss stack l = on-pushed e stack (λ stack. used_in_run rows ss stack) l
+  stepped e ss stack l = on_pushed e stack (λ stack. used_in_run rows ss stack) l
 
   tree_uses : (t : Tree) (ss : List Step) (stack : List Complex) → length stack + depth t ≤ 64
       → used_in_run rows (steps t ++ ss) stack ≡ used rows t ++ after_value (evaluate rows t) (λ z. used_in_run rows ss (z ∷ stack))
@@ -80,7 +80,7 @@ module _ (rows : Rows) where
       ∙ tree_uses t (Step.Function f ∷ ss) stack (omega (arith, d))
       ∙ ap (λ u. used rows t ++ u)
       (after_same (evaluate rows t) (λ x. ap (λ u. used_by_function rows f x ++ u) (stepped (calculate_function rows f x) ss stack (omega (arith, d))))
-      ∙ in-turn (evaluate rows t) (calculate_function rows f) (λ z. used_in_run rows ss (z ∷ stack)) (used_by_function rows f))
+      ∙ in_turn (evaluate rows t) (calculate_function rows f) (λ z. used_in_run rows ss (z ∷ stack)) (used_by_function rows f))
       ∙ sym (append_assoc (used rows t) _ _)
   tree_uses (prefixed o t) ss stack d =
       ap (λ us. used_in_run rows us stack) (append_assoc (steps t) (Step.Prefix o ∷ []) ss)
@@ -89,8 +89,8 @@ module _ (rows : Rows) where
       (after_same (evaluate rows t) (λ x. stepped (Evaluation.Value (calculate_prefix o x)) ss stack (omega (arith, d)))
       ∙ plainly (evaluate rows t) (λ x. Evaluation.Value (calculate_prefix o x)) (λ z. used_in_run rows ss (z ∷ stack)))
   tree_uses (infixed o l r) ss stack d =
-      let m = max-left (depth l) (depth r) in
-      let n = max-right (depth l) (depth r) in
+      let m = max_left (depth l) (depth r) in
+      let n = max_right (depth l) (depth r) in
       ap (λ us. used_in_run rows us stack) (append_assoc (steps l) (steps r ++ (Step.Infix o ∷ [])) ss)
       ∙ tree_uses l ((steps r ++ (Step.Infix o ∷ [])) ++ ss) stack (omega (arith, d, m))
       ∙ ap (λ u. used rows l ++ u)
@@ -100,9 +100,9 @@ module _ (rows : Rows) where
       ∙ tree_uses r (Step.Infix o ∷ ss) (x ∷ stack) (omega (arith, d, n))
       ∙ ap (λ u. used rows r ++ u)
       (after_same (evaluate rows r) (λ y. ap (λ u. used_by_infix rows o x y ++ u) (stepped (calculate_infix rows o x y) ss stack (omega (arith, d))))
-      ∙ in-turn (evaluate rows r) (calculate_infix rows o x) (λ z. used_in_run rows ss (z ∷ stack)) (used_by_infix rows o x))
+      ∙ in_turn (evaluate rows r) (calculate_infix rows o x) (λ z. used_in_run rows ss (z ∷ stack)) (used_by_infix rows o x))
       ∙ sym (append_assoc (used rows r) _ _))
-      ∙ in-turn (evaluate rows l) (λ x. Evaluating.and_then (evaluate rows r) (calculate_infix rows o x)) (λ z. used_in_run rows ss (z ∷ stack))
+      ∙ in_turn (evaluate rows l) (λ x. Evaluating.and_then (evaluate rows r) (calculate_infix rows o x)) (λ z. used_in_run rows ss (z ∷ stack))
       (λ x. used rows r ++ after_value (evaluate rows r) (used_by_infix rows o x)))
       ∙ sym (append_assoc (used rows l) _ _)
 

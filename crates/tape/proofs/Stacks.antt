@@ -33,21 +33,21 @@ get_set [] k z d l = absurd (omega (arith, l))
 get_set (x ∷ xs) zero z d l = refl
 get_set (x ∷ xs) (suc k) z d l = get_set xs k z d (omega (arith, l))
 
-get-below : (xs : List Complex) (k j : ℕ) (z d : Complex) → j < k → get_or (set xs k z) j d ≡ get_or xs j d
-get-below [] k j z d l = refl
-get-below (x ∷ xs) zero j z d l = absurd (omega (arith, l))
-get-below (x ∷ xs) (suc k) zero z d l = refl
-get-below (x ∷ xs) (suc k) (suc j) z d l = get-below xs k j z d (omega (arith, l))
+get_below : (xs : List Complex) (k j : ℕ) (z d : Complex) → j < k → get_or (set xs k z) j d ≡ get_or xs j d
+get_below [] k j z d l = refl
+get_below (x ∷ xs) zero j z d l = absurd (omega (arith, l))
+get_below (x ∷ xs) (suc k) zero z d l = refl
+get_below (x ∷ xs) (suc k) (suc j) z d l = get_below xs k j z d (omega (arith, l))
 
-stack-below : (xs : List Complex) (k j : ℕ) (z : Complex) → j ≤ k → stack_of (set xs k z) j ≡ stack_of xs j
+stack_below : (xs : List Complex) (k j : ℕ) (z : Complex) → j ≤ k → stack_of (set xs k z) j ≡ stack_of xs j
 unfolding stack_of
-stack-below xs k zero z l = refl
-stack-below xs k (suc j) z l = rw (get-below xs k j z filler l, stack-below xs k j z (omega (arith, l))) refl
+stack_below xs k zero z l = refl
+stack_below xs k (suc j) z l = rw (get_below xs k j z filler l, stack_below xs k j z (omega (arith, l))) refl
 
 -- a value in the slot above the others
 pub stack_push : (xs : List Complex) (k : ℕ) (z : Complex) → k < length xs → stack_of (set xs k z) (suc k) ≡ z ∷ stack_of xs k
 unfolding stack_of
-stack_push xs k z l = rw (get_set xs k z filler l, stack-below xs k k z (omega arith)) refl
+stack_push xs k z l = rw (get_set xs k z filler l, stack_below xs k k z (omega arith)) refl
 
 -- ---- a step on the array
 

@@ -48,14 +48,14 @@ module _ (rows : Rows) (j : ℕ) where
   left_same ss (lacks e) h n = record { outcome = refl; used = refl }
   left_same ss breaks h n = record { outcome = refl; used = refl }
 
-  run-same : (ss : List Step) (stack : List Complex) → among j (used_in_run rows ss stack) ≡ false
+  run_same : (ss : List Step) (stack : List Complex) → among j (used_in_run rows ss stack) ≡ false
       → Same j (run rows ss stack) (run (without_row j rows) ss stack) (used_in_run rows ss stack) (used_in_run (without_row j rows) ss stack)
   unfolding run used_in_run
-  run-same [] stack n = record { outcome = refl; used = refl }
-  run-same (s ∷ ss) stack n =
+  run_same [] stack n = record { outcome = refl; used = refl }
+  run_same (s ∷ ss) stack n =
       let b = among_neither j (used_by_step rows s stack) _ n in
       let first = step_same s stack b.0 in
-      let next = left_same ss (step rows s stack) (λ stack n. run-same ss stack n) b.1 in
+      let next = left_same ss (step rows s stack) (λ stack n. run_same ss stack n) b.1 in
       record {
         outcome = ap (λ o. and_then o (λ stack. run (without_row j rows) ss stack)) first.outcome ∙ next.outcome;
         used = rw (first.outcome, first.used, next.used) (sym (map-append (renumbered j) (used_by_step rows s stack) _));
@@ -63,10 +63,10 @@ module _ (rows : Rows) (j : ℕ) where
 
   -- a row that is not used can be taken away with no change of the answer
   pub plays_without : (tape : List ℕ) → among j (used_playing rows tape) ≡ false → played (without_row j rows) tape ≡ played rows tape
-  plays_without tape n = ap result (run-same (steps_in tape) [] n).outcome
+  plays_without tape n = ap result (run_same (steps_in tape) [] n).outcome
 
   pub uses_without : (tape : List ℕ) → among j (used_playing rows tape) ≡ false → used_playing (without_row j rows) tape ≡ map (renumbered j) (used_playing rows tape)
-  uses_without tape n = (run-same (steps_in tape) [] n).used
+  uses_without tape n = (run_same (steps_in tape) [] n).used
 
   -- so it is where the row's mark is 0
   pub plays_unmarked : (tape : List ℕ) → j < most_marks → get_or (marks_of (used_playing rows tape)) j 0 ≡ 0 → played (without_row j rows) tape ≡ played rows tape

@@ -67,18 +67,18 @@ missing_lacks (Evaluation.Value z) e = not_seen e
 missing_lacks Evaluation.Incomplete e = inl refl
 missing_lacks (Evaluation.Need operation x y) e = inr refl
 
-bound-missing : (l : Lookup) → seen_value (bound l) ≡ missing → Evaluation.Incomplete ≡ bound l
+bound_missing : (l : Lookup) → seen_value (bound l) ≡ missing → Evaluation.Incomplete ≡ bound l
 unfolding bound seen_value
-bound-missing (found z) e = not_seen e
-bound-missing missing e = refl
+bound_missing (found z) e = not_seen e
+bound_missing missing e = refl
 
-infix-missing : (rows : Rows) (o : InfixOperator) (x y : Complex) → seen_value (calculate_infix rows o x y) ≡ missing → asks (Step.Infix o) ≡ true
+infix_missing : (rows : Rows) (o : InfixOperator) (x y : Complex) → seen_value (calculate_infix rows o x y) ≡ missing → asks (Step.Infix o) ≡ true
 unfolding calculate_infix seen_value asks
-infix-missing rows InfixOperator.Plus x y e = not_seen e
-infix-missing rows InfixOperator.Minus x y e = not_seen e
-infix-missing rows InfixOperator.Star x y e = not_seen e
-infix-missing rows InfixOperator.Slash x y e = not_seen e
-infix-missing rows InfixOperator.Caret x y e = refl
+infix_missing rows InfixOperator.Plus x y e = not_seen e
+infix_missing rows InfixOperator.Minus x y e = not_seen e
+infix_missing rows InfixOperator.Star x y e = not_seen e
+infix_missing rows InfixOperator.Slash x y e = not_seen e
+infix_missing rows InfixOperator.Caret x y e = refl
 
 -- ---- small numbers
 
@@ -191,16 +191,16 @@ module _ (f : Fields) where
     pub leaf_missing : 0 < f.opcode → f.opcode < 5 → Evaluation.Incomplete ≡ value_of rows (step_of f) x y
     unfolding value_of leaf_value seen_value
     leaf_missing l k =
-        ⊎_elim (λ e. not_seen (rw (as_number e) at m)) (⊎_elim (λ e. not_seen (rw (as_pi e) at m)) (⊎_elim (λ e. rw (as_variable e) (bound-missing _ (rw (as_variable e) at m))) (λ e. rw (as_cell e) (bound-missing _ (rw (as_cell e) at m)))))
+        ⊎_elim (λ e. not_seen (rw (as_number e) at m)) (⊎_elim (λ e. not_seen (rw (as_pi e) at m)) (⊎_elim (λ e. rw (as_variable e) (bound_missing _ (rw (as_variable e) at m))) (λ e. rw (as_cell e) (bound_missing _ (rw (as_cell e) at m)))))
         (first_four f.opcode l k)
 
-    prefix-seen : {A : Type 0} → f.opcode ≡ 6 → A
+    prefix_seen : {A : Type 0} → f.opcode ≡ 6 → A
     unfolding value_of seen_value
-    prefix-seen e = not_seen (rw (as_prefix e) at m)
+    prefix_seen e = not_seen (rw (as_prefix e) at m)
 
-    operator-missing : step_of f ≡ Step.Infix (infix_of f.sub) → asks (step_of f) ≡ true
+    operator_missing : step_of f ≡ Step.Infix (infix_of f.sub) → asks (step_of f) ≡ true
     unfolding value_of
-    operator-missing e = ap asks e ∙ infix-missing rows (infix_of f.sub) x y (rw e at m)
+    operator_missing e = ap asks e ∙ infix_missing rows (infix_of f.sub) x y (rw e at m)
 
     -- and an operation that has none was asked
     pub operation_missing : 4 < f.opcode → asks (step_of f) ≡ true
@@ -208,21 +208,21 @@ module _ (f : Fields) where
       where
         go : (a b : Bool) → eqb f.opcode 5 ≡ a → eqb f.opcode 6 ≡ b → asks (step_of f) ≡ true
         go true b p q = sym (asks_function (eqb-true f.opcode 5 p))
-        go false true p q = prefix-seen (eqb-true f.opcode 6 q)
-        go false false p q = operator-missing (as_operator l (λ e. never (sym p ∙ eq-eqb f.opcode 5 e)) (λ e. never (sym q ∙ eq-eqb f.opcode 6 e)))
+        go false true p q = prefix_seen (eqb-true f.opcode 6 q)
+        go false false p q = operator_missing (as_operator l (λ e. never (sym p ∙ eq-eqb f.opcode 5 e)) (λ e. never (sym q ∙ eq-eqb f.opcode 6 e)))
 
   module _ (l : 4 < f.opcode) (p : f.opcode ≡ 5 → ⊥) (q : f.opcode ≡ 6 → ⊥) where
     pub asks_operator : 0 < f.sub → f.sub < 5 → false ≡ asks (step_of f)
     unfolding asks numbered
     asks_operator k m = ⊎_elim (λ (e : f.sub ≡ 1). rw (as_operator l p q, e) refl) (⊎_elim (λ (e : f.sub ≡ 2). rw (as_operator l p q, e) refl) (⊎_elim (λ (e : f.sub ≡ 3). rw (as_operator l p q, e) refl) (λ (e : f.sub ≡ 4). rw (as_operator l p q, e) refl))) (first_four f.sub k m)
 
-    caret-is : (f.sub ≡ 1 → ⊥) → (f.sub ≡ 2 → ⊥) → (f.sub ≡ 3 → ⊥) → (f.sub ≡ 4 → ⊥) → infix_of f.sub ≡ InfixOperator.Caret
+    caret_is : (f.sub ≡ 1 → ⊥) → (f.sub ≡ 2 → ⊥) → (f.sub ≡ 3 → ⊥) → (f.sub ≡ 4 → ⊥) → infix_of f.sub ≡ InfixOperator.Caret
     unfolding numbered
-    caret-is a b c d = rw (ne_eqb f.sub 1 a, ne_eqb f.sub 2 b, ne_eqb f.sub 3 c, ne_eqb f.sub 4 d) refl
+    caret_is a b c d = rw (ne_eqb f.sub 1 a, ne_eqb f.sub 2 b, ne_eqb f.sub 3 c, ne_eqb f.sub 4 d) refl
 
     pub asks_caret : (f.sub ≡ 1 → ⊥) → (f.sub ≡ 2 → ⊥) → (f.sub ≡ 3 → ⊥) → (f.sub ≡ 4 → ⊥) → true ≡ asks (step_of f)
     unfolding asks
-    asks_caret a b c d = rw (as_operator l p q, caret-is a b c d) refl
+    asks_caret a b c d = rw (as_operator l p q, caret_is a b c d) refl
 
     -- ---- + - * /
 

@@ -65,10 +65,10 @@ spells limit n d ds rest rest' s z h e =
     let q : rest ≡ rest' = cc in
     record { low = omega (arith, h, v); digits_are = rw v at (the_digits d ds s z); same_rest = q }
 
-spelt-only : (limit n : ℕ) (ds rest rest' : List ℕ) → Small ds → spelt limit ds rest ≡ is n rest' → Spells limit n ds rest rest'
+spelt_only : (limit n : ℕ) (ds rest rest' : List ℕ) → Small ds → spelt limit ds rest ≡ is n rest' → Spells limit n ds rest rest'
 unfolding spelt
-spelt-only limit n [] rest rest' s e = never e
-spelt-only limit n (d ∷ ds) rest rest' s e = elim (dec_lt (value 0 (d ∷ ds)) limit) [
+spelt_only limit n [] rest rest' s e = never e
+spelt_only limit n (d ∷ ds) rest rest' s e = elim (dec_lt (value 0 (d ∷ ds)) limit) [
   | no ge ↦ never (sym (too_large limit (d ∷ ds) rest (omega arith)) ∙ e)
   | yes lt ↦ elim (ℕ_discrete d 0) [
     | no n0 ↦ spells limit n d ds rest rest' s (λ u. absurd (n0 u)) lt (rw (ne_eqb d 0 n0, lt-ltb (value 0 (d ∷ ds)) limit lt) at e)
@@ -82,7 +82,7 @@ spelt-only limit n (d ∷ ds) rest rest' s e = elim (dec_lt (value 0 (d ∷ ds))
 pub decimal_only : (limit n : ℕ) (bs rest : List ℕ) → decimal limit bs ≡ is n rest → (n < limit) × (bs ≡ in_decimal n ++ rest)
 unfolding decimal in_decimal
 decimal_only limit n bs rest e =
-    let f : Spells limit n (run bs) (drop (length (run bs)) bs) rest = spelt-only limit n (run bs) (drop (length (run bs)) bs) rest (run_is bs).0 e in
+    let f : Spells limit n (run bs) (drop (length (run bs)) bs) rest = spelt_only limit n (run bs) (drop (length (run bs)) bs) rest (run_is bs).0 e in
     let t : take (length (run bs)) bs ++ drop (length (run bs)) bs ≡ bs = take-append-drop (length (run bs)) bs in
     (f.low, sym t ∙ rw ((run_is bs).1, f.same_rest, f.digits_are))
 
@@ -96,17 +96,17 @@ first_hex (suc k) n =
     let z : n / 16 / 16 ^ k ≡ n / 16 ^ suc k = div-div-eq-div-mul n 16 (16 ^ k) ∙ ap (λ m. n / m) (omega (arith, pow-suc 16 k)) in
     ap (λ (l : List ℕ). l ++ (byte_of (n % 16) ∷ [])) (first_hex k (n / 16)) ∙ rw z
 
-hex-from-only : (k v n : ℕ) (bs rest : List ℕ) → hex_from k v bs ≡ is n rest → (v ≡ n / 16 ^ k) × (bs ≡ last_hex k n ++ rest)
+hex_from_only : (k v n : ℕ) (bs rest : List ℕ) → hex_from k v bs ≡ is n rest → (v ≡ n / 16 ^ k) × (bs ≡ last_hex k n ++ rest)
 unfolding hex_from last_hex
-hex-from-only zero v n bs rest e =
+hex_from_only zero v n bs rest e =
     let p : v ≡ n = cc in
     let q : bs ≡ rest = cc in
     (omega (arith, p), q)
-hex-from-only (suc k) v n [] rest e = never e
-hex-from-only (suc k) v n (b ∷ bs) rest e = elim (dec_lt (digit_of b) 16) [
+hex_from_only (suc k) v n [] rest e = never e
+hex_from_only (suc k) v n (b ∷ bs) rest e = elim (dec_lt (digit_of b) 16) [
   | no ge ↦ never (rw (le-ltb (digit_of b) 16 (omega arith)) at e)
   | yes lt ↦
-      let f = hex-from-only k (v * 16 + digit_of b) n bs rest (rw (lt-ltb (digit_of b) 16 lt) at e) in
+      let f = hex_from_only k (v * 16 + digit_of b) n bs rest (rw (lt-ltb (digit_of b) 16 lt) at e) in
       let z : n / 16 ^ suc k ≡ n / 16 ^ k / 16 = ap (λ m. n / m) (omega (arith, pow-suc 16 k)) ∙ sym (div-div-eq-div-mul n (16 ^ k) 16) in
       let d : n / 16 ^ k % 16 ≡ digit_of b = omega (arith, f.0, lt) in
       (omega (arith, f.0, lt, z), rw (first_hex k n, d, byte_digit b lt) (ap (λ (l : List ℕ). b ∷ l) f.1))
@@ -114,7 +114,7 @@ hex-from-only (suc k) v n (b ∷ bs) rest e = elim (dec_lt (digit_of b) 16) [
 
 pub hex_only : (n : ℕ) (bs rest : List ℕ) → hex bs ≡ is n rest → (n < 2 ^ 64) × (bs ≡ in_hex n ++ rest)
 unfolding hex in_hex
-hex_only n bs rest e = let f = hex-from-only 16 0 n bs rest e in (omega (arith, f.0), f.1)
+hex_only n bs rest e = let f = hex_from_only 16 0 n bs rest e in (omega (arith, f.0), f.1)
 
 -- ---- the end of a field, and names
 

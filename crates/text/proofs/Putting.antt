@@ -9,15 +9,15 @@ use Rattle.text.specs.Put.{Put}
 
 -- ---- decimal digits
 
-digitsBy-one : (f n : ℕ) → digits_by f true n ≡ n ∷ []
+digits_by_one : (f n : ℕ) → digits_by f true n ≡ n ∷ []
 unfolding digits_by
-digitsBy-one zero n = refl
-digitsBy-one (suc f) n = refl
+digits_by_one zero n = refl
+digits_by_one (suc f) n = refl
 
 -- any fuel from n on will do
 enough : (f g n : ℕ) → n ≤ f → n ≤ g → digits_by f (ltb n 10) n ≡ digits_by g (ltb n 10) n
 unfolding digits_by
-enough zero g n hf hg = rw (lt-ltb n 10 (omega arith)) (sym (digitsBy-one g n))
+enough zero g n hf hg = rw (lt-ltb n 10 (omega arith)) (sym (digits_by_one g n))
 enough (suc f) zero n hf hg = rw (lt-ltb n 10 (omega arith))
 enough (suc f) (suc g) n hf hg = elim (dec_lt n 10) [
   | yes lt ↦ rw (lt-ltb n 10 lt)
@@ -26,7 +26,7 @@ enough (suc f) (suc g) n hf hg = elim (dec_lt n 10) [
 
 pub digits_one : (n : ℕ) → n < 10 → digits n ≡ n ∷ []
 unfolding digits
-digits_one n h = rw (lt-ltb n 10 h) (digitsBy-one n n)
+digits_one n h = rw (lt-ltb n 10 h) (digits_by_one n n)
 
 pub digits_more : (n : ℕ) → 10 ≤ n → digits n ≡ digits (n / 10) ++ (n % 10 ∷ [])
 unfolding digits digits_by
@@ -46,21 +46,21 @@ by_digits P one more n = go n n (omega arith)
 pub digits_only : (f : ℕ → List ℕ) → ((n : ℕ) → n < 10 → f n ≡ n ∷ []) → ((n : ℕ) → 10 ≤ n → f n ≡ f (n / 10) ++ (n % 10 ∷ [])) → (n : ℕ) → f n ≡ digits n
 digits_only f one more = by_digits (λ n. f n ≡ digits n) (λ n h. one n h ∙ sym (digits_one n h)) λ n h e. more n h ∙ ap (λ ds. ds ++ (n % 10 ∷ [])) e ∙ sym (digits_more n h)
 
-decimal-one : (n : ℕ) → n < 10 → in_decimal n ≡ byte_of n ∷ []
+decimal_one : (n : ℕ) → n < 10 → in_decimal n ≡ byte_of n ∷ []
 unfolding in_decimal
-decimal-one n h = rw (digits_one n h)
+decimal_one n h = rw (digits_one n h)
 
-decimal-more : (n : ℕ) → 10 ≤ n → in_decimal n ≡ in_decimal (n / 10) ++ (byte_of (n % 10) ∷ [])
+decimal_more : (n : ℕ) → 10 ≤ n → in_decimal n ≡ in_decimal (n / 10) ++ (byte_of (n % 10) ∷ [])
 unfolding in_decimal
-decimal-more n h = rw (digits_more n h) (map-append byte_of (digits (n / 10)) (n % 10 ∷ []))
+decimal_more n h = rw (digits_more n h) (map-append byte_of (digits (n / 10)) (n % 10 ∷ []))
 
 -- ---- lengths
 
 pub one_length : (n : ℕ) → n < 10 → length (in_decimal n) ≡ 1
-one_length n h = rw (decimal-one n h)
+one_length n h = rw (decimal_one n h)
 
 pub more_length : (n : ℕ) → 10 ≤ n → length (in_decimal n) ≡ length (in_decimal (n / 10)) + 1
-more_length n h = rw (decimal-more n h) (length-append (in_decimal (n / 10)) (byte_of (n % 10) ∷ []))
+more_length n h = rw (decimal_more n h) (length-append (in_decimal (n / 10)) (byte_of (n % 10) ∷ []))
 
 -- below 10 ^ k: at most k digits
 pub few_digits : (k n : ℕ) → n < 10 ^ suc k → length (in_decimal n) ≤ suc k
@@ -70,25 +70,25 @@ few_digits (suc k) n h = elim (dec_lt n 10) [
   | no ge ↦ omega (arith, more_length n (omega arith), few_digits k (n / 10) (omega (arith, rw (pow-suc 10 (suc k)) at h)))
 ]
 
-lastHex-length : (k n : ℕ) → length (last_hex k n) ≡ k
+last_hex_length : (k n : ℕ) → length (last_hex k n) ≡ k
 unfolding last_hex
-lastHex-length zero n = refl
-lastHex-length (suc k) n = rw (length-append (last_hex k (n / 16)) (byte_of (n % 16) ∷ []), lastHex-length k (n / 16)) (omega arith)
+last_hex_length zero n = refl
+last_hex_length (suc k) n = rw (length-append (last_hex k (n / 16)) (byte_of (n % 16) ∷ []), last_hex_length k (n / 16)) (omega arith)
 
 pub hex_length : (n : ℕ) → length (in_hex n) ≡ 16
 unfolding in_hex
-hex_length n = lastHex-length 16 n
+hex_length n = last_hex_length 16 n
 
 -- ---- one writer after another
 
-sets-append : (l : List ℕ) (i : ℕ) (xs ys : List ℕ) → sets l i (xs ++ ys) ≡ sets (sets l i xs) (i + length xs) ys
-sets-append l i [] ys = rw add-zero
-sets-append l i (x ∷ xs) ys = sets-append (set l i x) (suc i) xs ys ∙ ap (λ (k : ℕ). sets (sets (set l i x) (suc i) xs) k ys) (omega arith)
+sets_append : (l : List ℕ) (i : ℕ) (xs ys : List ℕ) → sets l i (xs ++ ys) ≡ sets (sets l i xs) (i + length xs) ys
+sets_append l i [] ys = rw add-zero
+sets_append l i (x ∷ xs) ys = sets_append (set l i x) (suc i) xs ys ∙ ap (λ (k : ℕ). sets (sets (set l i x) (suc i) xs) k ys) (omega arith)
 
 pub put_then : {e m x xs ys : List ℕ} {at p r : ℕ} → Put e at xs p m → Put m p ys r x → Put e at (xs ++ ys) r x
 put_then {e} {m} {x} {xs} {ys} {at} {p} {r} a b = record {
   place = omega (arith, length-append xs ys, a.place, b.place);
-  stored = b.stored ∙ rw (sets-append e at xs ys, a.stored, a.place);
+  stored = b.stored ∙ rw (sets_append e at xs ys, a.stored, a.place);
 }
 
 pub put_byte : (e : List ℕ) (at b : ℕ) → Put e at (b ∷ []) (at + 1) (set e at b)
@@ -114,10 +114,10 @@ put_all w k h p = rw (take_all k w h) at p
 -- ---- a decimal number
 
 pub one_put : (e : List ℕ) (at n b : ℕ) → n < 10 → b ≡ byte_of n → Put e at (in_decimal n) (at + 1) (set e at b)
-one_put e at n b h q = rw (decimal-one n h, q) (put_byte e at (byte_of n))
+one_put e at n b h q = rw (decimal_one n h, q) (put_byte e at (byte_of n))
 
 pub more_put : {e m : List ℕ} {at n p : ℕ} (b : ℕ) → 10 ≤ n → Put e at (in_decimal (n / 10)) p m → b ≡ byte_of (n % 10) → Put e at (in_decimal n) (p + 1) (set m p b)
-more_put {e} {m} {at} {n} {p} b h a q = rw (decimal-more n h, q) (put_then a (put_byte m p (byte_of (n % 10))))
+more_put {e} {m} {at} {n} {p} b h a q = rw (decimal_more n h, q) (put_then a (put_byte m p (byte_of (n % 10))))
 
 -- two digits, and three
 pub two_length : (n : ℕ) → 10 ≤ n → n < 100 → length (in_decimal n) ≡ 2
@@ -142,16 +142,16 @@ not_yet h n = omega (arith, h, n)
 
 -- ---- hex digits, from the last to the first
 
-set-set : (l : List ℕ) (i j x y : ℕ) → i < j → set (set l j y) i x ≡ set (set l i x) j y
-set-set [] i j x y h = refl
-set-set (a ∷ l) zero zero x y h = absurd (omega arith)
-set-set (a ∷ l) zero (suc j) x y h = refl
-set-set (a ∷ l) (suc i) zero x y h = absurd (omega arith)
-set-set (a ∷ l) (suc i) (suc j) x y h = ap (λ (r : List ℕ). a ∷ r) (set-set l i j x y (omega arith))
+set_set : (l : List ℕ) (i j x y : ℕ) → i < j → set (set l j y) i x ≡ set (set l i x) j y
+set_set [] i j x y h = refl
+set_set (a ∷ l) zero zero x y h = absurd (omega arith)
+set_set (a ∷ l) zero (suc j) x y h = refl
+set_set (a ∷ l) (suc i) zero x y h = absurd (omega arith)
+set_set (a ∷ l) (suc i) (suc j) x y h = ap (λ (r : List ℕ). a ∷ r) (set_set l i j x y (omega arith))
 
 set_first : (l : List ℕ) (i j x : ℕ) (ys : List ℕ) → i < j → set (sets l j ys) i x ≡ sets (set l i x) j ys
 set_first l i j x [] h = refl
-set_first l i j x (y ∷ ys) h = set_first (set l j y) i (suc j) x ys (omega arith) ∙ ap (λ (r : List ℕ). sets r (suc j) ys) (set-set l i j x y h)
+set_first l i j x (y ∷ ys) h = set_first (set l j y) i (suc j) x ys (omega arith) ∙ ap (λ (r : List ℕ). sets r (suc j) ys) (set_set l i j x y h)
 
 -- k digits are to come, and those after them stand
 pub record Turning (e : List ℕ) (at n : ℕ) (out : List ℕ) (k rest : ℕ) : Type 0 where

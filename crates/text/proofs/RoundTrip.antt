@@ -30,28 +30,28 @@ abbrev pub Small : List ℕ → Type 0
 Small [] = Unit {0}
 Small (d ∷ ds) = (d < 10) × Small ds
 
-small-snoc : (ds : List ℕ) (d : ℕ) → Small ds → d < 10 → Small (ds ++ (d ∷ []))
-small-snoc [] d s h = (h, tt)
-small-snoc (e ∷ ds) d s h = (s.0, small-snoc ds d s.1 h)
+small_snoc : (ds : List ℕ) (d : ℕ) → Small ds → d < 10 → Small (ds ++ (d ∷ []))
+small_snoc [] d s h = (h, tt)
+small_snoc (e ∷ ds) d s h = (s.0, small_snoc ds d s.1 h)
 
 small : (n : ℕ) → Small (digits n)
-small = by_digits (λ n. Small (digits n)) (λ n h. rw (digits_one n h) (h, tt)) (λ n h ih. rw (digits_more n h) (small-snoc (digits (n / 10)) (n % 10) ih (omega arith)))
+small = by_digits (λ n. Small (digits n)) (λ n h. rw (digits_one n h) (h, tt)) (λ n h ih. rw (digits_more n h) (small_snoc (digits (n / 10)) (n % 10) ih (omega arith)))
 
-run-written : (ds bs : List ℕ) → Small ds → run (map byte_of ds ++ bs) ≡ ds ++ run bs
+run_written : (ds bs : List ℕ) → Small ds → run (map byte_of ds ++ bs) ≡ ds ++ run bs
 unfolding run
-run-written [] bs s = refl
-run-written (d ∷ ds) bs s =
-    rw (digit_byte d (omega (arith, s.0)), lt-ltb d 10 s.0) (ap (λ (l : List ℕ). d ∷ l) (run-written ds bs s.1))
+run_written [] bs s = refl
+run_written (d ∷ ds) bs s =
+    rw (digit_byte d (omega (arith, s.0)), lt-ltb d 10 s.0) (ap (λ (l : List ℕ). d ∷ l) (run_written ds bs s.1))
 
-value-snoc : (v : ℕ) (ds : List ℕ) (d : ℕ) → value v (ds ++ (d ∷ [])) ≡ value v ds * 10 + d
+value_snoc : (v : ℕ) (ds : List ℕ) (d : ℕ) → value v (ds ++ (d ∷ [])) ≡ value v ds * 10 + d
 unfolding value
-value-snoc v [] d = refl
-value-snoc v (e ∷ ds) d = value-snoc (v * 10 + e) ds d
+value_snoc v [] d = refl
+value_snoc v (e ∷ ds) d = value_snoc (v * 10 + e) ds d
 
-value-digits : (n : ℕ) → value 0 (digits n) ≡ n
+value_digits : (n : ℕ) → value 0 (digits n) ≡ n
 unfolding value
-value-digits = by_digits (λ n. value 0 (digits n) ≡ n) (λ n h. rw (digits_one n h) (omega arith))
-    (λ n h ih. rw (digits_more n h, value-snoc 0 (digits (n / 10)) (n % 10), ih) (omega arith))
+value_digits = by_digits (λ n. value 0 (digits n) ≡ n) (λ n h. rw (digits_one n h) (omega arith))
+    (λ n h ih. rw (digits_more n h, value_snoc 0 (digits (n / 10)) (n % 10), ih) (omega arith))
 
 some_digit : (n : ℕ) → 0 < length (digits n)
 some_digit = by_digits (λ n. 0 < length (digits n)) (λ n h. rw (digits_one n h) (omega arith))
@@ -62,11 +62,11 @@ no_lead : (n : ℕ) → 0 < n → 0 < get_or (digits n) 0 0
 no_lead = by_digits (λ n. 0 < n → 0 < get_or (digits n) 0 0) (λ n h p. rw (digits_one n h) p)
     (λ n h ih p. rw (digits_more n h, get_or-append (digits (n / 10)) (n % 10 ∷ []) 0 0 (some_digit (n / 10))) (ih (omega arith)))
 
-spelt-by : (limit n : ℕ) (ds rest : List ℕ) → n < limit → 0 < length ds → (0 < n → 0 < get_or ds 0 0) → (n < 1 → length ds ≡ 1) → value 0 ds ≡ n
+spelt_by : (limit n : ℕ) (ds rest : List ℕ) → n < limit → 0 < length ds → (0 < n → 0 < get_or ds 0 0) → (n < 1 → length ds ≡ 1) → value 0 ds ≡ n
     → spelt limit ds rest ≡ is n rest
 unfolding spelt
-spelt-by limit n [] rest h some lead one v = absurd (omega arith)
-spelt-by limit n (d ∷ ds) rest h some lead one v = elim (dec_lt 0 n) [
+spelt_by limit n [] rest h some lead one v = absurd (omega arith)
+spelt_by limit n (d ∷ ds) rest h some lead one v = elim (dec_lt 0 n) [
   | yes p ↦ rw (ne_eqb d 0 (λ e. omega (arith, lead p, e)), v, lt-ltb n limit h)
   | no z ↦
       let l : length (d ∷ ds) ≡ 1 = one (omega arith) in
@@ -76,17 +76,17 @@ spelt-by limit n (d ∷ ds) rest h some lead one v = elim (dec_lt 0 n) [
       ]
 ]
 
-spelt-digits : (limit n : ℕ) (rest : List ℕ) → n < limit → spelt limit (digits n) rest ≡ is n rest
-spelt-digits limit n rest h =
-    spelt-by limit n (digits n) rest h (some_digit n) (no_lead n) (λ z. ap length (digits_one n (omega arith))) (value-digits n)
+spelt_digits : (limit n : ℕ) (rest : List ℕ) → n < limit → spelt limit (digits n) rest ≡ is n rest
+spelt_digits limit n rest h =
+    spelt_by limit n (digits n) rest h (some_digit n) (no_lead n) (λ z. ap length (digits_one n (omega arith))) (value_digits n)
 
 -- n in decimal, with a byte that is no digit after it
 pub decimal_reads : (limit n x : ℕ) (rest : List ℕ) → n < limit → 10 ≤ digit_of x → decimal limit (in_decimal n ++ x ∷ rest) ≡ is n (x ∷ rest)
 unfolding decimal in_decimal run
 decimal_reads limit n x rest h hx =
-    rw (run-written (digits n) (x ∷ rest) (small n), le-ltb (digit_of x) 10 hx, append-nil (digits n))
+    rw (run_written (digits n) (x ∷ rest) (small n), le-ltb (digit_of x) 10 hx, append-nil (digits n))
     (let z : length (digits n) ≡ length (map byte_of (digits n)) = sym (length-map (digits n) byte_of) in
-    rw (z, drop-append_seam (map byte_of (digits n)) (x ∷ rest)) (spelt-digits limit n (x ∷ rest) h))
+    rw (z, drop-append_seam (map byte_of (digits n)) (x ∷ rest)) (spelt_digits limit n (x ∷ rest) h))
 
 pub ended_here : {A : Type 0} (stop : ℕ) (x : A) (rest : List ℕ) → ended stop (is x (stop ∷ rest)) ≡ is x rest
 unfolding ended

@@ -211,8 +211,8 @@ module _ {s : List ℕ} {at limit f d v i : ℕ} (g : Going s at limit f d v i) 
     unfolding value
     spells = sym (rw none_left at g.number)
 
-    rest-is : drop (length (run (drop at s))) (drop at s) ≡ drop i s
-    rest-is = drop-drop (length (run (drop at s))) at s ∙ ap (λ k. drop k s) long
+    rest_is : drop (length (run (drop at s))) (drop at s) ≡ drop i s
+    rest_is = drop-drop (length (run (drop at s))) at s ∙ ap (λ k. drop k s) long
 
     pub no_digit_lem : i ≡ at → bad ≡ decimal limit (drop at s)
     unfolding decimal spelt
@@ -239,14 +239,14 @@ module _ {s : List ℕ} {at limit f d v i : ℕ} (g : Going s at limit f d v i) 
       pub zero_alone : f ≡ 0 → i - at ≤ 1 → is v (drop i s) ≡ decimal limit (drop at s)
       unfolding decimal spelt
       zero_alone z h =
-          let r = rw leads at rest-is in
+          let r = rw leads at rest_is in
           let q = rw leads at spells in
           sym (rw (leads, eq-eqb f 0 z, le-ltb 0 (length tail) (omega (arith, tail-long, h)), r, q, lt-ltb v limit (g.below (omega (arith, g.from, some)))))
 
       pub no_zero : (f ≡ 0 → ⊥) → is v (drop i s) ≡ decimal limit (drop at s)
       unfolding decimal spelt
       no_zero z =
-          let r = rw leads at rest-is in
+          let r = rw leads at rest_is in
           let q = rw leads at spells in
           sym (rw (leads, ne_eqb f 0 z, r, q, lt-ltb v limit (g.below (omega (arith, g.from, some)))))
 

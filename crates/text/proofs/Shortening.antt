@@ -28,15 +28,15 @@ pub shorter_line_cond : {S R : Type 0} (bs : List ℕ) (b : Bool) (p q : Line S 
 shorter_line_cond bs true p q hp hq = hp
 shorter_line_cond bs false p q hp hq = hq
 
-shorter-than : {A : Type 0} (bs cs : List ℕ) (r : Read A) → length cs ≤ length bs → Shorter cs r → Shorter bs r
-shorter-than bs cs (is x rest) l h = omega (arith, l, h)
-shorter-than bs cs bad l h = tt
+shorter_than : {A : Type 0} (bs cs : List ℕ) (r : Read A) → length cs ≤ length bs → Shorter cs r → Shorter bs r
+shorter_than bs cs (is x rest) l h = omega (arith, l, h)
+shorter_than bs cs bad l h = tt
 
 -- one thing after another
 pub shorter_then : {A B : Type 0} (bs : List ℕ) (r : Read A) (next : A → List ℕ → Read B) → Shorter bs r → ((x : A) (rest : List ℕ) → Shorter rest (next x rest))
     → Shorter bs (then r next)
 unfolding then
-shorter_then bs (is x rest) next h n = shorter-than bs rest (next x rest) h (n x rest)
+shorter_then bs (is x rest) next h n = shorter_than bs rest (next x rest) h (n x rest)
 shorter_then bs bad next h n = tt
 
 pub shorter_ended : {A : Type 0} (stop : ℕ) (bs : List ℕ) (r : Read A) → Shorter bs r → Shorter bs (ended stop r)
@@ -45,35 +45,35 @@ shorter_ended stop bs (is x []) h = tt
 shorter_ended stop bs (is x (b ∷ rest)) h = shorter_cond bs (eqb b stop) (is x rest) bad (omega (arith, h)) tt
 shorter_ended stop bs bad h = tt
 
-shorter-drop : (n : ℕ) (bs : List ℕ) → length (drop n bs) ≤ length bs
-shorter-drop n bs = omega (arith, length-drop n bs)
+shorter_drop : (n : ℕ) (bs : List ℕ) → length (drop n bs) ≤ length bs
+shorter_drop n bs = omega (arith, length-drop n bs)
 
-shorter-spelt : (limit : ℕ) (ds rest bs : List ℕ) → length rest ≤ length bs → Shorter bs (spelt limit ds rest)
+shorter_spelt : (limit : ℕ) (ds rest bs : List ℕ) → length rest ≤ length bs → Shorter bs (spelt limit ds rest)
 unfolding spelt
-shorter-spelt limit [] rest bs h = tt
-shorter-spelt limit (d ∷ ds) rest bs h = shorter_cond bs (eqb d 0 && ltb 0 (length ds)) bad _ tt (shorter_cond bs (ltb (value 0 (d ∷ ds)) limit) (is (value 0 (d ∷ ds)) rest) bad h tt)
+shorter_spelt limit [] rest bs h = tt
+shorter_spelt limit (d ∷ ds) rest bs h = shorter_cond bs (eqb d 0 && ltb 0 (length ds)) bad _ tt (shorter_cond bs (ltb (value 0 (d ∷ ds)) limit) (is (value 0 (d ∷ ds)) rest) bad h tt)
 
-shorter-hex : (k v : ℕ) (bs : List ℕ) → Shorter bs (hex_from k v bs)
+shorter_hex : (k v : ℕ) (bs : List ℕ) → Shorter bs (hex_from k v bs)
 unfolding hex_from
-shorter-hex zero v bs = omega arith
-shorter-hex (suc k) v [] = tt
-shorter-hex (suc k) v (b ∷ bs) =
-    shorter_cond (b ∷ bs) (ltb (digit_of b) 16) (hex_from k (v * 16 + digit_of b) bs) bad (shorter-than (b ∷ bs) bs (hex_from k (v * 16 + digit_of b) bs) (omega arith) (shorter-hex k (v * 16 + digit_of b) bs)) tt
+shorter_hex zero v bs = omega arith
+shorter_hex (suc k) v [] = tt
+shorter_hex (suc k) v (b ∷ bs) =
+    shorter_cond (b ∷ bs) (ltb (digit_of b) 16) (hex_from k (v * 16 + digit_of b) bs) bad (shorter_than (b ∷ bs) bs (hex_from k (v * 16 + digit_of b) bs) (omega arith) (shorter_hex k (v * 16 + digit_of b) bs)) tt
 
-shorter-name : (number : ℕ) (names : List (List ℕ)) (bs : List ℕ) → Shorter bs (name_from number names bs)
+shorter_name : (number : ℕ) (names : List (List ℕ)) (bs : List ℕ) → Shorter bs (name_from number names bs)
 unfolding name_from
-shorter-name number [] bs = tt
-shorter-name number (w ∷ ws) bs = shorter_cond bs (starts w bs) (is number (drop (length w) bs)) (name_from (suc number) ws bs) (shorter-drop (length w) bs) (shorter-name (suc number) ws bs)
+shorter_name number [] bs = tt
+shorter_name number (w ∷ ws) bs = shorter_cond bs (starts w bs) (is number (drop (length w) bs)) (name_from (suc number) ws bs) (shorter_drop (length w) bs) (shorter_name (suc number) ws bs)
 
 -- ---- fields
 
 pub shorter_decimal : (stop limit : ℕ) (bs : List ℕ) → Shorter bs (decimal_field stop limit bs)
 unfolding decimal
-shorter_decimal stop limit bs = shorter_ended stop bs (decimal limit bs) (shorter-spelt limit (run bs) (drop (length (run bs)) bs) bs (shorter-drop (length (run bs)) bs))
+shorter_decimal stop limit bs = shorter_ended stop bs (decimal limit bs) (shorter_spelt limit (run bs) (drop (length (run bs)) bs) bs (shorter_drop (length (run bs)) bs))
 
 pub shorter_hex_field : (stop : ℕ) (bs : List ℕ) → Shorter bs (hex_field stop bs)
 unfolding hex
-shorter_hex_field stop bs = shorter_ended stop bs (hex bs) (shorter-hex 16 0 bs)
+shorter_hex_field stop bs = shorter_ended stop bs (hex bs) (shorter_hex 16 0 bs)
 
 pub shorter_name_field : (stop : ℕ) (names : List (List ℕ)) (bs : List ℕ) → Shorter bs (name_field stop names bs)
-shorter_name_field stop names bs = shorter_ended stop bs (name_from 1 names bs) (shorter-name 1 names bs)
+shorter_name_field stop names bs = shorter_ended stop bs (name_from 1 names bs) (shorter_name 1 names bs)

@@ -40,19 +40,19 @@ one_beside one p q = one p.answer q.answer p.allowed q.allowed
 
 -- ---- answers with the desk as it is then: `timed_add`, `timed_read_listing`
 
-trees-in : State → List Tree
-trees-in (state room stored kept tally) = stored
+trees_in_lem : State → List Tree
+trees_in_lem (state room stored kept tally) = stored
 
-calls-in : State → ℕ
-calls-in (state room stored kept tally) = tally.calls
+calls_in_lem : State → ℕ
+calls_in_lem (state room stored kept tally) = tally.calls
 
 one_count : (l l' : Lent) → state_in l ≡ state_in l' → count l.desk ≡ count l'.desk
-unfolding trees-in state_in
-one_count l l' e = sym (length_trees l.rows (count l.desk)) ∙ ap (λ s. length (trees-in s)) e ∙ length_trees l'.rows (count l'.desk)
+unfolding trees_in_lem state_in
+one_count l l' e = sym (length_trees l.rows (count l.desk)) ∙ ap (λ s. length (trees_in_lem s)) e ∙ length_trees l'.rows (count l'.desk)
 
-one-calls : (l l' : Lent) → state_in l ≡ state_in l' → calls_on l.desk ≡ calls_on l'.desk
-unfolding calls-in state_in
-one-calls l l' e = ap calls-in e
+one_calls : (l l' : Lent) → state_in l ≡ state_in l' → calls_on l.desk ≡ calls_on l'.desk
+unfolding calls_in_lem state_in
+one_calls l l' e = ap calls_in_lem e
 
 -- an answer of what builds, by its node or its refusal
 pub one_built : {l l' : Lent} (r r' : ℕ) → OneAnswer r r' l l' → built_of l.desk r ≡ built_of l'.desk r'
@@ -62,7 +62,7 @@ one_built {l} {l'} r r' o = go (dec_lt r refused_from)
     go (yes x) =
         let e = o.node x in
         let n = one_count l l' o.state in
-        let c = one-calls l l' o.state in
+        let c = one_calls l l' o.state in
         built_node l.desk r x ∙ (λ v. node_of (e v) (n v) + calls_of (c v)) ∙ sym (built_node l'.desk r' (omega (arith, e, x)))
     go (no x) =
         let y = o.refusal (omega (arith, x)) in

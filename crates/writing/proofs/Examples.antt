@@ -26,10 +26,10 @@ written_order : order (infixed InfixOperator.Minus difference b) ≡ a ∷ b ∷
 unfolding finished once among alike alike_leaves
 written_order = refl
 
-written-text : text_of (infixed InfixOperator.Minus difference b)
+written_text : text_of (infixed InfixOperator.Minus difference b)
     ≡ 118 ∷ 9 ∷ 48 ∷ 10 ∷ 118 ∷ 9 ∷ 49 ∷ 10 ∷ 98 ∷ 9 ∷ 45 ∷ 9 ∷ 48 ∷ 9 ∷ 49 ∷ 10 ∷ 98 ∷ 9 ∷ 45 ∷ 9 ∷ 50 ∷ 9 ∷ 49 ∷ 10 ∷ []
 unfolding text line line_fields leaf_fields finished once among alike alike_leaves place in_decimal digits digits_by byte_of
-written-text = refl
+written_text = refl
 
 -- where the job had `v·0`, `v·1`, `b·-·0·1` and the outer difference is new: `v·0·@0`, `v·1·@1`, `b·-·0·1·@2`, `b·-·2·1·@-`
 traced_text_lem : traced_text_of (a ∷ b ∷ difference ∷ []) (infixed InfixOperator.Minus difference b)

@@ -32,15 +32,15 @@ use Rattle.writing.proofs.ReadBack.{store_of, reads_back, reads_back_traced}
 
 -- ---- all below a stored tree is stored
 
-grown-all : (m : Memory) (ts : List Tree) (k : ℕ) (e : Expression) → Within k e → ((j : ℕ) → j < k → AllIn ts (tree_at m j)) → among ts (tree_of m e) ≡ true → AllIn ts (tree_of m e)
+grown_all : (m : Memory) (ts : List Tree) (k : ℕ) (e : Expression) → Within k e → ((j : ℕ) → j < k → AllIn ts (tree_at m j)) → among ts (tree_of m e) ≡ true → AllIn ts (tree_of m e)
 unfolding grown
-grown-all m ts k (Expression.Number z) w f a = a
-grown-all m ts k Expression.PiConstant w f a = a
-grown-all m ts k (Expression.Variable v) w f a = a
-grown-all m ts k (Expression.Address r i) w f a = a
-grown-all m ts k (Expression.FunctionCall g c) w f a = (a, f c w)
-grown-all m ts k (Expression.Prefix o c) w f a = (a, f c w)
-grown-all m ts k (Expression.Infix o c d) w f a = (a, (f c w.0, f d w.1))
+grown_all m ts k (Expression.Number z) w f a = a
+grown_all m ts k Expression.PiConstant w f a = a
+grown_all m ts k (Expression.Variable v) w f a = a
+grown_all m ts k (Expression.Address r i) w f a = a
+grown_all m ts k (Expression.FunctionCall g c) w f a = (a, f c w)
+grown_all m ts k (Expression.Prefix o c) w f a = (a, f c w)
+grown_all m ts k (Expression.Infix o c d) w f a = (a, (f c w.0, f d w.1))
 
 module _ {m : Memory} {n : ℕ} (h : Holds m n) where
   all_stored : (b k : ℕ) → k < b → k < n → AllIn (trees m n) (tree_at m k)
@@ -48,7 +48,7 @@ module _ {m : Memory} {n : ℕ} (h : Holds m n) where
   all_stored (suc b) k l o =
       let p = read_node h {r = expression_at m k} k o refl in
       subst (AllIn (trees m n)) p.1
-      (grown-all m (trees m n) k (expression_at m k) p.0 (λ j q. all_stored b j (omega arith) (omega arith))
+      (grown_all m (trees m n) k (expression_at m k) p.0 (λ j q. all_stored b j (omega arith) (omega arith))
       (subst (λ t. among (trees m n) t ≡ true) (sym p.1) (stored h k o)))
 
 -- ---- what is listed comes from there
@@ -56,37 +56,37 @@ module _ {m : Memory} {n : ℕ} (h : Holds m n) where
 abbrev From : (source ts : List Tree) → Type 0
 From source ts = (k : ℕ) → k < length ts → among source (get_or ts k (leaf pi)) ≡ true
 
-from-snoc : (source : List Tree) (t : Tree) (done : List Tree) → among source t ≡ true → From source done → From source (done ++ (t ∷ []))
-from-snoc source t done a f k l = go (dec_lt k (length done))
+from_snoc : (source : List Tree) (t : Tree) (done : List Tree) → among source t ≡ true → From source done → From source (done ++ (t ∷ []))
+from_snoc source t done a f k l = go (dec_lt k (length done))
   where
     go : Dec (k < length done) → among source (get_or (done ++ (t ∷ [])) k (leaf pi)) ≡ true
     go (yes y) = rw (get_or-append done (t ∷ []) (leaf pi) k y) (f k y)
     go (no z) = let e : k ≡ length done = omega (arith, length-append done (t ∷ [])) in rw (e, get_or_at done t [] (leaf pi) (length done) refl) a
 
-from-once : (source : List Tree) (t : Tree) (done : List Tree) → among source t ≡ true → From source done → From source (once t done)
+from_once : (source : List Tree) (t : Tree) (done : List Tree) → among source t ≡ true → From source done → From source (once t done)
 unfolding once
-from-once source t done a f = go (among done t)
+from_once source t done a f = go (among done t)
   where
     go : (b : Bool) → From source (cond b done (done ++ (t ∷ [])))
     go true = f
-    go false = from-snoc source t done a f
+    go false = from_snoc source t done a f
 
-from-finished : (source : List Tree) (t : Tree) (done : List Tree) → AllIn source t → From source done → From source (finished t done)
+from_finished : (source : List Tree) (t : Tree) (done : List Tree) → AllIn source t → From source done → From source (finished t done)
 unfolding finished
-from-finished source (leaf l) done a f = from-once source (leaf l) done a f
-from-finished source (function_call g t) done a f = from-once source (function_call g t) (finished t done) a.0 (from-finished source t done a.1 f)
-from-finished source (prefixed o t) done a f = from-once source (prefixed o t) (finished t done) a.0 (from-finished source t done a.1 f)
-from-finished source (infixed o l r) done a f =
-    from-once source (infixed o l r) (finished r (finished l done)) a.0 (from-finished source r (finished l done) a.1.1 (from-finished source l done a.1.0 f))
+from_finished source (leaf l) done a f = from_once source (leaf l) done a f
+from_finished source (function_call g t) done a f = from_once source (function_call g t) (finished t done) a.0 (from_finished source t done a.1 f)
+from_finished source (prefixed o t) done a f = from_once source (prefixed o t) (finished t done) a.0 (from_finished source t done a.1 f)
+from_finished source (infixed o l r) done a f =
+    from_once source (infixed o l r) (finished r (finished l done)) a.0 (from_finished source r (finished l done) a.1.1 (from_finished source l done a.1.0 f))
 
 -- ---- and stands once
 
 unlike : (ts : List Tree) (t : Tree) → among ts t ≡ false → (k : ℕ) → k < length ts → T (identical t (get_or ts k (leaf pi))) → ⊥
 unlike ts t e k l i = true_not_false (sym (among_yes ts t (omega (arith, place_first (identical t) ts k l i, l))) ∙ e)
 
-laid-apart : {ts : List Tree} → Laid ts → (i j : ℕ) → i < j → j < length ts → T (identical (get_or ts j (leaf pi)) (get_or ts i (leaf pi))) → ⊥
-laid-apart empty i j p q x = absurd (omega arith)
-laid-apart (more {ts} t b kids new pr li) i j p q x = go (dec_lt j (length ts)) (λ y z. laid-apart b i j p y z)
+laid_apart : {ts : List Tree} → Laid ts → (i j : ℕ) → i < j → j < length ts → T (identical (get_or ts j (leaf pi)) (get_or ts i (leaf pi))) → ⊥
+laid_apart empty i j p q x = absurd (omega arith)
+laid_apart (more {ts} t b kids new pr li) i j p q x = go (dec_lt j (length ts)) (λ y z. laid_apart b i j p y z)
   where
     first : get_or (ts ++ (t ∷ [])) i (leaf pi) ≡ get_or ts i (leaf pi)
     first = get_or-append ts (t ∷ []) (leaf pi) i (omega (arith, p, q, length-append ts (t ∷ [])))
@@ -120,13 +120,13 @@ fits_in source ts laid from = pigeon (length source) (length ts) f below apart
     apart i j p q e = go (dec_lt i j) (dec_lt j i)
       where
         go : Dec (i < j) → Dec (j < i) → i ≡ j
-        go (yes x) d = absurd (laid-apart laid i j x q (alike i j p q e))
-        go (no x) (yes y) = absurd (laid-apart laid j i y p (alike j i q p (sym e)))
+        go (yes x) d = absurd (laid_apart laid i j x q (alike i j p q e))
+        go (no x) (yes y) = absurd (laid_apart laid j i y p (alike j i q p (sym e)))
         go (no x) (no y) = omega arith
 
 -- so a tree that is among some trees with all below it has at most as many lines
 pub order_among : (source : List Tree) (t : Tree) → AllIn source t → Proper t → Limited t → length (order t) ≤ length source
-order_among source t a p l = fits_in source (order t) (finished_laid t [] empty p l).0 (from-finished source t [] a (λ k h. absurd (omega arith)))
+order_among source t a p l = fits_in source (order t) (finished_laid t [] empty p l).0 (from_finished source t [] a (λ k h. absurd (omega arith)))
 
 -- ---- the theorem
 

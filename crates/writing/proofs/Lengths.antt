@@ -26,26 +26,26 @@ AllProper : List Tree → Type 0
 AllProper [] = Unit {0}
 AllProper (t ∷ ts) = Proper t × AllProper ts
 
-proper-snoc : (ts : List Tree) (t : Tree) → AllProper ts → Proper t → AllProper (ts ++ (t ∷ []))
+proper_snoc : (ts : List Tree) (t : Tree) → AllProper ts → Proper t → AllProper (ts ++ (t ∷ []))
 unfolding AllProper
-proper-snoc [] t a p = (p, tt)
-proper-snoc (s ∷ ts) t a p = (a.0, proper-snoc ts t a.1 p)
+proper_snoc [] t a p = (p, tt)
+proper_snoc (s ∷ ts) t a p = (a.0, proper_snoc ts t a.1 p)
 
-proper-once : (t : Tree) (done : List Tree) → Proper t → AllProper done → AllProper (once t done)
+proper_once : (t : Tree) (done : List Tree) → Proper t → AllProper done → AllProper (once t done)
 unfolding once
-proper-once t done p a = go (among done t)
+proper_once t done p a = go (among done t)
   where
     go : (b : Bool) → AllProper (cond b done (done ++ (t ∷ [])))
     go true = a
-    go false = proper-snoc done t a p
+    go false = proper_snoc done t a p
 
-proper-finished : (t : Tree) (done : List Tree) → Proper t → AllProper done → AllProper (finished t done)
+proper_finished : (t : Tree) (done : List Tree) → Proper t → AllProper done → AllProper (finished t done)
 unfolding finished
-proper-finished (leaf l) done p a = proper-once (leaf l) done p a
-proper-finished (function_call f t) done p a = proper-once (function_call f t) (finished t done) p (proper-finished t done p a)
-proper-finished (prefixed o t) done p a = proper-once (prefixed o t) (finished t done) p (proper-finished t done p a)
-proper-finished (infixed o l r) done p a =
-    proper-once (infixed o l r) (finished r (finished l done)) p (proper-finished r (finished l done) p.1 (proper-finished l done p.0 a))
+proper_finished (leaf l) done p a = proper_once (leaf l) done p a
+proper_finished (function_call f t) done p a = proper_once (function_call f t) (finished t done) p (proper_finished t done p a)
+proper_finished (prefixed o t) done p a = proper_once (prefixed o t) (finished t done) p (proper_finished t done p a)
+proper_finished (infixed o l r) done p a =
+    proper_once (infixed o l r) (finished r (finished l done)) p (proper_finished r (finished l done) p.1 (proper_finished l done p.0 a))
 
 -- ---- their lines, where there are at most 1024, so that a line's number has at most four digits
 
@@ -74,7 +74,7 @@ module _ (lines : List Tree) (few : length lines ≤ 1024) where
 -- a written listing of n lines has at most 36 n bytes
 pub listing_length : (t : Tree) → Proper t → length (order t) ≤ 1024 → length (text_of t) ≤ 36 * length (order t)
 unfolding AllProper
-listing_length t p few = text_short (order t) few (order t) (proper-finished t [] p tt)
+listing_length t p few = text_short (order t) few (order t) (proper_finished t [] p tt)
 
 -- ---- with origins
 
@@ -94,7 +94,7 @@ module _ (given lines : List Tree) (lately : length given ≤ 1024) (few : lengt
 -- with origins of at most 1024 lines: at most 42 n bytes
 pub traced_listing_length : (given : List Tree) → length given ≤ 1024 → (t : Tree) → Proper t → length (order t) ≤ 1024 → length (traced_text_of given t) ≤ 42 * length (order t)
 unfolding AllProper
-traced_listing_length given lately t p few = traced_short given (order t) lately few (order t) (proper-finished t [] p tt)
+traced_listing_length given lately t p few = traced_short given (order t) lately few (order t) (proper_finished t [] p tt)
 
 -- and never fewer than without
 text_shorter : (given lines ts : List Tree) → length (text lines ts) ≤ length (traced_text given lines ts)

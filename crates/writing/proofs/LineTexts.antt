@@ -28,8 +28,8 @@ use Rattle.writing.specs.Ordering.{text_fields, line_text, line_at}
 abbrev pub ending : List ℕ → ℕ → List ℕ
 ending field stop = field ++ (stop ∷ [])
 
-then-rest : (a : List ℕ) (x : ℕ) (b : List ℕ) → a ++ (x ∷ b) ≡ ending a x ++ b
-then-rest a x b = sym (append_assoc a (x ∷ []) b)
+then_rest : (a : List ℕ) (x : ℕ) (b : List ℕ) → a ++ (x ∷ b) ≡ ending a x ++ b
+then_rest a x b = sym (append_assoc a (x ∷ []) b)
 
 ending_length : (a : List ℕ) (x : ℕ) → length (ending a x) ≡ length a + 1
 ending_length a x = length-append a (x ∷ [])
@@ -39,7 +39,7 @@ two_fields a b = length-append (ending a 9) (ending b 10) ∙ omega (arith, endi
 
 pub number_text : (z : Complex) → line_text (Expression.Number z) ≡ (110 ∷ 9 ∷ []) ++ (ending (in_hex (bits_of z.re)) 9 ++ ending (in_hex (bits_of z.im)) 10)
 unfolding line_text text_fields leaf_fields line
-number_text z = rw (then-rest (in_hex (bits_of z.re)) 9 (ending (in_hex (bits_of z.im)) 10))
+number_text z = rw (then_rest (in_hex (bits_of z.re)) 9 (ending (in_hex (bits_of z.im)) 10))
 
 pub number_length : (z : Complex) → length (line_text (Expression.Number z)) ≡ 36
 number_length z = rw (number_text z) (omega (arith, two_fields (in_hex (bits_of z.re)) (in_hex (bits_of z.im)), hex_length (bits_of z.re), hex_length (bits_of z.im)))
@@ -60,14 +60,14 @@ variable_length v = rw (variable_text v) (omega (arith, ending_length (in_decima
 
 pub cell_text : (r i : ℕ) → line_text (Expression.Address r i) ≡ (109 ∷ 9 ∷ []) ++ (ending (in_decimal r) 9 ++ ending (in_decimal i) 10)
 unfolding line_text text_fields leaf_fields line
-cell_text r i = rw (then-rest (in_decimal r) 9 (ending (in_decimal i) 10))
+cell_text r i = rw (then_rest (in_decimal r) 9 (ending (in_decimal i) 10))
 
 pub cell_length : (r i : ℕ) → length (line_text (Expression.Address r i)) ≡ length (in_decimal r) + length (in_decimal i) + 4
 cell_length r i = rw (cell_text r i) (omega (arith, two_fields (in_decimal r) (in_decimal i)))
 
 pub call_text : (f : ExpressionFunction) (a : ℕ) → line_text (Expression.FunctionCall f a) ≡ (102 ∷ 9 ∷ []) ++ (ending (named function_names (function_code f)) 9 ++ ending (in_decimal a) 10)
 unfolding line_text text_fields line
-call_text f a = rw (then-rest (named function_names (function_code f)) 9 (ending (in_decimal a) 10))
+call_text f a = rw (then_rest (named function_names (function_code f)) 9 (ending (in_decimal a) 10))
 
 pub call_length : (f : ExpressionFunction) (a : ℕ) → length (line_text (Expression.FunctionCall f a)) ≡ length (named function_names (function_code f)) + length (in_decimal a) + 4
 call_length f a = rw (call_text f a) (omega (arith, two_fields (named function_names (function_code f)) (in_decimal a)))
@@ -82,31 +82,31 @@ pub prefix_text : (o : PrefixOperator) (b a : ℕ) → named prefix_names (prefi
 unfolding line_text text_fields line
 prefix_text o b a e = rw e
 
-prefix-letter : (o : PrefixOperator) → length (named prefix_names (prefix_code o)) ≡ 1
-prefix-letter PrefixOperator.Plus = refl
-prefix-letter PrefixOperator.Minus = refl
+prefix_letter : (o : PrefixOperator) → length (named prefix_names (prefix_code o)) ≡ 1
+prefix_letter PrefixOperator.Plus = refl
+prefix_letter PrefixOperator.Minus = refl
 
 pub prefix_length : (o : PrefixOperator) (a : ℕ) → length (line_text (Expression.Prefix o a)) ≡ length (in_decimal a) + 5
 unfolding line_text text_fields line
-prefix_length o a = rw (then-rest (named prefix_names (prefix_code o)) 9 (ending (in_decimal a) 10)) (omega (arith, two_fields (named prefix_names (prefix_code o)) (in_decimal a), prefix-letter o))
+prefix_length o a = rw (then_rest (named prefix_names (prefix_code o)) 9 (ending (in_decimal a) 10)) (omega (arith, two_fields (named prefix_names (prefix_code o)) (in_decimal a), prefix_letter o))
 
 pub infix_text : (o : InfixOperator) (x a b : ℕ) → named infix_names (infix_code o) ≡ x ∷ []
     → line_text (Expression.Infix o a b) ≡ (98 ∷ 9 ∷ []) ++ ((x ∷ 9 ∷ []) ++ (ending (in_decimal a) 9 ++ ending (in_decimal b) 10))
 unfolding line_text text_fields line
-infix_text o x a b e = rw (e, then-rest (in_decimal a) 9 (ending (in_decimal b) 10))
+infix_text o x a b e = rw (e, then_rest (in_decimal a) 9 (ending (in_decimal b) 10))
 
-infix-letter : (o : InfixOperator) → length (named infix_names (infix_code o)) ≡ 1
-infix-letter InfixOperator.Plus = refl
-infix-letter InfixOperator.Minus = refl
-infix-letter InfixOperator.Star = refl
-infix-letter InfixOperator.Slash = refl
-infix-letter InfixOperator.Caret = refl
+infix_letter : (o : InfixOperator) → length (named infix_names (infix_code o)) ≡ 1
+infix_letter InfixOperator.Plus = refl
+infix_letter InfixOperator.Minus = refl
+infix_letter InfixOperator.Star = refl
+infix_letter InfixOperator.Slash = refl
+infix_letter InfixOperator.Caret = refl
 
 pub infix_length : (o : InfixOperator) (a b : ℕ) → length (line_text (Expression.Infix o a b)) ≡ length (in_decimal a) + length (in_decimal b) + 6
 unfolding line_text text_fields line
 infix_length o a b =
-    rw (then-rest (named infix_names (infix_code o)) 9 (in_decimal a ++ (9 ∷ ending (in_decimal b) 10)), then-rest (in_decimal a) 9 (ending (in_decimal b) 10))
-    (omega (arith, length-append (ending (named infix_names (infix_code o)) 9) (ending (in_decimal a) 9 ++ ending (in_decimal b) 10), ending_length (named infix_names (infix_code o)) 9, two_fields (in_decimal a) (in_decimal b), infix-letter o))
+    rw (then_rest (named infix_names (infix_code o)) 9 (in_decimal a ++ (9 ∷ ending (in_decimal b) 10)), then_rest (in_decimal a) 9 (ending (in_decimal b) 10))
+    (omega (arith, length-append (ending (named infix_names (infix_code o)) 9) (ending (in_decimal a) 9 ++ ending (in_decimal b) 10), ending_length (named infix_names (infix_code o)) 9, two_fields (in_decimal a) (in_decimal b), infix_letter o))
 
 -- ---- no line is long
 

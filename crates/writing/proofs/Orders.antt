@@ -35,10 +35,10 @@ among_snoc (s ∷ ts) u t = go (identical t s) (among_snoc ts u t)
     go true e = refl
     go false e = e
 
-among-more : (ts us : List Tree) (t : Tree) → among ts t ≡ true → among (ts ++ us) t ≡ true
+among_more : (ts us : List Tree) (t : Tree) → among ts t ≡ true → among (ts ++ us) t ≡ true
 unfolding among
-among-more [] us t e = true_not_false (sym e)
-among-more (s ∷ ts) us t e = go (identical t s) e (among-more ts us t)
+among_more [] us t e = true_not_false (sym e)
+among_more (s ∷ ts) us t e = go (identical t s) e (among_more ts us t)
   where
     go : (b : Bool) → b || among ts t ≡ true → (among ts t ≡ true → among (ts ++ us) t ≡ true) → b || among (ts ++ us) t ≡ true
     go true e f = refl
@@ -70,22 +70,22 @@ all_of done (prefixed o t) e k = (e, k)
 all_of done (infixed o l r) e k = (e, k)
 
 pub all_more : (done us : List Tree) (t : Tree) → AllIn done t → AllIn (done ++ us) t
-all_more done us (leaf l) a = among-more done us (leaf l) a
-all_more done us (function_call f t) a = (among-more done us _ a.0, all_more done us t a.1)
-all_more done us (prefixed o t) a = (among-more done us _ a.0, all_more done us t a.1)
-all_more done us (infixed o l r) a = (among-more done us _ a.0, (all_more done us l a.1.0, all_more done us r a.1.1))
+all_more done us (leaf l) a = among_more done us (leaf l) a
+all_more done us (function_call f t) a = (among_more done us _ a.0, all_more done us t a.1)
+all_more done us (prefixed o t) a = (among_more done us _ a.0, all_more done us t a.1)
+all_more done us (infixed o l r) a = (among_more done us _ a.0, (all_more done us l a.1.0, all_more done us r a.1.1))
 
-kids-more : (done us : List Tree) (t : Tree) → KidsIn done t → KidsIn (done ++ us) t
-kids-more done us (leaf l) k = tt
-kids-more done us (function_call f t) k = all_more done us t k
-kids-more done us (prefixed o t) k = all_more done us t k
-kids-more done us (infixed o l r) k = (all_more done us l k.0, all_more done us r k.1)
+kids_more : (done us : List Tree) (t : Tree) → KidsIn done t → KidsIn (done ++ us) t
+kids_more done us (leaf l) k = tt
+kids_more done us (function_call f t) k = all_more done us t k
+kids_more done us (prefixed o t) k = all_more done us t k
+kids_more done us (infixed o l r) k = (all_more done us l k.0, all_more done us r k.1)
 
 -- ---- what is done stays
 
-once-old : (t : Tree) (done : List Tree) → among done t ≡ true → once t done ≡ done
+once_old : (t : Tree) (done : List Tree) → among done t ≡ true → once t done ≡ done
 unfolding once
-once-old t done e = rw e
+once_old t done e = rw e
 
 pub once_new : (t : Tree) (done : List Tree) → among done t ≡ false → once t done ≡ done ++ (t ∷ [])
 unfolding once
@@ -94,17 +94,17 @@ once_new t done e = rw e
 -- a tree that is done, with all below it, adds nothing
 pub done_already : (t : Tree) (done : List Tree) → AllIn done t → finished t done ≡ done
 unfolding finished
-done_already (leaf l) done a = once-old (leaf l) done a
-done_already (function_call f t) done a = rw (done_already t done a.1) (once-old (function_call f t) done a.0)
-done_already (prefixed o t) done a = rw (done_already t done a.1) (once-old (prefixed o t) done a.0)
-done_already (infixed o l r) done a = rw (done_already l done a.1.0, done_already r done a.1.1) (once-old (infixed o l r) done a.0)
+done_already (leaf l) done a = once_old (leaf l) done a
+done_already (function_call f t) done a = rw (done_already t done a.1) (once_old (function_call f t) done a.0)
+done_already (prefixed o t) done a = rw (done_already t done a.1) (once_old (prefixed o t) done a.0)
+done_already (infixed o l r) done a = rw (done_already l done a.1.0, done_already r done a.1.1) (once_old (infixed o l r) done a.0)
 
 pub record After (done done' : List Tree) : Type 0 where
   pub later : List Tree
   pub is : done' ≡ done ++ later
 
-after-trans : {a b c : List Tree} → After a b → After b c → After a c
-after-trans {a} p q = record { later = p.later ++ q.later; is = q.is ∙ ap (λ (l : List Tree). l ++ q.later) p.is ∙ append_assoc a p.later q.later }
+after_trans : {a b c : List Tree} → After a b → After b c → After a c
+after_trans {a} p q = record { later = p.later ++ q.later; is = q.is ∙ ap (λ (l : List Tree). l ++ q.later) p.is ∙ append_assoc a p.later q.later }
 
 once_after : (t : Tree) (done : List Tree) → After done (once t done)
 unfolding once
@@ -117,34 +117,34 @@ once_after t done = go (among done t) refl
 pub finished_after : (t : Tree) (done : List Tree) → After done (finished t done)
 unfolding finished
 finished_after (leaf l) done = once_after (leaf l) done
-finished_after (function_call f t) done = after-trans (finished_after t done) (once_after (function_call f t) (finished t done))
-finished_after (prefixed o t) done = after-trans (finished_after t done) (once_after (prefixed o t) (finished t done))
-finished_after (infixed o l r) done = after-trans (finished_after l done) (after-trans (finished_after r (finished l done)) (once_after (infixed o l r) (finished r (finished l done))))
+finished_after (function_call f t) done = after_trans (finished_after t done) (once_after (function_call f t) (finished t done))
+finished_after (prefixed o t) done = after_trans (finished_after t done) (once_after (prefixed o t) (finished t done))
+finished_after (infixed o l r) done = after_trans (finished_after l done) (after_trans (finished_after r (finished l done)) (once_after (infixed o l r) (finished r (finished l done))))
 
 all_after : {done done' : List Tree} → After done done' → (t : Tree) → AllIn done t → AllIn done' t
 all_after {done} p t a = rw p.is (all_more done p.later t a)
 
 -- ---- laid out as a listing has them
 
-once-laid : (t : Tree) (done : List Tree) → Laid done → KidsIn done t → Proper t → Limited t → Laid (once t done) × AllIn (once t done) t
+once_laid : (t : Tree) (done : List Tree) → Laid done → KidsIn done t → Proper t → Limited t → Laid (once t done) × AllIn (once t done) t
 unfolding once
-once-laid t done b k p l = go (among done t) refl
+once_laid t done b k p l = go (among done t) refl
   where
     go : (y : Bool) → among done t ≡ y → Laid (cond y done (done ++ (t ∷ []))) × AllIn (cond y done (done ++ (t ∷ []))) t
     go true e = (b, all_of done t e k)
-    go false e = (more t b k e p l, all_of (done ++ (t ∷ [])) t (among_last done t) (kids-more done (t ∷ []) t k))
+    go false e = (more t b k e p l, all_of (done ++ (t ∷ [])) t (among_last done t) (kids_more done (t ∷ []) t k))
 
 pub finished_laid : (t : Tree) (done : List Tree) → Laid done → Proper t → Limited t → Laid (finished t done) × AllIn (finished t done) t
 unfolding finished
-finished_laid (leaf l) done b p m = once-laid (leaf l) done b tt p m
+finished_laid (leaf l) done b p m = once_laid (leaf l) done b tt p m
 finished_laid (function_call f t) done b p m =
-    let i = finished_laid t done b p (limited_function f t m) in once-laid (function_call f t) (finished t done) i.0 i.1 p m
+    let i = finished_laid t done b p (limited_function f t m) in once_laid (function_call f t) (finished t done) i.0 i.1 p m
 finished_laid (prefixed o t) done b p m =
-    let i = finished_laid t done b p (limited_prefix o t m) in once-laid (prefixed o t) (finished t done) i.0 i.1 p m
+    let i = finished_laid t done b p (limited_prefix o t m) in once_laid (prefixed o t) (finished t done) i.0 i.1 p m
 finished_laid (infixed o l r) done b p m =
     let i = finished_laid l done b p.0 (limited_left o l r m) in
     let j = finished_laid r (finished l done) i.0 p.1 (limited_right o l r m) in
-    once-laid (infixed o l r) (finished r (finished l done)) j.0 (all_after (finished_after r (finished l done)) l i.1, j.1) p m
+    once_laid (infixed o l r) (finished r (finished l done)) j.0 (all_after (finished_after r (finished l done)) l i.1, j.1) p m
 
 -- each of them is done
 pub laid_all : {ts : List Tree} → Laid ts → (k : ℕ) → k < length ts → AllIn ts (get_or ts k (leaf pi))
@@ -153,7 +153,7 @@ laid_all (more {ts} t b kids new p l) k h = elim (dec_lt k (length ts)) [
   | yes y ↦ rw (get_or-append ts (t ∷ []) (leaf pi) k y) (all_more ts (t ∷ []) (get_or ts k (leaf pi)) (laid_all b k y))
   | no n ↦
       let z : k ≡ length ts = omega (arith, length-append ts (t ∷ [])) in
-      rw (z, get_or_at ts t [] (leaf pi) (length ts) refl) (all_of (ts ++ (t ∷ [])) t (among_last ts t) (kids-more ts (t ∷ []) t kids))
+      rw (z, get_or_at ts t [] (leaf pi) (length ts) refl) (all_of (ts ++ (t ∷ [])) t (among_last ts t) (kids_more ts (t ∷ []) t kids))
 ]
 
 -- ---- a tree is not done by what is smaller
@@ -164,9 +164,9 @@ alike_size s t p q i = equal_size s t (identical_is_equal s t p q i)
 or_no : (b c : Bool) → b ≡ false → c ≡ false → b || c ≡ false
 or_no b c p q = rw (p, q)
 
-once-smaller : (u t : Tree) (done : List Tree) → Proper u → Proper t → size u < size t → among done t ≡ false → among (once u done) t ≡ false
+once_smaller : (u t : Tree) (done : List Tree) → Proper u → Proper t → size u < size t → among done t ≡ false → among (once u done) t ≡ false
 unfolding once
-once-smaller u t done p q h e = go (among done u)
+once_smaller u t done p q h e = go (among done u)
   where
     apart : (b : Bool) → identical t u ≡ b → identical t u ≡ false
     apart true i = absurd (omega (arith, h, alike_size t u q p (subst T (sym i) tt)))
@@ -178,9 +178,9 @@ once-smaller u t done p q h e = go (among done u)
 
 pub not_yet : (u t : Tree) (done : List Tree) → Proper u → Proper t → size u < size t → among done t ≡ false → among (finished u done) t ≡ false
 unfolding finished size
-not_yet (leaf l) t done p q h e = once-smaller (leaf l) t done p q h e
-not_yet (function_call f s) t done p q h e = once-smaller (function_call f s) t (finished s done) p q h (not_yet s t done p q (omega (arith, h)) e)
-not_yet (prefixed o s) t done p q h e = once-smaller (prefixed o s) t (finished s done) p q h (not_yet s t done p q (omega (arith, h)) e)
+not_yet (leaf l) t done p q h e = once_smaller (leaf l) t done p q h e
+not_yet (function_call f s) t done p q h e = once_smaller (function_call f s) t (finished s done) p q h (not_yet s t done p q (omega (arith, h)) e)
+not_yet (prefixed o s) t done p q h e = once_smaller (prefixed o s) t (finished s done) p q h (not_yet s t done p q (omega (arith, h)) e)
 not_yet (infixed o l r) t done p q h e =
-    once-smaller (infixed o l r) t (finished r (finished l done)) p q h
+    once_smaller (infixed o l r) t (finished r (finished l done)) p q h
     (not_yet r t (finished l done) p.1 q (omega (arith, h)) (not_yet l t done p.0 q (omega (arith, h)) e))

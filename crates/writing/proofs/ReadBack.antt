@@ -48,26 +48,26 @@ use Rattle.writing.proofs.Orders.{all_is, true_not_false, once_new, finished_lai
 
 -- ---- names
 
-function-named : (f : ExpressionFunction) (rest : List ℕ) → name_field tab function_names (named function_names (function_code f) ++ 9 ∷ rest) ≡ is (function_code f) rest
+function_named : (f : ExpressionFunction) (rest : List ℕ) → name_field tab function_names (named function_names (function_code f) ++ 9 ∷ rest) ≡ is (function_code f) rest
 unfolding name_from starts ended
-function-named ExpressionFunction.Sine rest = refl
-function-named ExpressionFunction.Cosine rest = refl
-function-named ExpressionFunction.Exponent rest = refl
-function-named ExpressionFunction.SquareRoot rest = refl
-function-named ExpressionFunction.Cis rest = refl
+function_named ExpressionFunction.Sine rest = refl
+function_named ExpressionFunction.Cosine rest = refl
+function_named ExpressionFunction.Exponent rest = refl
+function_named ExpressionFunction.SquareRoot rest = refl
+function_named ExpressionFunction.Cis rest = refl
 
-prefix-named : (o : PrefixOperator) (rest : List ℕ) → name_field tab prefix_names (named prefix_names (prefix_code o) ++ 9 ∷ rest) ≡ is (prefix_code o) rest
+prefix_named : (o : PrefixOperator) (rest : List ℕ) → name_field tab prefix_names (named prefix_names (prefix_code o) ++ 9 ∷ rest) ≡ is (prefix_code o) rest
 unfolding name_from starts ended
-prefix-named PrefixOperator.Plus rest = refl
-prefix-named PrefixOperator.Minus rest = refl
+prefix_named PrefixOperator.Plus rest = refl
+prefix_named PrefixOperator.Minus rest = refl
 
-infix-named : (o : InfixOperator) (rest : List ℕ) → name_field tab infix_names (named infix_names (infix_code o) ++ 9 ∷ rest) ≡ is (infix_code o) rest
+infix_named : (o : InfixOperator) (rest : List ℕ) → name_field tab infix_names (named infix_names (infix_code o) ++ 9 ∷ rest) ≡ is (infix_code o) rest
 unfolding name_from starts ended
-infix-named InfixOperator.Plus rest = refl
-infix-named InfixOperator.Minus rest = refl
-infix-named InfixOperator.Star rest = refl
-infix-named InfixOperator.Slash rest = refl
-infix-named InfixOperator.Caret rest = refl
+infix_named InfixOperator.Plus rest = refl
+infix_named InfixOperator.Minus rest = refl
+infix_named InfixOperator.Star rest = refl
+infix_named InfixOperator.Slash rest = refl
+infix_named InfixOperator.Caret rest = refl
 
 -- ---- operands
 
@@ -86,15 +86,15 @@ no_tab : 10 ≤ digit_of 9
 unfolding digit_of
 no_tab = omega arith
 
-no-lf : 10 ≤ digit_of 10
+no_lf : 10 ≤ digit_of 10
 unfolding digit_of
-no-lf = omega arith
+no_lf = omega arith
 
-plain-closes : (rest : List ℕ) → Closes (10 ∷ rest) rest
-plain-closes rest = record { stop = 10; behind = rest; starts_so = refl; no_digit_lem = no-lf; closes = λ x. end_lf x rest }
+plain_closes : (rest : List ℕ) → Closes (10 ∷ rest) rest
+plain_closes rest = record { stop = 10; behind = rest; starts_so = refl; no_digit_lem = no_lf; closes = λ x. end_lf x rest }
 
-traced-closes : (o : ℕ) (rest : List ℕ) → o ≤ 1024 → Closes (9 ∷ (origin_text o ++ (10 ∷ rest))) rest
-traced-closes o rest h = record { stop = 9; behind = origin_text o ++ (10 ∷ rest); starts_so = refl; no_digit_lem = no_tab; closes = λ x. end_field x o rest h }
+traced_closes : (o : ℕ) (rest : List ℕ) → o ≤ 1024 → Closes (9 ∷ (origin_text o ++ (10 ∷ rest))) rest
+traced_closes o rest h = record { stop = 9; behind = origin_text o ++ (10 ∷ rest); starts_so = refl; no_digit_lem = no_tab; closes = λ x. end_field x o rest h }
 
 module _ {after rest : List ℕ} (c : Closes after rest) where
   last_decimal : (limit n : ℕ) → n < limit → line_end (decimal limit (in_decimal n ++ after)) ≡ is n rest
@@ -102,8 +102,8 @@ module _ {after rest : List ℕ} (c : Closes after rest) where
       let d = decimal_reads limit n c.stop c.behind h c.no_digit_lem in
       ap line_end (rw (← c.starts_so) at d) ∙ c.closes n
 
-  last-hex : (n : ℕ) → n < 2 ^ 64 → line_end (hex (in_hex n ++ after)) ≡ is n rest
-  last-hex n h = ap line_end (hex_reads n after h) ∙ c.closes n
+  last_hex_lem : (n : ℕ) → n < 2 ^ 64 → line_end (hex (in_hex n ++ after)) ≡ is n rest
+  last_hex_lem n h = ap line_end (hex_reads n after h) ∙ c.closes n
 
 module _ (done later : List Tree) (propers : Propers done) where
   -- an operand's number reads as its tree, where numbers read at all
@@ -117,18 +117,18 @@ module _ (done later : List Tree) (propers : Propers done) where
       rw (e, f (place (identical c) done) o, ← t))
       (eq-or-lt_of_le (place_within (identical c) done))
 
-  first-child : (c : Tree) (rest : List ℕ) → among done c ≡ true → Proper c → child_field 9 done (child_text (done ++ later) c ++ 9 ∷ rest) ≡ is c rest
-  first-child c rest = child_reads (ended 9) c (9 ∷ rest) rest λ i o. decimal_field_lem 9 (length done) i rest o no_tab
+  first_child : (c : Tree) (rest : List ℕ) → among done c ≡ true → Proper c → child_field 9 done (child_text (done ++ later) c ++ 9 ∷ rest) ≡ is c rest
+  first_child c rest = child_reads (ended 9) c (9 ∷ rest) rest λ i o. decimal_field_lem 9 (length done) i rest o no_tab
 
-  last-child : (c : Tree) {after rest : List ℕ} → Closes after rest → among done c ≡ true → Proper c → child_by line_end done (child_text (done ++ later) c ++ after) ≡ is c rest
-  last-child c {after} {rest} e = child_reads line_end c after rest λ i o. last_decimal e (length done) i o
+  last_child : (c : Tree) {after rest : List ℕ} → Closes after rest → among done c ≡ true → Proper c → child_by line_end done (child_text (done ++ later) c ++ after) ≡ is c rest
+  last_child c {after} {rest} e = child_reads line_end c after rest λ i o. last_decimal e (length done) i o
 
   line_reads : (t : Tree) {after rest : List ℕ} → Closes after rest → KidsIn done t → Proper t → node_fields done (head_of t) (tail_of (done ++ later) t after) ≡ is t rest
   unfolding line_by pi_line fields_of number_fields variable_fields cell_fields function_fields prefix_fields infix_fields then ended
   line_reads (leaf (number z)) {after} {rest} e k p =
       rw (
         hex_field_lem 9 (bits_of z.re) (in_hex (bits_of z.im) ++ after) (bits_below z.re p.re),
-        last-hex e (bits_of z.im) (bits_below z.im p.im),
+        last_hex_lem e (bits_of z.im) (bits_below z.im p.im),
         double_back z.re p.re,
         double_back z.im p.im,
       )
@@ -136,14 +136,14 @@ module _ (done later : List Tree) (propers : Propers done) where
   line_reads (leaf (variable v)) e k p = rw (last_decimal e 65536 v p)
   line_reads (leaf (cell r i)) {after} e k p = rw (decimal_field_lem 9 65536 r (in_decimal i ++ after) p.0 no_tab, last_decimal e 4294967296 i p.1)
   line_reads (function_call f t) {after} e k p =
-      rw (function-named f (child_text (done ++ later) t ++ after), last-child t e (all_is done t k) p, function_back f)
+      rw (function_named f (child_text (done ++ later) t ++ after), last_child t e (all_is done t k) p, function_back f)
   line_reads (prefixed o t) {after} e k p =
-      rw (prefix-named o (child_text (done ++ later) t ++ after), last-child t e (all_is done t k) p, prefix_back o)
+      rw (prefix_named o (child_text (done ++ later) t ++ after), last_child t e (all_is done t k) p, prefix_back o)
   line_reads (infixed o l r) {after} e k p =
       rw (
-        infix-named o (child_text (done ++ later) l ++ 9 ∷ (child_text (done ++ later) r ++ after)),
-        first-child l (child_text (done ++ later) r ++ after) (all_is done l k.0) p.0,
-        last-child r e (all_is done r k.1) p.1,
+        infix_named o (child_text (done ++ later) l ++ 9 ∷ (child_text (done ++ later) r ++ after)),
+        first_child l (child_text (done ++ later) r ++ after) (all_is done l k.0) p.0,
+        last_child r e (all_is done r k.1) p.1,
         infix_back o,
       )
 
@@ -180,16 +180,16 @@ abbrev pub Follow : (done later : List Tree) → Type 0
 Follow done [] = Unit {0}
 Follow done (t ∷ later) = Next done t × Follow (done ++ (t ∷ [])) later
 
-follow-snoc : (done ts : List Tree) (t : Tree) → Follow done ts → Next (done ++ ts) t → Follow done (ts ++ (t ∷ []))
-follow-snoc done [] t f n = (rw (append-nil done) at n, tt)
-follow-snoc done (s ∷ ts) t f n = (f.0, follow-snoc (done ++ (s ∷ [])) ts t f.1 (rw (append_assoc done (s ∷ []) ts) n))
+follow_snoc : (done ts : List Tree) (t : Tree) → Follow done ts → Next (done ++ ts) t → Follow done (ts ++ (t ∷ []))
+follow_snoc done [] t f n = (rw (append-nil done) at n, tt)
+follow_snoc done (s ∷ ts) t f n = (f.0, follow_snoc (done ++ (s ∷ [])) ts t f.1 (rw (append_assoc done (s ∷ []) ts) n))
 
-laid-follow : {ts : List Tree} → Laid ts → Follow [] ts
-laid-follow empty = tt
-laid-follow (more {ts} t b k new p l) = follow-snoc [] ts t (laid-follow b) (record { kids = k; new = new; is_proper = p; is_limited = l })
+laid_follow : {ts : List Tree} → Laid ts → Follow [] ts
+laid_follow empty = tt
+laid_follow (more {ts} t b k new p l) = follow_snoc [] ts t (laid_follow b) (record { kids = k; new = new; is_proper = p; is_limited = l })
 
-propers-snoc : (ts : List Tree) (t : Tree) → Propers ts → Proper t → Propers (ts ++ (t ∷ []))
-propers-snoc ts t ps p k h = go (dec_lt k (length ts))
+propers_snoc : (ts : List Tree) (t : Tree) → Propers ts → Proper t → Propers (ts ++ (t ∷ []))
+propers_snoc ts t ps p k h = go (dec_lt k (length ts))
   where
     go : Dec (k < length ts) → Proper (get_or (ts ++ (t ∷ [])) k (leaf pi))
     go (yes y) = rw (get_or-append ts (t ∷ []) (leaf pi) k y) (ps k y)
@@ -220,29 +220,29 @@ module _ (substituting : Bool) (room : ℕ) (all : List Tree) (each : Tree → L
         next_line_lem (listing_line substituting) (listing_shortens substituting) (known_of room done) (head_of t) (tail_of all t s.after),
         rw e at here,
       )
-      (all_read later (done ++ (t ∷ [])) a (propers-snoc done t ps f.0.is_proper) f.1)
+      (all_read later (done ++ (t ∷ [])) a (propers_snoc done t ps f.0.is_proper) f.1)
 
 -- a listing without origins, and one with them
 
-plain-split : (all : List Tree) (t : Tree) (rest : List ℕ) → Split all (λ t. line (line_fields all t)) t rest
-plain-split all t rest = record { after = 10 ∷ rest; splits = plain_splits all t rest; ends = plain-closes rest }
+plain_split : (all : List Tree) (t : Tree) (rest : List ℕ) → Split all (λ t. line (line_fields all t)) t rest
+plain_split all t rest = record { after = 10 ∷ rest; splits = plain_splits all t rest; ends = plain_closes rest }
 
-traced-split : (given : List Tree) → length given ≤ 1024 → (all : List Tree) (t : Tree) (rest : List ℕ) → Split all (traced_line given all) t rest
-traced-split given h all t rest = record {
+traced_split : (given : List Tree) → length given ≤ 1024 → (all : List Tree) (t : Tree) (rest : List ℕ) → Split all (traced_line given all) t rest
+traced_split given h all t rest = record {
   after = 9 ∷ (origin_text (origin_of given t) ++ (10 ∷ rest));
   splits = traced_splits given all t rest;
-  ends = traced-closes (origin_of given t) rest (omega (arith, h, origin_few given t));
+  ends = traced_closes (origin_of given t) rest (omega (arith, h, origin_few given t));
 }
 
-text-joined : (all ts : List Tree) → text all ts ≡ joined (λ t. line (line_fields all t)) ts
+text_joined : (all ts : List Tree) → text all ts ≡ joined (λ t. line (line_fields all t)) ts
 unfolding text joined
-text-joined all [] = refl
-text-joined all (t ∷ ts) = ap (λ (l : List ℕ). line (line_fields all t) ++ l) (text-joined all ts)
+text_joined all [] = refl
+text_joined all (t ∷ ts) = ap (λ (l : List ℕ). line (line_fields all t) ++ l) (text_joined all ts)
 
-traced-joined : (given all ts : List Tree) → traced_text given all ts ≡ joined (traced_line given all) ts
+traced_joined : (given all ts : List Tree) → traced_text given all ts ≡ joined (traced_line given all) ts
 unfolding traced_text joined
-traced-joined given all [] = refl
-traced-joined given all (t ∷ ts) = ap (λ (l : List ℕ). traced_line given all t ++ l) (traced-joined given all ts)
+traced_joined given all [] = refl
+traced_joined given all (t ∷ ts) = ap (λ (l : List ℕ). traced_line given all t ++ l) (traced_joined given all ts)
 
 -- ---- the root is the last line
 
@@ -250,25 +250,25 @@ pub record Ends (t : Tree) : Type 0 where
   pub before : List Tree
   pub is_order : order t ≡ before ++ (t ∷ [])
 
-order-ends : (t : Tree) → Proper t → Ends t
+order_ends : (t : Tree) → Proper t → Ends t
 unfolding finished size depth among
-order-ends (leaf l) p = record { before = []; is_order = once_new (leaf l) [] refl }
-order-ends (function_call f t) p = record { before = finished t []; is_order = once_new _ _ (not_yet t (function_call f t) [] p p (omega arith) refl) }
-order-ends (prefixed o t) p = record { before = finished t []; is_order = once_new _ _ (not_yet t (prefixed o t) [] p p (omega arith) refl) }
-order-ends (infixed o l r) p = record {
+order_ends (leaf l) p = record { before = []; is_order = once_new (leaf l) [] refl }
+order_ends (function_call f t) p = record { before = finished t []; is_order = once_new _ _ (not_yet t (function_call f t) [] p p (omega arith) refl) }
+order_ends (prefixed o t) p = record { before = finished t []; is_order = once_new _ _ (not_yet t (prefixed o t) [] p p (omega arith) refl) }
+order_ends (infixed o l r) p = record {
   before = finished r (finished l []);
   is_order = once_new _ _ (not_yet r (infixed o l r) (finished l []) p.1 p (omega arith) (not_yet l (infixed o l r) [] p.0 p (omega arith) refl));
 }
 
-last-is : (t u : Tree) (ts : List Tree) → last u (ts ++ (t ∷ [])) ≡ t
+last_is : (t u : Tree) (ts : List Tree) → last u (ts ++ (t ∷ [])) ≡ t
 unfolding last
-last-is t u [] = refl
-last-is t u (v ∷ ts) = last-is t v ts
+last_is t u [] = refl
+last_is t u (v ∷ ts) = last_is t v ts
 
-rooted-last : (ts : List Tree) (t : Tree) (σ : State) → rooted (ts ++ (t ∷ [])) [] σ ≡ accepted t [] σ
+rooted_last : (ts : List Tree) (t : Tree) (σ : State) → rooted (ts ++ (t ∷ [])) [] σ ≡ accepted t [] σ
 unfolding rooted last
-rooted-last [] t σ = refl
-rooted-last (u ∷ ts) t σ = rw (last-is t u ts)
+rooted_last [] t σ = refl
+rooted_last (u ∷ ts) t σ = rw (last_is t u ts)
 
 -- ---- the theorem
 
@@ -277,23 +277,23 @@ module _ (t : Tree) (p : Proper t) (l : Limited t) (substituting : Bool) (room :
       → listing substituting (joined each (order t)) (fresh room 0) ≡ accepted t [] (store_of room (order t))
   unfolding listing whole
   reads each split =
-      let f = laid-follow (finished_laid t [] empty p l).0 in
+      let f = laid_follow (finished_laid t [] empty p l).0 in
       let e = all_read substituting room (order t) each split few r (order t) [] refl (λ k h. absurd (omega arith)) f in
-      let o = order-ends t p in
-      ap whole e ∙ ap (λ ts. rooted ts [] (store_of room (order t))) o.is_order ∙ rooted-last o.before t (store_of room (order t))
+      let o = order_ends t p in
+      ap whole e ∙ ap (λ ts. rooted ts [] (store_of room (order t))) o.is_order ∙ rooted_last o.before t (store_of room (order t))
 
 -- "A listing written out reads back to the same expression, given as much work memory": where the written listing has at most 1024 lines, and there is
 -- room for its trees, reading it is accepted; the root is the tree, and the store holds its subtrees in the written order.
 pub reads_back : (t : Tree) → Proper t → Limited t → (substituting : Bool) (room : ℕ) → length (order t) ≤ 1024 → length (order t) ≤ room
     → listing substituting (text_of t) (fresh room 0) ≡ accepted t [] (store_of room (order t))
 reads_back t p l substituting room few r =
-    rw (text-joined (order t) (order t)) (reads t p l substituting room few r (λ u. line (line_fields (order t) u)) (plain-split (order t)))
+    rw (text_joined (order t) (order t)) (reads t p l substituting room few r (λ u. line (line_fields (order t) u)) (plain_split (order t)))
 
 -- so does one with origins, whatever lines they name
 pub reads_back_traced : (given : List Tree) → length given ≤ 1024 → (t : Tree) → Proper t → Limited t → (substituting : Bool) (room : ℕ) → length (order t) ≤ 1024 → length (order t) ≤ room
     → listing substituting (traced_text_of given t) (fresh room 0) ≡ accepted t [] (store_of room (order t))
 reads_back_traced given h t p l substituting room few r =
-    rw (traced-joined given (order t) (order t)) (reads t p l substituting room few r (traced_line given (order t)) (traced-split given h (order t)))
+    rw (traced_joined given (order t) (order t)) (reads t p l substituting room few r (traced_line given (order t)) (traced_split given h (order t)))
 
 -- so whatever is read of it is written as the same bytes
 pub writes_again : (t : Tree) → Proper t → Limited t → (substituting : Bool) (room : ℕ) → length (order t) ≤ 1024 → length (order t) ≤ room

@@ -47,51 +47,51 @@ module _ (line : ℕ) where
   word_passes passed [] bs p = refl
   word_passes passed (b ∷ w) bs p = let h = p.0.high in rw (ne_eqb b 10 (λ e. omega (arith, e, h)), ne_eqb b 64 p.0.other) (word_passes passed w bs p.1)
 
-  name-passes : (passed : Bool) (w bs : List ℕ) → PlainName w → standing_from line passed (w ++ bs) ≡ standing_from line passed bs
-  name-passes passed [] bs p = absurd p
-  name-passes passed (b ∷ w) bs p = word_passes passed (b ∷ w) bs p
+  name_passes : (passed : Bool) (w bs : List ℕ) → PlainName w → standing_from line passed (w ++ bs) ≡ standing_from line passed bs
+  name_passes passed [] bs p = absurd p
+  name_passes passed (b ∷ w) bs p = word_passes passed (b ∷ w) bs p
 
   -- nor with the tab before it
   field_passes : (w bs : List ℕ) → PlainName w → standing_from line false (9 ∷ (w ++ bs)) ≡ standing_from line false bs
   unfolding standing_from
-  field_passes w bs p = name-passes false w bs p
+  field_passes w bs p = name_passes false w bs p
 
-  tail-passes : (all : List Tree) (t : Tree) (after : List ℕ) → standing_from line false (tail_of all t after) ≡ standing_from line false after
-  tail-passes all (leaf (number z)) after =
+  tail_passes : (all : List Tree) (t : Tree) (after : List ℕ) → standing_from line false (tail_of all t after) ≡ standing_from line false after
+  tail_passes all (leaf (number z)) after =
       field_passes (in_hex (bits_of z.re)) (9 ∷ (in_hex (bits_of z.im) ++ after)) (bits_plain (bits_of z.re))
       ∙ field_passes (in_hex (bits_of z.im)) after (bits_plain (bits_of z.im))
-  tail-passes all (leaf pi) after = refl
-  tail-passes all (leaf (variable v)) after = field_passes (in_decimal v) after (decimal_plain v)
-  tail-passes all (leaf (cell r i)) after =
+  tail_passes all (leaf pi) after = refl
+  tail_passes all (leaf (variable v)) after = field_passes (in_decimal v) after (decimal_plain v)
+  tail_passes all (leaf (cell r i)) after =
       field_passes (in_decimal r) (9 ∷ (in_decimal i ++ after)) (decimal_plain r) ∙ field_passes (in_decimal i) after (decimal_plain i)
-  tail-passes all (function_call f t) after =
+  tail_passes all (function_call f t) after =
       field_passes (named function_names (function_code f)) (9 ∷ (child_text all t ++ after)) (function_plain f)
       ∙ field_passes (child_text all t) after (decimal_plain (place (identical t) all))
-  tail-passes all (prefixed o t) after =
+  tail_passes all (prefixed o t) after =
       field_passes (named prefix_names (prefix_code o)) (9 ∷ (child_text all t ++ after)) (prefix_plain o)
       ∙ field_passes (child_text all t) after (decimal_plain (place (identical t) all))
-  tail-passes all (infixed o l r) after =
+  tail_passes all (infixed o l r) after =
       field_passes (named infix_names (infix_code o)) (9 ∷ (child_text all l ++ 9 ∷ (child_text all r ++ after))) (infix_plain o)
       ∙ field_passes (child_text all l) (9 ∷ (child_text all r ++ after)) (decimal_plain (place (identical l) all))
       ∙ field_passes (child_text all r) after (decimal_plain (place (identical r) all))
 
-  head-passes : (t : Tree) (bs : List ℕ) → standing_from line false (head_of t ∷ bs) ≡ standing_from line false bs
+  head_passes : (t : Tree) (bs : List ℕ) → standing_from line false (head_of t ∷ bs) ≡ standing_from line false bs
   unfolding standing_from
-  head-passes (leaf (number z)) bs = refl
-  head-passes (leaf pi) bs = refl
-  head-passes (leaf (variable v)) bs = refl
-  head-passes (leaf (cell r i)) bs = refl
-  head-passes (function_call f t) bs = refl
-  head-passes (prefixed o t) bs = refl
-  head-passes (infixed o l r) bs = refl
+  head_passes (leaf (number z)) bs = refl
+  head_passes (leaf pi) bs = refl
+  head_passes (leaf (variable v)) bs = refl
+  head_passes (leaf (cell r i)) bs = refl
+  head_passes (function_call f t) bs = refl
+  head_passes (prefixed o t) bs = refl
+  head_passes (infixed o l r) bs = refl
 
-  at-end : (passed : Bool) (rest : List ℕ) → standing_from line passed (10 ∷ rest) ≡ standing_from (suc line) false rest
+  at_end_lem : (passed : Bool) (rest : List ℕ) → standing_from line passed (10 ∷ rest) ≡ standing_from (suc line) false rest
   unfolding standing_from
-  at-end passed rest = refl
+  at_end_lem passed rest = refl
 
-  at-origin : (bs : List ℕ) → standing_from line false (9 ∷ 64 ∷ bs) ≡ told line (decimal 1024 bs) ++ standing_from line true bs
+  at_origin : (bs : List ℕ) → standing_from line false (9 ∷ 64 ∷ bs) ≡ told line (decimal 1024 bs) ++ standing_from line true bs
   unfolding standing_from
-  at-origin bs = refl
+  at_origin bs = refl
 
   no_number : (rest : List ℕ) → told line (decimal 1024 (45 ∷ 10 ∷ rest)) ≡ []
   unfolding told decimal spelt run digit_of
@@ -106,16 +106,16 @@ module _ (line : ℕ) where
       → standing_from line false (9 ∷ (origin_text o ++ (10 ∷ rest))) ≡ sentence o line ++ standing_from (suc line) false rest
   unfolding origin_text sentence
   origin_says zero rest h few =
-      at-origin (45 ∷ 10 ∷ rest) ∙ rw (no_number rest) (word_passes true (45 ∷ []) (10 ∷ rest) (record { high = omega arith; other = λ e. omega (arith, e) }, tt) ∙ at-end true rest)
+      at_origin (45 ∷ 10 ∷ rest) ∙ rw (no_number rest) (word_passes true (45 ∷ []) (10 ∷ rest) (record { high = omega arith; other = λ e. omega (arith, e) }, tt) ∙ at_end_lem true rest)
   origin_says (suc n) rest h few =
-      at-origin (in_decimal n ++ (10 ∷ rest))
-      ∙ rw (number_told n rest (omega (arith, h)) few) (ap (λ (l : List ℕ). stands_at n line ++ l) (name-passes true (in_decimal n) (10 ∷ rest) (decimal_plain n) ∙ at-end true rest))
+      at_origin (in_decimal n ++ (10 ∷ rest))
+      ∙ rw (number_told n rest (omega (arith, h)) few) (ap (λ (l : List ℕ). stands_at n line ++ l) (name_passes true (in_decimal n) (10 ∷ rest) (decimal_plain n) ∙ at_end_lem true rest))
 
-line-says : (given all : List Tree) (line : ℕ) (t : Tree) (rest : List ℕ) → length given ≤ 1024 → line < 1024
+line_says : (given all : List Tree) (line : ℕ) (t : Tree) (rest : List ℕ) → length given ≤ 1024 → line < 1024
     → standing_from line false (traced_line given all t ++ rest) ≡ sentence (origin_of given t) line ++ standing_from (suc line) false rest
-line-says given all line t rest h few =
+line_says given all line t rest h few =
     ap (standing_from line false) (traced_splits given all t rest)
-    ∙ head-passes line t _ ∙ tail-passes line all t _ ∙ origin_says line (origin_of given t) rest (omega (arith, h, origin_few given t)) few
+    ∙ head_passes line t _ ∙ tail_passes line all t _ ∙ origin_says line (origin_of given t) rest (omega (arith, h, origin_few given t)) few
 
 -- ---- a listing
 
@@ -124,7 +124,7 @@ text_says : (given all : List Tree) → length given ≤ 1024 → (line : ℕ) (
 unfolding traced_text standing_from saying
 text_says given all h line [] few = refl
 text_says given all h line (t ∷ ts) few =
-    line-says given all line t (traced_text given all ts) h (omega (arith, few))
+    line_says given all line t (traced_text given all ts) h (omega (arith, few))
     ∙ ap (λ (l : List ℕ). sentence (origin_of given t) line ++ l) (text_says given all h (suc line) ts (omega (arith, few)))
 
 -- "which line of the job it was": said of each line of the result whose tree a line of the job gave, in their order, and of no other

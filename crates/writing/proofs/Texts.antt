@@ -79,10 +79,10 @@ module _ (rows : Memory) (table : List ℕ) where
 
 -- ---- as lines of the tree
 
-text-snoc : (lines ts : List Tree) (t : Tree) → text lines (ts ++ (t ∷ [])) ≡ text lines ts ++ line (line_fields lines t)
+text_snoc : (lines ts : List Tree) (t : Tree) → text lines (ts ++ (t ∷ [])) ≡ text lines ts ++ line (line_fields lines t)
 unfolding text
-text-snoc lines [] t = append-nil (line (line_fields lines t))
-text-snoc lines (s ∷ ts) t = ap (λ (l : List ℕ). line (line_fields lines s) ++ l) (text-snoc lines ts t) ∙ sym (append_assoc (line (line_fields lines s)) (text lines ts) (line (line_fields lines t)))
+text_snoc lines [] t = append-nil (line (line_fields lines t))
+text_snoc lines (s ∷ ts) t = ap (λ (l : List ℕ). line (line_fields lines s) ++ l) (text_snoc lines ts t) ∙ sym (append_assoc (line (line_fields lines s)) (text lines ts) (line (line_fields lines t)))
 
 module _ {m : Memory} {n : ℕ} (h : Holds m n) {rows : Memory} {table : List ℕ} {count : ℕ} (l : Listed m n rows table count) where
   lines_long : length (line_trees m table count) ≡ count
@@ -96,15 +96,15 @@ module _ {m : Memory} {n : ℕ} (h : Holds m n) {rows : Memory} {table : List �
       rw (place_of h l c o q) at (l.marks (place (identical (tree_at m c)) (line_trees m table count)) q))
       (eq-or-lt_of_le (place_within (identical (tree_at m c)) (line_trees m table count)))
 
-  fields-are : (e : Expression) → Within n e → AllIn (line_trees m table count) (tree_of m e) → line_fields (line_trees m table count) (tree_of m e) ≡ text_fields (moved rows.link e)
+  fields_are : (e : Expression) → Within n e → AllIn (line_trees m table count) (tree_of m e) → line_fields (line_trees m table count) (tree_of m e) ≡ text_fields (moved rows.link e)
   unfolding line_fields text_fields grown operands_of with_operands moved_to
-  fields-are (Expression.Number z) w a = refl
-  fields-are Expression.PiConstant w a = refl
-  fields-are (Expression.Variable v) w a = refl
-  fields-are (Expression.Address r i) w a = refl
-  fields-are (Expression.FunctionCall f c) w a = rw (mark_of c w (all_is _ (tree_at m c) a.1))
-  fields-are (Expression.Prefix o c) w a = rw (mark_of c w (all_is _ (tree_at m c) a.1))
-  fields-are (Expression.Infix o c d) w a = rw (mark_of c w.0 (all_is _ (tree_at m c) a.1.0), mark_of d w.1 (all_is _ (tree_at m d) a.1.1))
+  fields_are (Expression.Number z) w a = refl
+  fields_are Expression.PiConstant w a = refl
+  fields_are (Expression.Variable v) w a = refl
+  fields_are (Expression.Address r i) w a = refl
+  fields_are (Expression.FunctionCall f c) w a = rw (mark_of c w (all_is _ (tree_at m c) a.1))
+  fields_are (Expression.Prefix o c) w a = rw (mark_of c w (all_is _ (tree_at m c) a.1))
+  fields_are (Expression.Infix o c d) w a = rw (mark_of c w.0 (all_is _ (tree_at m c) a.1.0), mark_of d w.1 (all_is _ (tree_at m d) a.1.1))
 
   pub line_fields_lem : (i : ℕ) → i < count → text_fields (line_at rows table i) ≡ line_fields (line_trees m table count) (tree_at m (get_or table i 0))
   unfolding line_at
@@ -113,20 +113,20 @@ module _ {m : Memory} {n : ℕ} (h : Holds m n) {rows : Memory} {table : List �
       let p = read_node h {r = expression_at m node} node (l.nodes i o) refl in
       let a = subst (AllIn (line_trees m table count)) (at_up_to count (λ k. tree_at m (get_or table k 0)) (leaf pi) i o) (laid_all l.laid i (rw lines_long o)) in
       let w = within_more node n (expression_at m node) (omega (arith, l.nodes i o)) p.0 in
-      rw (expression_kept m rows l.same node) (sym (fields-are (expression_at m node) w (subst (AllIn (line_trees m table count)) (sym p.1) a)) ∙ ap (line_fields (line_trees m table count)) p.1)
+      rw (expression_kept m rows l.same node) (sym (fields_are (expression_at m node) w (subst (AllIn (line_trees m table count)) (sym p.1) a)) ∙ ap (line_fields (line_trees m table count)) p.1)
 
-  line-is : (i : ℕ) → i < count → line_text (line_at rows table i) ≡ line (line_fields (line_trees m table count) (tree_at m (get_or table i 0)))
+  line_is : (i : ℕ) → i < count → line_text (line_at rows table i) ≡ line (line_fields (line_trees m table count) (tree_at m (get_or table i 0)))
   unfolding line_text
-  line-is i o = ap line (line_fields_lem i o)
+  line_is i o = ap line (line_fields_lem i o)
 
-  first-lines : (i : ℕ) → i ≤ count → lines_text rows table i ≡ text (line_trees m table count) (line_trees m table i)
+  first_lines : (i : ℕ) → i ≤ count → lines_text rows table i ≡ text (line_trees m table count) (line_trees m table i)
   unfolding lines_text text up_to
-  first-lines zero o = refl
-  first-lines (suc i) o =
-      rw (first-lines i (omega arith), line-is i (omega arith)) (sym (ap (text (line_trees m table count)) (up_to_snoc i _) ∙ text-snoc (line_trees m table count) (line_trees m table i) (tree_at m (get_or table i 0))))
+  first_lines zero o = refl
+  first_lines (suc i) o =
+      rw (first_lines i (omega arith), line_is i (omega arith)) (sym (ap (text (line_trees m table count)) (up_to_snoc i _) ∙ text_snoc (line_trees m table count) (line_trees m table i) (tree_at m (get_or table i 0))))
 
   pub all_lines : lines_text rows table count ≡ text (line_trees m table count) (line_trees m table count)
-  all_lines = first-lines count (omega arith)
+  all_lines = first_lines count (omega arith)
 
 -- ---- the answer
 

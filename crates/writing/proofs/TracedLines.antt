@@ -76,8 +76,8 @@ over l i (x ∷ xs) y z zs =
     let e : i + suc (length xs) ≡ suc i + length xs = omega arith in
     rw e (over (set l i x) (suc i) xs y z zs)
 
-put-over : {e m x : List ℕ} {at p r : ℕ} (xs : List ℕ) (y z : ℕ) (zs : List ℕ) → Put e at (xs ++ (y ∷ [])) p m → Put m (p - 1) (z ∷ zs) r x → Put e at (xs ++ (z ∷ zs)) r x
-put-over {e} {m} {x} {at} {p} {r} xs y z zs a b =
+put_over : {e m x : List ℕ} {at p r : ℕ} (xs : List ℕ) (y z : ℕ) (zs : List ℕ) → Put e at (xs ++ (y ∷ [])) p m → Put m (p - 1) (z ∷ zs) r x → Put e at (xs ++ (z ∷ zs)) r x
+put_over {e} {m} {x} {at} {p} {r} xs y z zs a b =
     let q : p - 1 ≡ at + length xs = omega (arith, a.place, length-append xs (y ∷ [])) in
     record {
       place = omega (arith, q, b.place, length-append xs (z ∷ zs));
@@ -87,7 +87,7 @@ put-over {e} {m} {x} {at} {p} {r} xs y z zs a b =
 pub traced_put : {out m out' : List ℕ} {at p r : ℕ} (e : Expression) (o : ℕ) → Put out at (line_text e) p m → Put m (p - 1) (origin_end o) r out' → Put out at (traced_text o e) r out'
 traced_put {out} {m} {out'} {at} {p} {r} e o a b =
     let q = ended e in
-    rw (q.traced o) (put-over q.body 10 9 (origin_text o ++ (10 ∷ [])) (rw q.plain at a) b)
+    rw (q.traced o) (put_over q.body 10 9 (origin_text o ++ (10 ∷ [])) (rw q.plain at a) b)
 
 pub end_put : {out m m' out' : List ℕ} {at p q r : ℕ} (o : ℕ) → Put out at (9 ∷ []) p m → Put m p (origin_text o) q m' → Put m' q (10 ∷ []) r out' → Put out at (origin_end o) r out'
 end_put o a b c = put_then a (put_then b c)

@@ -89,11 +89,11 @@ module _ (rows : Memory) (table : List ℕ) where
 
 -- ---- as lines of the tree
 
-text-snoc : (given lines ts : List Tree) (t : Tree) → Spec.traced_text given lines (ts ++ (t ∷ [])) ≡ Spec.traced_text given lines ts ++ traced_line given lines t
+text_snoc : (given lines ts : List Tree) (t : Tree) → Spec.traced_text given lines (ts ++ (t ∷ [])) ≡ Spec.traced_text given lines ts ++ traced_line given lines t
 unfolding Spec.traced_text
-text-snoc given lines [] t = append-nil (traced_line given lines t)
-text-snoc given lines (s ∷ ts) t =
-    ap (λ (l : List ℕ). traced_line given lines s ++ l) (text-snoc given lines ts t) ∙ sym (append_assoc (traced_line given lines s) (Spec.traced_text given lines ts) (traced_line given lines t))
+text_snoc given lines [] t = append-nil (traced_line given lines t)
+text_snoc given lines (s ∷ ts) t =
+    ap (λ (l : List ℕ). traced_line given lines s ++ l) (text_snoc given lines ts t) ∙ sym (append_assoc (traced_line given lines s) (Spec.traced_text given lines ts) (traced_line given lines t))
 
 module _ {m : Memory} {desk : List ℕ} {given : List Tree} (s : Sound (record { rows = m; desk = desk })) (traced : Traced given (record { rows = m; desk = desk })) where
   module _ {rows : Memory} {table : List ℕ} {lines : ℕ} (l : Listed m (count desk) rows table lines) where
@@ -101,16 +101,16 @@ module _ {m : Memory} {desk : List ℕ} {given : List Tree} (s : Sound (record {
     origin_is : (i : ℕ) → i < lines → origin_at rows (get_or table i 0) ≡ origin_of given (tree_at m (get_or table i 0))
     origin_is i o = ap (λ (q : Memory). origin_at q (get_or table i 0)) l.same ∙ traced.origins (get_or table i 0) (l.nodes i o)
 
-    line-is : (i : ℕ) → i < lines → traced_text (origin_at rows (get_or table i 0)) (line_at rows table i) ≡ traced_line given (line_trees m table lines) (tree_at m (get_or table i 0))
+    line_is : (i : ℕ) → i < lines → traced_text (origin_at rows (get_or table i 0)) (line_at rows table i) ≡ traced_line given (line_trees m table lines) (tree_at m (get_or table i 0))
     unfolding traced_text
-    line-is i o = rw (line_fields_lem s.holds l i o, origin_is i o)
+    line_is i o = rw (line_fields_lem s.holds l i o, origin_is i o)
 
-    first-lines : (i : ℕ) → i ≤ lines → traced_lines_text rows table i ≡ Spec.traced_text given (line_trees m table lines) (line_trees m table i)
+    first_lines : (i : ℕ) → i ≤ lines → traced_lines_text rows table i ≡ Spec.traced_text given (line_trees m table lines) (line_trees m table i)
     unfolding traced_lines_text Spec.traced_text up_to
-    first-lines zero o = refl
-    first-lines (suc i) o =
-        rw (first-lines i (omega arith), line-is i (omega arith))
-        (sym (ap (Spec.traced_text given (line_trees m table lines)) (up_to_snoc i _) ∙ text-snoc given (line_trees m table lines) (line_trees m table i) (tree_at m (get_or table i 0))))
+    first_lines zero o = refl
+    first_lines (suc i) o =
+        rw (first_lines i (omega arith), line_is i (omega arith))
+        (sym (ap (Spec.traced_text given (line_trees m table lines)) (up_to_snoc i _) ∙ text_snoc given (line_trees m table lines) (line_trees m table i) (tree_at m (get_or table i 0))))
 
   -- ---- the answer
 
@@ -119,7 +119,7 @@ module _ {m : Memory} {desk : List ℕ} {given : List Tree} (s : Sound (record {
     lines_are = count_is s.holds inside v
 
     text_is : traced_lines_text rows table lines ≡ traced_text_of given (tree_at m root)
-    text_is = first-lines v.listed lines (omega arith) ∙ ap (λ ts. Spec.traced_text given ts ts) (order_is s.holds inside v)
+    text_is = first_lines v.listed lines (omega arith) ∙ ap (λ ts. Spec.traced_text given ts ts) (order_is s.holds inside v)
 
     pub too_long_lem : (out : List ℕ) → 1024 < lines → (Written.Refused (Refusal.LongList 0), out) ≡ written_traced given (tree_at m root) out
     unfolding written_traced

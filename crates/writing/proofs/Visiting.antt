@@ -42,27 +42,27 @@ pigeon (suc n) (suc c) f b inj = omega (arith, pigeon n c g below apart)
     g : ℕ → ℕ
     g k = cond (eqb (f k) n) (f c) (f k)
 
-    g-yes : (k : ℕ) → f k ≡ n → g k ≡ f c
-    g-yes k e = rw (eq-eqb (f k) n e)
+    g_yes : (k : ℕ) → f k ≡ n → g k ≡ f c
+    g_yes k e = rw (eq-eqb (f k) n e)
 
-    g-no : (k : ℕ) → (f k ≡ n → ⊥) → g k ≡ f k
-    g-no k e = rw (ne_eqb (f k) n e)
+    g_no : (k : ℕ) → (f k ≡ n → ⊥) → g k ≡ f k
+    g_no k e = rw (ne_eqb (f k) n e)
 
     below : (k : ℕ) → k < c → g k < n
     below k h = go (ℕ_discrete (f k) n)
       where
         go : Dec (f k ≡ n) → g k < n
-        go (yes e) = let z : f c ≡ n → ⊥ = λ q. omega (arith, h, inj k c (omega arith) (omega arith) (e ∙ sym q)) in rw (g-yes k e) (omega (arith, b c (omega arith), z))
-        go (no e) = rw (g-no k e) (omega (arith, b k (omega arith), e))
+        go (yes e) = let z : f c ≡ n → ⊥ = λ q. omega (arith, h, inj k c (omega arith) (omega arith) (e ∙ sym q)) in rw (g_yes k e) (omega (arith, b c (omega arith), z))
+        go (no e) = rw (g_no k e) (omega (arith, b k (omega arith), e))
 
     apart : (i j : ℕ) → i < c → j < c → g i ≡ g j → i ≡ j
     apart i j hi hj q = go (ℕ_discrete (f i) n) (ℕ_discrete (f j) n)
       where
         go : Dec (f i ≡ n) → Dec (f j ≡ n) → i ≡ j
         go (yes x) (yes y) = inj i j (omega arith) (omega arith) (x ∙ sym y)
-        go (yes x) (no y) = absurd (omega (arith, hj, inj c j (omega arith) (omega arith) (sym (g-yes i x) ∙ q ∙ g-no j y)))
-        go (no x) (yes y) = absurd (omega (arith, hi, inj i c (omega arith) (omega arith) (sym (g-no i x) ∙ q ∙ g-yes j y)))
-        go (no x) (no y) = inj i j (omega arith) (omega arith) (sym (g-no i x) ∙ q ∙ g-no j y)
+        go (yes x) (no y) = absurd (omega (arith, hj, inj c j (omega arith) (omega arith) (sym (g_yes i x) ∙ q ∙ g_no j y)))
+        go (no x) (yes y) = absurd (omega (arith, hi, inj i c (omega arith) (omega arith) (sym (g_no i x) ∙ q ∙ g_yes j y)))
+        go (no x) (no y) = inj i j (omega arith) (omega arith) (sym (g_no i x) ∙ q ∙ g_no j y)
 
 -- ---- a tree is among the listed ones if and only if its node is listed
 
@@ -98,20 +98,20 @@ module _ (m : Memory) (node : ℕ) (small : node < most_rows) where
   unfolding visited
   none_visited done = rw (le-ltb no_child node (omega (arith, small)))
 
-  below-visited : (child : ℕ) (done : List Tree) → child < node → visited m child node done ≡ finished (tree_at m child) done
+  below_visited : (child : ℕ) (done : List Tree) → child < node → visited m child node done ≡ finished (tree_at m child) done
   unfolding visited
-  below-visited child done h = rw (lt-ltb child node h)
+  below_visited child done h = rw (lt-ltb child node h)
 
-  finished-by : (e : Expression) (done : List Tree) → Within node e
+  finished_by : (e : Expression) (done : List Tree) → Within node e
       → finished (tree_of m e) done ≡ once (tree_of m e) (visited m (children_of e).right node (visited m (children_of e).left node done))
   unfolding finished grown operands_of children_in
-  finished-by (Expression.Number z) done w = rw (none_visited done, none_visited done)
-  finished-by Expression.PiConstant done w = rw (none_visited done, none_visited done)
-  finished-by (Expression.Variable v) done w = rw (none_visited done, none_visited done)
-  finished-by (Expression.Address r i) done w = rw (none_visited done, none_visited done)
-  finished-by (Expression.FunctionCall f a) done w = rw (below-visited a done w, none_visited (finished (tree_at m a) done))
-  finished-by (Expression.Prefix o a) done w = rw (below-visited a done w, none_visited (finished (tree_at m a) done))
-  finished-by (Expression.Infix o a b) done w = rw (below-visited a done w.0, below-visited b (finished (tree_at m a) done) w.1)
+  finished_by (Expression.Number z) done w = rw (none_visited done, none_visited done)
+  finished_by Expression.PiConstant done w = rw (none_visited done, none_visited done)
+  finished_by (Expression.Variable v) done w = rw (none_visited done, none_visited done)
+  finished_by (Expression.Address r i) done w = rw (none_visited done, none_visited done)
+  finished_by (Expression.FunctionCall f a) done w = rw (below_visited a done w, none_visited (finished (tree_at m a) done))
+  finished_by (Expression.Prefix o a) done w = rw (below_visited a done w, none_visited (finished (tree_at m a) done))
+  finished_by (Expression.Infix o a b) done w = rw (below_visited a done w.0, below_visited b (finished (tree_at m a) done) w.1)
 
   module _ (each : (k : ℕ) → Proper (tree_at m k)) where
     still_not : (e : Expression) (done : List Tree) → Within node e → Proper (tree_of m e) → among done (tree_of m e) ≡ false
@@ -122,11 +122,11 @@ module _ (m : Memory) (node : ℕ) (small : node < most_rows) where
     still_not (Expression.Variable v) done w p e = rw (none_visited done, none_visited done) e
     still_not (Expression.Address r i) done w p e = rw (none_visited done, none_visited done) e
     still_not (Expression.FunctionCall f a) done w p e =
-        rw (below-visited a done w, none_visited (finished (tree_at m a) done)) (not_yet (tree_at m a) (function_call f (tree_at m a)) done (each a) p (omega arith) e)
+        rw (below_visited a done w, none_visited (finished (tree_at m a) done)) (not_yet (tree_at m a) (function_call f (tree_at m a)) done (each a) p (omega arith) e)
     still_not (Expression.Prefix o a) done w p e =
-        rw (below-visited a done w, none_visited (finished (tree_at m a) done)) (not_yet (tree_at m a) (prefixed o (tree_at m a)) done (each a) p (omega arith) e)
+        rw (below_visited a done w, none_visited (finished (tree_at m a) done)) (not_yet (tree_at m a) (prefixed o (tree_at m a)) done (each a) p (omega arith) e)
     still_not (Expression.Infix o a b) done w p e =
-        rw (below-visited a done w.0, below-visited b (finished (tree_at m a) done) w.1)
+        rw (below_visited a done w.0, below_visited b (finished (tree_at m a) done) w.1)
         (not_yet (tree_at m b) (infixed o (tree_at m a) (tree_at m b)) (finished (tree_at m a) done) (each b) p (omega arith)
         (not_yet (tree_at m a) (infixed o (tree_at m a) (tree_at m b)) done (each a) p (omega arith) e))
 
@@ -138,8 +138,8 @@ module _ (m rows : Memory) (same : rows ≡ columns m.tag m.first m.second rows.
   unfolding expression_at
   expression_kept k = ap (λ (q : Memory). expression_of (fields_at q k)) same
 
-  link-put : (i link : ℕ) {rows' : Memory} → rows' ≡ with_link rows i link → rows' ≡ columns m.tag m.first m.second rows'.link
-  link-put i link e =
+  link_put : (i link : ℕ) {rows' : Memory} → rows' ≡ with_link rows i link → rows' ≡ columns m.tag m.first m.second rows'.link
+  link_put i link e =
       let f = e ∙ ap (λ (q : Memory). with_link q i link) same in
       f ∙ sym (ap (λ (q : Memory). columns m.tag m.first m.second q.link) f)
 
@@ -270,13 +270,13 @@ module _ {m : Memory} {n : ℕ} (h : Holds m n) {rows : Memory} {table : List �
             ∙ sym (once_new (tree_at m node) (line_trees m table₂ right) new₂)
             ∙ ap (once (tree_at m node)) done₂
             ∙ subst (λ t. once t (visited m (children_of e).right node (visited m (children_of e).left node (line_trees m table count))) ≡ finished t (line_trees m table count)) parts.1
-            (sym (finished-by m node node_small e (line_trees m table count) parts.0))
+            (sym (finished_by m node node_small e (line_trees m table count) parts.0))
 
         pub visit_entered : Visited m n table node below count r' rows₃ table₃
         unfolding visited
         visit_entered = rw entered.next (record {
           listed = record {
-            same = link-put m rows₂ l₂.same node right entered.marked;
+            same = link_put m rows₂ l₂.same node right entered.marked;
             links = rw links-are (omega (arith, l₂.links, length-set rows₂.link node right));
             long = rw entered.put (omega (arith, l₂.long, length-set table₂ right node));
             nodes = λ k p. node_at k p (dec_lt k right);

@@ -9,21 +9,21 @@ use Rattle.memory.specs.Layout.{numbered}
 use Rattle.memory.specs.Marks.{noted}
 use Rattle.memory.proofs.mark.Goals as goal
 
-none-marked : (row : ℕ) (m : List ℕ) → row ≡ 0 → m ≡ noted (numbered row) m
+none_marked : (row : ℕ) (m : List ℕ) → row ≡ 0 → m ≡ noted (numbered row) m
 unfolding noted numbered
-none-marked zero m e = refl
-none-marked (suc k) m e = absurd (omega (arith, e))
+none_marked zero m e = refl
+none_marked (suc k) m e = absurd (omega (arith, e))
 
-one-marked : (row : ℕ) (m : List ℕ) → (row ≡ 0 → ⊥) → set m (row - 1) 1 ≡ noted (numbered row) m
+one_marked : (row : ℕ) (m : List ℕ) → (row ≡ 0 → ⊥) → set m (row - 1) 1 ≡ noted (numbered row) m
 unfolding noted numbered
-one-marked zero m e = absurd (e refl)
-one-marked (suc k) m e = let p : suc k - 1 ≡ k = omega arith in rw p refl
+one_marked zero m e = absurd (e refl)
+one_marked (suc k) m e = let p : suc k - 1 ≡ k = omega arith in rw p refl
 
 pub returns-then-row-eq0 : goal.returns-then-row-eq0
-returns-then-row-eq0 c = none-marked _ _ c.if-row-eq0.true
+returns-then-row-eq0 c = none_marked _ _ c.if-row-eq0.true
 
 pub returns-then-row-marks : goal.returns-then-row-marks
-returns-then-row-marks c = one-marked _ _ c.if-row-eq0.false
+returns-then-row-marks c = one_marked _ _ c.if-row-eq0.false
 
 pub returns-else-row-marks : goal.returns-else-row-marks
-returns-else-row-marks c = sym (set_out _ _ _ (omega (arith, c.if-row-marks.false, c.if-row-eq0.false))) ∙ one-marked _ _ c.if-row-eq0.false
+returns-else-row-marks c = sym (set_out _ _ _ (omega (arith, c.if-row-marks.false, c.if-row-eq0.false))) ∙ one_marked _ _ c.if-row-eq0.false

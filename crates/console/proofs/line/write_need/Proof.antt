@@ -6,17 +6,17 @@ use borrow.Author.Rules.{rules}
 use Rattle.console.proofs.line.write_need.Statement.{statement}
 use Rattle.console.proofs.line.write_need.Tie as tie
 
-write-operation-requires : tie.Need-write-operation-requires
-write-operation-requires c κs = omega (arith, c.before.before.before.before.before.before.before.requires, c.before.before.before.write_bytes.ensures.place, put_length c.before.before.before.write_bytes.ensures, name_short c.before.before.before.before.before.before.before.args.operation)
+write_operation_requires : tie.Need-write-operation-requires
+write_operation_requires c κs = omega (arith, c.before.before.before.before.before.before.before.requires, c.before.before.before.write_bytes.ensures.place, put_length c.before.before.before.write_bytes.ensures, name_short c.before.before.before.before.before.before.before.args.operation)
 
-write-byte-requires : tie.Need-write-byte-requires
-write-byte-requires c κs = omega (arith, c.before.before.before.before.before.before.before.before.before.before.before.requires, c.before.before.before.before.before.before.before.write_bytes.ensures.place, put_length c.before.before.before.before.before.before.before.write_bytes.ensures, name_short c.before.before.before.before.before.before.before.before.before.before.before.args.operation, c.before.before.before.write-operation.ensures.place, put_length c.before.before.before.write-operation.ensures)
+write_byte_requires : tie.Need-write-byte-requires
+write_byte_requires c κs = omega (arith, c.before.before.before.before.before.before.before.before.before.before.before.requires, c.before.before.before.before.before.before.before.write_bytes.ensures.place, put_length c.before.before.before.before.before.before.before.write_bytes.ensures, name_short c.before.before.before.before.before.before.before.before.before.before.before.args.operation, c.before.before.before.write-operation.ensures.place, put_length c.before.before.before.write-operation.ensures)
 
-write-parts-requires : tie.Need-write-parts-requires
-write-parts-requires c κs = omega (arith, c.before.before.before.before.before.before.before.before.before.before.before.before.before.before.before.requires, c.before.before.before.before.before.before.before.before.before.before.before.write_bytes.ensures.place, put_length c.before.before.before.before.before.before.before.before.before.before.before.write_bytes.ensures, name_short c.before.before.before.before.before.before.before.before.before.before.before.before.before.before.before.args.operation, c.before.before.before.before.before.before.before.write-operation.ensures.place, put_length c.before.before.before.before.before.before.before.write-operation.ensures, c.before.before.before.write_byte.ensures.place, put_length c.before.before.before.write_byte.ensures)
+write_parts_requires : tie.Need-write-parts-requires
+write_parts_requires c κs = omega (arith, c.before.before.before.before.before.before.before.before.before.before.before.before.before.before.before.requires, c.before.before.before.before.before.before.before.before.before.before.before.write_bytes.ensures.place, put_length c.before.before.before.before.before.before.before.before.before.before.before.write_bytes.ensures, name_short c.before.before.before.before.before.before.before.before.before.before.before.before.before.before.before.args.operation, c.before.before.before.before.before.before.before.write-operation.ensures.place, put_length c.before.before.before.before.before.before.before.write-operation.ensures, c.before.before.before.write_byte.ensures.place, put_length c.before.before.before.write_byte.ensures)
 
-write-parts-requires-2 : tie.Need-write-parts-requires-2
-write-parts-requires-2 c κs = omega (arith, c.before.before.before.before.before.before.before.before.before.before.before.before.before.before.before.before.before.before.before.requires, c.before.before.before.before.before.before.before.before.before.before.before.before.before.before.before.write_bytes.ensures.place, put_length c.before.before.before.before.before.before.before.before.before.before.before.before.before.before.before.write_bytes.ensures, name_short c.before.before.before.before.before.before.before.before.before.before.before.before.before.before.before.before.before.before.before.args.operation, c.before.before.before.before.before.before.before.before.before.before.before.write-operation.ensures.place, put_length c.before.before.before.before.before.before.before.before.before.before.before.write-operation.ensures, c.before.before.before.before.before.before.before.write_byte.ensures.place, put_length c.before.before.before.before.before.before.before.write_byte.ensures, c.before.before.before.write-parts.ensures.place, put_length c.before.before.before.write-parts.ensures, parts_length c.before.before.before.before.before.before.before.before.before.before.before.before.before.before.before.before.before.before.before.args.x 9)
+write_parts_requires_2 : tie.Need-write-parts-requires-2
+write_parts_requires_2 c κs = omega (arith, c.before.before.before.before.before.before.before.before.before.before.before.before.before.before.before.before.before.before.before.requires, c.before.before.before.before.before.before.before.before.before.before.before.before.before.before.before.write_bytes.ensures.place, put_length c.before.before.before.before.before.before.before.before.before.before.before.before.before.before.before.write_bytes.ensures, name_short c.before.before.before.before.before.before.before.before.before.before.before.before.before.before.before.before.before.before.before.args.operation, c.before.before.before.before.before.before.before.before.before.before.before.write-operation.ensures.place, put_length c.before.before.before.before.before.before.before.before.before.before.before.write-operation.ensures, c.before.before.before.before.before.before.before.write_byte.ensures.place, put_length c.before.before.before.before.before.before.before.write_byte.ensures, c.before.before.before.write-parts.ensures.place, put_length c.before.before.before.write-parts.ensures, parts_length c.before.before.before.before.before.before.before.before.before.before.before.before.before.before.before.before.before.before.before.args.x 9)
 
 returns : tie.Need-returns
 returns c =
@@ -26,9 +26,9 @@ returns c =
     (tie.spec
     (λ c. search rules)
     (λ c κs. search rules)
-    write-operation-requires
-    write-byte-requires
-    write-parts-requires
-    write-parts-requires-2
+    write_operation_requires
+    write_byte_requires
+    write_parts_requires
+    write_parts_requires_2
     (λ c. search rules)
     returns)

@@ -7,11 +7,11 @@ use borrow.Author.Rules.{rules}
 use Rattle.console.proofs.line.write_refused.Statement.{statement}
 use Rattle.console.proofs.line.write_refused.Tie as tie
 
-write-decimal-field-requires : tie.Need-write-decimal-field-requires
-write-decimal-field-requires c κs = omega (arith, c.before.before.before.before.before.before.before.requires, c.before.before.before.write_bytes.ensures.place, put_length c.before.before.before.write_bytes.ensures, decimal_short c.before.before.before.before.before.before.before.args.number (omega arith), ending_length (in_decimal c.before.before.before.before.before.before.before.args.number) 9)
+write_decimal_field_requires : tie.Need-write-decimal-field-requires
+write_decimal_field_requires c κs = omega (arith, c.before.before.before.before.before.before.before.requires, c.before.before.before.write_bytes.ensures.place, put_length c.before.before.before.write_bytes.ensures, decimal_short c.before.before.before.before.before.before.before.args.number (omega arith), ending_length (in_decimal c.before.before.before.before.before.before.before.args.number) 9)
 
-write-decimal-field-requires-2 : tie.Need-write-decimal-field-requires-2
-write-decimal-field-requires-2 c κs = omega (arith, c.before.before.before.before.before.before.before.before.before.before.before.requires, c.before.before.before.before.before.before.before.write_bytes.ensures.place, put_length c.before.before.before.before.before.before.before.write_bytes.ensures, decimal_short c.before.before.before.before.before.before.before.before.before.before.before.args.number (omega arith), ending_length (in_decimal c.before.before.before.before.before.before.before.before.before.before.before.args.number) 9, c.before.before.before.write-decimal-field.ensures.place, put_length c.before.before.before.write-decimal-field.ensures, decimal_short c.before.before.before.before.before.before.before.before.before.before.before.args.place (omega arith), ending_length (in_decimal c.before.before.before.before.before.before.before.before.before.before.before.args.place) 10)
+write_decimal_field_requires_2 : tie.Need-write-decimal-field-requires-2
+write_decimal_field_requires_2 c κs = omega (arith, c.before.before.before.before.before.before.before.before.before.before.before.requires, c.before.before.before.before.before.before.before.write_bytes.ensures.place, put_length c.before.before.before.before.before.before.before.write_bytes.ensures, decimal_short c.before.before.before.before.before.before.before.before.before.before.before.args.number (omega arith), ending_length (in_decimal c.before.before.before.before.before.before.before.before.before.before.before.args.number) 9, c.before.before.before.write-decimal-field.ensures.place, put_length c.before.before.before.write-decimal-field.ensures, decimal_short c.before.before.before.before.before.before.before.before.before.before.before.args.place (omega arith), ending_length (in_decimal c.before.before.before.before.before.before.before.before.before.before.before.args.place) 10)
 
 returns : tie.Need-returns
 returns c =
@@ -21,7 +21,7 @@ returns c =
     (tie.spec
     (λ c. search rules)
     (λ c κs. search rules)
-    write-decimal-field-requires
-    write-decimal-field-requires-2
+    write_decimal_field_requires
+    write_decimal_field_requires_2
     (λ c. search rules)
     returns)
