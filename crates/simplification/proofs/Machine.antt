@@ -32,9 +32,9 @@ answer_in_word (refused why s) = refused why (in_word s)
 
 -- ---- the machine counts in its word as the definition counts without end
 
-one_more : (n : ℕ) → one_more (min n largest_word) ≡ min (suc n) largest_word
+one_more_lem : (n : ℕ) → one_more (min n largest_word) ≡ min (suc n) largest_word
 unfolding one_more
-one_more n = elim (dec_lt n largest_word) [
+one_more_lem n = elim (dec_lt n largest_word) [
   | yes l ↦ let e : min n largest_word ≡ n = omega arith in rw (e, lt-ltb n largest_word l) (omega arith)
   | no g ↦ let e : min n largest_word ≡ largest_word = omega arith in rw e (omega arith)
 ]
@@ -46,7 +46,7 @@ InWord a b = a ≡ tally_in_word b
 counts_in_word : Passing InWord one_more suc
 unfolding InWord
 counts_in_word = record {
-  counts = λ a b e. ap (λ c. record { calls = one_more c.calls; marks = c.marks }) e ∙ (λ i. record { calls = one_more b.calls i; marks = b.marks });
+  counts = λ a b e. ap (λ c. record { calls = one_more c.calls; marks = c.marks }) e ∙ (λ i. record { calls = one_more_lem b.calls i; marks = b.marks });
   notes = λ js a b e. ap (λ c. record { calls = c.calls; marks = noted js c.marks }) e;
 }
 
