@@ -202,6 +202,10 @@ module _ (links : List ℕ) (f : Fields) where
       → Put out at (line_text (moved links (expression_of f))) next out' × (next ≤ at + 64)
   row_written q s p = (rw (← q) p, omega (arith, s, p.place))
 
+-- and it is short
+pub row_short : (e : Expression) {out out' : List ℕ} {at next : ℕ} → length (line_text e) ≤ 64 → Put out at (line_text e) next out' → next ≤ at + 64
+row_short e s p = omega (arith, s, p.place)
+
 -- and of the row of a line
 pub row_line : (rows : Memory) (table : List ℕ) (i : ℕ) {f : Fields} {node : ℕ} → f ≡ fields_at rows node → node ≡ get_or table i 0 → moved rows.link (expression_of f) ≡ line_at rows table i
 unfolding line_at expression_at

@@ -26,4 +26,4 @@ pub shape_of-out : goal.shape_of-out
 shape_of-out c = put_length c.loop-i.invariant.1.0
 
 pub returns : goal.returns
-returns c = (all_written _ c.args.table.now c.loop-i.invariant.0 c.loop-i-test.false c.loop-i.invariant.1.0, omega (arith, c.loop-i.invariant.1.1, c.loop-i.invariant.0))
+returns c = record { put = all_written _ c.args.table.now c.loop-i.invariant.0 c.loop-i-test.false c.loop-i.invariant.1.0; fits = omega (arith, c.loop-i.invariant.1.1, c.loop-i.invariant.0) }
