@@ -190,10 +190,10 @@ node_line_lem earlier first bs few e = elim (ℕ_discrete first 115) [
 
 -- ---- a line of a listing
 
-swap_line : (nodes : List Tree) (bs : List ℕ) {s : Swap} {rest : List ℕ} → length nodes ≤ indices → swap_fields nodes 115 bs ≡ is s rest
+swap_line_lem : (nodes : List Tree) (bs : List ℕ) {s : Swap} {rest : List ℕ} → length nodes ≤ indices → swap_fields nodes 115 bs ≡ is s rest
     → Passes (bytes "sNI") (115 ∷ bs) rest
 unfolding swap_fields read words_of name_from starts stop_of
-swap_line nodes bs few e =
+swap_line_lem nodes bs few e =
     then_only (ended tab (is 115 bs)) _ e λ x mid o e.
     then_only (decimal_field tab numbers mid) _ e λ v node p e.
     then_only (child_field lf nodes node) _ e λ t last q e.
@@ -263,7 +263,7 @@ unfolding listing_line swap_line node_line listing_form
 listing_took substituting before first bs few e = elim (ℕ_discrete first 115) [
   | yes q ↦
       let f = goes_if (ltb (length before.swaps) most_swaps) (swapped substituting before (swap_fields before.nodes 115 bs)) (Refusal.LongList (line_number before)) (rw (eq-eqb first 115 q, q) at e) in
-      rw q (swap_formed before substituting (swap_fields before.nodes 115 bs) few f λ s mid p. (swap_line before.nodes bs (omega (arith, few)) p, swap_some before.nodes bs p))
+      rw q (swap_formed before substituting (swap_fields before.nodes 115 bs) few f λ s mid p. (swap_line_lem before.nodes bs (omega (arith, few)) p, swap_some before.nodes bs p))
   | no n ↦
       let g = rw (ne_eqb first 115 n) at e in
       let r = cond (none before.swaps) (node_fields before.nodes first bs) bad in

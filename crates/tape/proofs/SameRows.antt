@@ -44,11 +44,11 @@ after_none (Evaluation.Need operation x y) = refl
 module _ (e : Evaluation) (then : Complex → Evaluation) (next : Complex → List ℕ) where
   plainly : after_value e (λ x. after_value (then x) next) ≡ after_value (Evaluating.and_then e then) next
   unfolding after_value Evaluating.and_then
-  plainly = elim e [ Evaluation.Value z ↦ refl | Evaluation.Incomplete ↦ refl | Evaluation.Need operation x y ↦ refl ]
+  plainly = elim e as (λ e. after_value e (λ x. after_value (then x) next) ≡ after_value (Evaluating.and_then e then) next) [ Evaluation.Value z ↦ refl | Evaluation.Incomplete ↦ refl | Evaluation.Need operation x y ↦ refl ]
 
   in_turn : (rows : Complex → List ℕ) → after_value e (λ x. rows x ++ after_value (then x) next) ≡ after_value e rows ++ after_value (Evaluating.and_then e then) next
   unfolding after_value Evaluating.and_then
-  in_turn rows = elim e [ Evaluation.Value z ↦ refl | Evaluation.Incomplete ↦ refl | Evaluation.Need operation x y ↦ refl ]
+  in_turn rows = elim e as (λ e. after_value e (λ x. rows x ++ after_value (then x) next) ≡ after_value e rows ++ after_value (Evaluating.and_then e then) next) [ Evaluation.Value z ↦ refl | Evaluation.Incomplete ↦ refl | Evaluation.Need operation x y ↦ refl ]
 
 -- ---- a tree's steps use what the tree does
 

@@ -5,6 +5,7 @@ use Prim.Native.Nat.{◌-◌}
 use native.Mathlib.Omega.{arith}
 use Rattle.faults.proofs.Telling.{line_ended, line_other, line_passed, line_found}
 use Rattle.faults.proofs.line_start.Goals as goal
+use Rattle.faults.proofs.line_start.Goals.{then-text-i-eq-LF, else-text-i-eq-LF}
 
 pub loop-left-init : goal.loop-left-init
 loop-left-init c = record { inside = omega arith; rest = refl }
@@ -25,7 +26,10 @@ pub loop-left-smaller : goal.loop-left-smaller
 loop-left-smaller c = omega arith
 
 pub loop-left-preserved : goal.loop-left-preserved
-loop-left-preserved c = ⊎_elim (λ w. rw w.1 (line_passed c.loop-left.invariant c.loop-left-test.true c.if-text-i.false w.0.taken)) (λ w. rw w.1 (line_other c.loop-left.invariant c.loop-left-test.true c.if-text-i.false w.0.left)) c.if-text-i-eq-LF.branch
+loop-left-preserved c = elim c.if-text-i-eq-LF.branch [
+  | then-text-i-eq-LF w ↦ rw w.left-is (line_passed c.loop-left.invariant c.loop-left-test.true c.if-text-i.false w.if-text-i-eq-LF.true)
+  | else-text-i-eq-LF w ↦ rw w.left-is (line_other c.loop-left.invariant c.loop-left-test.true c.if-text-i.false w.if-text-i-eq-LF.false)
+]
 
 pub returns : goal.returns
 returns c = (c.loop-left.invariant.inside, line_found c.loop-left.invariant c.loop-left-test.false)

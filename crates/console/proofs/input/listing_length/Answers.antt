@@ -9,8 +9,7 @@ use lib.Seq.{length-take-le}
 use borrow.Author.Count.{below_more}
 use borrow.Author.Rules.{rules}
 use Rattle.console.proofs.input.listing_length.Goals as goal
-
-)
+use Rattle.console.proofs.input.listing_length.Goals.{then-byte-eq-LF+else-before-eq-LF, else-byte-eq-LF}
 
 pub loop-at-init : goal.loop-at-init
 loop-at-init c = (search rules, refl, λ k h e. omega arith)
@@ -29,7 +28,8 @@ loop-at-preserved c = (
   simp add-one,
   below_more _ _ c.loop-at.invariant.2
       (λ e.
-      ⊎_elim (λ w. w.1.left (c.loop-at.invariant.1 ∙ e.0)) (λ w. w.left e.1) c.if-byte-eq-LF.branch),
+      elim c.if-byte-eq-LF.branch [ then-byte-eq-LF+else-before-eq-LF w ↦ w.if-before-eq-LF.false (c.loop-at.invariant.1 ∙ e.0) | else-byte-eq-LF w ↦ w.if-byte-eq-LF.false e.1 ]),
+)
 
 pub returns : goal.returns
 returns c =

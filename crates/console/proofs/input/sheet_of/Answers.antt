@@ -6,8 +6,6 @@ use lib.ListN.{length, drop, length-drop, drop_of_length-le}
 use lib.Seq.{take_all}
 use Rattle.console.proofs.input.sheet_of.Goals as goal
 
-}
-
 pub returns-then-rest-eq0 : goal.returns-then-rest-eq0
 returns-then-rest-eq0 c = record {
   bytes =
@@ -15,6 +13,7 @@ returns-then-rest-eq0 c = record {
       sym (drop_of_length-le c.args.rest.now {i = 1} (omega arith));
   block = refl;
   place = omega arith;
+}
 
 pub returns : goal.returns
 returns c =

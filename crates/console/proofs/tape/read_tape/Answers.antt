@@ -14,7 +14,7 @@ pub shape_of-out-then-left-eq0 : goal.shape_of-out-then-left-eq0
 shape_of-out-then-left-eq0 c = put_length c.loop-at.invariant.put
 
 pub returns-then-left-eq0 : goal.returns-then-left-eq0
-returns-then-left-eq0 c = let p = take_full c.loop-at.invariant c.if-left-eq0.true in (p, put_counts p (omega (arith, c.requires, p.place, c.loop-at.invariant.room)))
+returns-then-left-eq0 c = let p = take_full c.loop-at.invariant c.if-left-eq0.true in record { put = p; within = put_counts p (omega (arith, c.requires, p.place, c.loop-at.invariant.room)) }
 
 pub write_bytes-n-requires : goal.write_bytes-n-requires
 write_bytes-n-requires c = omega (arith, c.requires, c.loop-at.invariant.room, put_length c.loop-at.invariant.put, c.if-left-eq0.false)
@@ -26,4 +26,4 @@ pub shape_of-out : goal.shape_of-out
 shape_of-out c = put_length c.loop-at.invariant.put
 
 pub returns : goal.returns
-returns c = let p = take_all_lines c.loop-at.invariant c.loop-at-test.false in (p, put_counts p (omega (arith, c.requires, p.place, c.loop-at.invariant.room)))
+returns c = let p = take_all_lines c.loop-at.invariant c.loop-at-test.false in record { put = p; within = put_counts p (omega (arith, c.requires, p.place, c.loop-at.invariant.room)) }

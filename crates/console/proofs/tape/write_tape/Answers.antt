@@ -19,4 +19,4 @@ pub shape_of-out : goal.shape_of-out
 shape_of-out c = put_length c.loop-i.invariant.put
 
 pub returns : goal.returns
-returns c = let p = written_all c.loop-i.invariant c.loop-i-test.false in (p, put_counts p (omega (arith, c.requires, lines_length 0 c.args.tape.now)))
+returns c = let p = written_all c.loop-i.invariant c.loop-i-test.false in record { put = p; within = put_counts p (omega (arith, c.requires, lines_length 0 c.args.tape.now)) }
