@@ -4,7 +4,7 @@ ghost use Rattle.io.specs.Counts.{IsPrefixLen};
 ghost use Rattle.console.specs.Parting.{Parted};
 ghost use Rattle.console.specs.Slices.{SheetPart};
 
-use libc::STDERR_FILENO;
+use std::io::Read;
 
 const LF: u8 = b'\n';
 
@@ -16,14 +16,12 @@ pub enum Input {
 }
 
 // Reads a file up to its end. One that fills the slice is too long.
-pub fn read(file: i32, text: &mut [u8]) -> Input {
+pub fn read<R: Read>(file: &mut R, text: &mut [u8]) -> Input {
     let mut done: usize = 0;
     while done < text.len() {
-        let got = libc::read(file, &mut text[done..]);
-        if got < 0 {
+        let Ok(more) = file.read(&mut text[done..]) else {
             return Input::Failed;
-        }
-        let more = io::count(got, &text[done..]);
+        };
         if more == 0 {
             return Input::Whole(done);
         }
@@ -70,6 +68,6 @@ pub fn sheet_of(rest: &[u8]) -> &[u8]
 }
 
 // The sentence on standard error for an input that failed.
-pub fn say_unread() {
-    io::write_all(STDERR_FILENO, b"The input could not be read to its end.\n");
+pub fn say_unread(rt: &impl Eprint) {
+    let _ = rt.eprint("The input could not be read to its end.\n");
 }
