@@ -71,3 +71,56 @@ pub fn sheet_of(rest: &[u8]) -> &[u8]
 pub fn say_unread(rt: &impl Eprint) {
     let _ = rt.eprint("The input could not be read to its end.\n");
 }
+
+#[cfg(test)]
+mod tests {
+    use super::*;
+    use std::io;
+
+    // Gives one byte a call. The call after `whole` of them fails, and those after it go on.
+    #[derive(Drop)]
+    struct Broken {
+        calls: usize,
+        whole: usize,
+    }
+
+    impl Read for Broken {
+        fn read(&mut self, buf: &mut [u8]) -> io::Result<usize> {
+            self.calls = self.calls.saturating_add(1);
+            if self.calls == self.whole.saturating_add(1) {
+                return Err(io::Error::from(io::ErrorKind::Other));
+            }
+            if buf.len() == 0 {
+                return Ok(0);
+            }
+            buf[0] = b'7';
+            Ok(1)
+        }
+    }
+
+    // How many bytes are read where the input is read to its end.
+    fn length(input: Input) -> Option<usize> {
+        match input {
+            Input::Whole(length) => Some(length),
+            _ => None,
+        }
+    }
+
+    fn is_failed(input: Input) -> bool {
+        match input {
+            Input::Failed => true,
+            _ => false,
+        }
+    }
+
+    #[test]
+    fn an_input_ends_or_fails_or_is_too_long(rt: HostRuntime) {
+        let mut text = [0u8; 8];
+        let mut bytes: &[u8] = b"a job";
+        assert_eq!(rt; length(read(&mut bytes, &mut text)), Some(5));
+        assert!(rt; is_failed(read(&mut Broken { calls: 0, whole: 3 }, &mut text)));
+        let long = read(&mut Broken { calls: 0, whole: 8 }, &mut text);
+        assert!(rt; !is_failed(long));
+        assert_eq!(rt; length(long), None);
+    }
+}

@@ -44,3 +44,34 @@ pub fn say_unopened(stderr: &impl Print, name: &[u8], error: &Error) {
     let _ = stderr.write_all(why.as_bytes());
     let _ = stderr.write_all(b"\n");
 }
+
+#[cfg(test)]
+mod tests {
+    use super::*;
+
+    // What std says of an error, and the system's own words for it.
+    fn words_of(room: &mut [u8; ROOM], error: &Error) -> usize {
+        let n = write_error(error, room).min(ROOM);
+        sentence(str::from_utf8(&room[..n]).unwrap_or("")).len()
+    }
+
+    #[test]
+    fn a_file_that_is_missing_is_said_in_the_systems_words(rt: HostRuntime) {
+        let mut room = [0u8; ROOM];
+        match open(&rt, b"/no/such/file") {
+            Ok(_) => assert!(rt; false, "opened"),
+            Err(error) => {
+                let n = words_of(&mut room, &error).min(ROOM);
+                assert_eq!(rt; &room[..n], b"No such file or directory".as_slice());
+            }
+        }
+    }
+
+    #[test]
+    fn a_name_that_is_not_text_is_refused(rt: HostRuntime) {
+        match open(&rt, b"a\xffb") {
+            Ok(_) => assert!(rt; false, "opened"),
+            Err(error) => assert!(rt; error.kind() == ErrorKind::InvalidFilename),
+        }
+    }
+}

@@ -112,3 +112,46 @@ pub fn read_text<R: Read>(list: &mut R, text: &mut [u8], length: usize) -> usize
     let n = read_full(list, &mut text[..most]);
     part_of_bytes(text, n)
 }
+
+#[cfg(test)]
+mod tests {
+    use super::*;
+    use std::io;
+
+    // Gives one byte a call. The call after `whole` of them fails, and those after it go on.
+    #[derive(Drop)]
+    struct Broken {
+        calls: usize,
+        whole: usize,
+    }
+
+    impl Read for Broken {
+        fn read(&mut self, buf: &mut [u8]) -> io::Result<usize> {
+            self.calls = self.calls.saturating_add(1);
+            if self.calls == self.whole.saturating_add(1) {
+                return Err(io::Error::from(io::ErrorKind::Other));
+            }
+            if buf.len() == 0 {
+                return Ok(0);
+            }
+            buf[0] = b'7';
+            Ok(1)
+        }
+    }
+
+    #[test]
+    fn a_read_that_fails_ends_the_text(rt: HostRuntime) {
+        let mut text = [0u8; 8];
+        let mut list = Broken { calls: 0, whole: 3 };
+        assert_eq!(rt; read_text(&mut list, &mut text, 5), 3);
+        assert!(rt; text == [b'7', b'7', b'7', 0, 0, 0, 0, 0]);
+    }
+
+    #[test]
+    fn a_line_that_a_failed_read_cuts_short_is_none(rt: HostRuntime) {
+        let mut list = Broken { calls: 0, whole: 3 };
+        assert!(rt; next_line(&mut list, 4).is_none());
+        let mut sound = Broken { calls: 0, whole: 4 };
+        assert_eq!(rt; next_line(&mut sound, 4).kind, b'7');
+    }
+}
