@@ -91,9 +91,9 @@ mkdir "$small"
 cp run "$small"
 cd "$small"
 mkdir -p crates/copy/src crates/small/src crates/aside/src
-printf '%s\n' 'copy: io libc small' 'small:' 'aside:' >crates.txt
+printf '%s\n' 'copy: small' 'small:' 'aside:' >crates.txt
 echo 'pub fn seven() -> u64 { 7 }' | tee crates/small/src/lib.rt >crates/aside/src/lib.rt
-printf '%s\n' 'fn main() {' 'let mut space = io::large_buffer();' 'let n = io::read_full(0, &mut space);' 'io::write_all(1, &space[..n]);' '}' \
+printf '%s\n' 'use std::io;' 'fn main(rt: HostRuntime) -> io::Result<()> {' 'io::copy(&mut rt.stdin(), &mut rt.stdout())?;' 'Ok(())' '}' \
     >crates/copy/src/main.rt
 echo hello >"$scratch/hello"
 

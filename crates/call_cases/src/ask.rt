@@ -98,22 +98,22 @@ pub fn play(case: Case, tape: &[u8], sheet: &[u8]) -> Told {
 }
 
 // Whether the port has left the memory zero; says so if it has not.
-pub fn is_left_clear(told: Told) -> bool
+pub fn is_left_clear(rt: &impl Print, told: Told) -> bool
     ensures { result ≡ told.is_clear }
 {
     if !told.is_clear {
-        say::fault(b"the port has left something in the work memory");
+        say::fault(rt, b"the port has left something in the work memory");
     }
     told.is_clear
 }
 
 // Whether the answer is the wanted one, and the memory zero.
-pub fn is_right(whose: &[u8], wanted: [u64; 6], told: Told) -> bool
+pub fn is_right(rt: &impl Print, whose: &[u8], wanted: [u64; 6], told: Told) -> bool
     ensures { result ≡ answered_by wanted told.words told.is_clear }
 {
     let words = told.words;
-    if !say::is_right(whose, &wanted, &words) {
+    if !say::is_right(rt, whose, &wanted, &words) {
         return false;
     }
-    is_left_clear(told)
+    is_left_clear(rt, told)
 }

@@ -3,6 +3,7 @@
 ghost use Rattle.std.specs.Prelude.{◌≡◌, eqb};
 
 use replay::line::{Line, next_line};
+use replay::lists::List;
 
 // With its line feed.
 const LINE: usize = 190;
@@ -54,7 +55,7 @@ fn detail(line: Line) -> u64 {
     }
 }
 
-pub fn next_case(list: i32) -> Case {
+pub fn next_case(list: &mut List) -> Case {
     let line = next_line(list, LINE);
     Case {
         kind: line.kind,

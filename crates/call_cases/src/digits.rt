@@ -2,6 +2,7 @@
 ghost use Rattle.io.specs.Counts.{IsPrefixLen};
 
 use replay::line::{digit, read_text};
+use replay::lists::List;
 use replay::slices::part_of_bytes;
 
 fn digit_at(digits: &[u8], i: usize) -> u8 {
@@ -44,7 +45,7 @@ fn decode(digits: &[u8], tape: &mut [u8]) {
 }
 
 // Puts the next tape of the list at the start of a slice, and answers how many bytes it has.
-pub fn read_tape(list: i32, tape: &mut [u8], length: usize) -> usize
+pub fn read_tape(list: &mut List, tape: &mut [u8], length: usize) -> usize
     ensures { IsPrefixLen result tape.new }
 {
     let mut digits = [0u8; 40960];

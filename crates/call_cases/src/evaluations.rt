@@ -6,6 +6,7 @@ use super::marks::{is_marked, next_marks};
 use super::outcome::Outcome;
 use super::{marked, marks};
 use complex::bits::class_of_bits;
+use replay::lists::List;
 use replay::slices::part_of_bytes;
 
 // As long as the longest tape.
@@ -27,39 +28,46 @@ fn with_one_zero(words: [u64; 6]) -> [u64; 6] {
 }
 
 // Whether a value is the Rust's, zeros of either sign as one.
-pub fn is_value(case: Case, told: Told) -> bool {
+pub fn is_value(rt: &impl Print, case: Case, told: Told) -> bool {
     let wanted = case.wanted;
     let words = told.words;
     let alike = with_one_zero(words);
     let mut got = told;
     got.words = alike;
-    is_right(b"the Rust", with_one_zero(wanted), got)
+    is_right(rt, b"the Rust", with_one_zero(wanted), got)
 }
 
-pub fn run(case: Case, text: &[u8], sheet: &[u8]) -> Outcome {
+pub fn run(rt: &impl Print, case: Case, text: &[u8], sheet: &[u8]) -> Outcome {
     let evaluated = ask(b'e', case, text, sheet, 0);
-    if !is_value(case, evaluated) {
+    if !is_value(rt, case, evaluated) {
         return Outcome::Wrong;
     }
     let words = evaluated.words;
-    compile(case, words, [0; marks::LINE], text, sheet)
+    compile(rt, case, words, [0; marks::LINE], text, sheet)
 }
 
 // The line of marks follows in the list.
-pub fn run_marked(list: i32, case: Case, text: &[u8], sheet: &[u8]) -> Outcome {
+pub fn run_marked(
+    rt: &impl Print,
+    list: &mut List,
+    case: Case,
+    text: &[u8],
+    sheet: &[u8],
+) -> Outcome {
     let line = next_marks(list);
     let evaluated = marked::evaluate(case, text, sheet);
-    if !is_value(case, evaluated) {
+    if !is_value(rt, case, evaluated) {
         return Outcome::Wrong;
     }
-    if !is_marked(line, evaluated) {
+    if !is_marked(rt, line, evaluated) {
         return Outcome::Wrong;
     }
     let words = evaluated.words;
-    compile(case, words, line, text, sheet)
+    compile(rt, case, words, line, text, sheet)
 }
 
 fn compile(
+    rt: &impl Print,
     case: Case,
     evaluated: [u64; 6],
     line: [u8; marks::LINE],
@@ -69,18 +77,19 @@ fn compile(
     let compiled = ask(b'c', case, text, sheet, TAPE);
     let words = compiled.words;
     if words[0] != 0 {
-        return refused(evaluated, compiled);
+        return refused(rt, evaluated, compiled);
     }
-    if !is_left_clear(compiled) {
+    if !is_left_clear(rt, compiled) {
         return Outcome::Wrong;
     }
     let tape = compiled.paper;
     let n = part_of_bytes(&tape, words[1] as usize);
-    Outcome::Played.if_right(is_played(case, evaluated, line, &tape[..n], sheet))
+    Outcome::Played.if_right(is_played(rt, case, evaluated, line, &tape[..n], sheet))
 }
 
 // With marks if it was evaluated with marks.
 fn is_played(
+    rt: &impl Print,
     case: Case,
     evaluated: [u64; 6],
     line: [u8; marks::LINE],
@@ -89,19 +98,19 @@ fn is_played(
 ) -> bool {
     if case.kind == b'E' {
         let told = marked::play(case, tape, sheet);
-        return marks::is_right(b"evaluating", evaluated, line, told);
+        return marks::is_right(rt, b"evaluating", evaluated, line, told);
     }
-    is_right(b"evaluating", evaluated, play(case, tape, sheet))
+    is_right(rt, b"evaluating", evaluated, play(case, tape, sheet))
 }
 
 // Where evaluating has refused the listing, compiling has to refuse it likewise. Whatever else can be evaluated is compiled, or
 // refused by 14.
-fn refused(evaluated: [u64; 6], compiled: Told) -> Outcome {
+fn refused(rt: &impl Print, evaluated: [u64; 6], compiled: Told) -> Outcome {
     let number = evaluated[0];
     match number {
         1 | 2 | 6 | 7 | 8 => {
-            Outcome::Refused.if_right(is_right(b"evaluating", evaluated, compiled))
+            Outcome::Refused.if_right(is_right(rt, b"evaluating", evaluated, compiled))
         }
-        _ => Outcome::Long.if_right(is_right(b"without a tape", [14, 0, 0, 0, 0, 0], compiled)),
+        _ => Outcome::Long.if_right(is_right(rt, b"without a tape", [14, 0, 0, 0, 0, 0], compiled)),
     }
 }

@@ -11,10 +11,11 @@ use super::outcome::Outcome;
 use super::{evaluations, marked};
 use replay::lent::is_written;
 use replay::line::read_text;
+use replay::lists::List;
 use replay::say;
 
 // What has to be written follows in the list: a tape in digits, or a listing as it is.
-fn read_wanted(list: i32, case: Case, wanted: &mut [u8]) -> usize
+fn read_wanted(list: &mut List, case: Case, wanted: &mut [u8]) -> usize
     ensures { IsPrefixLen result wanted.new }
 {
     if case.kind == b'c' {
@@ -28,48 +29,59 @@ fn both(x: bool, y: bool) -> bool {
 }
 
 // Both: what is written, and the answer.
-fn is_told(list: i32, case: Case, told: Told) -> bool {
+fn is_told(rt: &impl Print, list: &mut List, case: Case, told: Told) -> bool {
     let paper = told.paper;
     let mut wanted = [0u8; 32768];
     let n = read_wanted(list, case, &mut wanted);
-    let is_there = is_written(&wanted[..n], &paper);
+    let is_there = is_written(rt, &wanted[..n], &paper);
     let words = case.wanted;
-    both(is_there, is_right(b"wanted", words, told))
+    both(is_there, is_right(rt, b"wanted", words, told))
 }
 
 // The line of marks follows what has to be written.
-fn is_simplified(list: i32, case: Case, text: &[u8], sheet: &[u8]) -> bool {
+fn is_simplified(rt: &impl Print, list: &mut List, case: Case, text: &[u8], sheet: &[u8]) -> bool {
     let told = marked::simplify(case, text, sheet);
-    let is_there = is_told(list, case, told);
-    both(is_there, is_marked(next_marks(list), told))
+    let is_there = is_told(rt, list, case, told);
+    both(is_there, is_marked(rt, next_marks(list), told))
 }
 
-fn ask_and_look(list: i32, case: Case, text: &[u8], sheet: &[u8]) -> Outcome {
+fn ask_and_look(
+    rt: &impl Print,
+    list: &mut List,
+    case: Case,
+    text: &[u8],
+    sheet: &[u8],
+) -> Outcome {
     let kind = case.kind;
     match kind {
-        b'e' => evaluations::run(case, text, sheet),
-        b'r' => Outcome::Right.if_right(is_value(case, ask(kind, case, text, sheet, 0))),
+        b'e' => evaluations::run(rt, case, text, sheet),
+        b'r' => Outcome::Right.if_right(is_value(rt, case, ask(kind, case, text, sheet, 0))),
         b's' | b'S' | b'z' | b'c' => {
-            Outcome::Right.if_right(is_told(list, case, ask(kind, case, text, sheet, case.room)))
+            Outcome::Right.if_right(is_told(
+                rt,
+                list,
+                case,
+                ask(kind, case, text, sheet, case.room),
+            ))
         }
-        b'E' => evaluations::run_marked(list, case, text, sheet),
-        b'Z' | b'O' => Outcome::Right.if_right(is_simplified(list, case, text, sheet)),
+        b'E' => evaluations::run_marked(rt, list, case, text, sheet),
+        b'Z' | b'O' => Outcome::Right.if_right(is_simplified(rt, list, case, text, sheet)),
         _ => Outcome::Wrong,
     }
 }
 
-pub fn run(list: i32, case: Case) -> Outcome {
+pub fn run(rt: &impl Print, list: &mut List, case: Case) -> Outcome {
     let mut text = [0u8; 32768];
     let mut sheet = [0u8; 32768];
     let n = read_text(list, &mut text, case.first);
     let m = read_text(list, &mut sheet, case.second);
     if n != case.first {
-        say::fault(b"there is no whole listing");
+        say::fault(rt, b"there is no whole listing");
         return Outcome::Wrong;
     }
     if m != case.second {
-        say::fault(b"there is no whole sheet");
+        say::fault(rt, b"there is no whole sheet");
         return Outcome::Wrong;
     }
-    ask_and_look(list, case, &text[..n], &sheet[..m])
+    ask_and_look(rt, list, case, &text[..n], &sheet[..m])
 }

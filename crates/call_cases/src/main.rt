@@ -6,7 +6,7 @@
 
 use case::{Case, next_case};
 use outcome::{Outcome, Tapes};
-use replay::lists::MOST;
+use replay::lists::{List, MOST};
 use replay::{lists, say};
 
 mod ask;
@@ -20,43 +20,43 @@ mod marks;
 mod outcome;
 mod tapes;
 
-fn run_case(list: i32, case: Case) -> Outcome {
+fn run_case(rt: &impl Print, list: &mut List, case: Case) -> Outcome {
     let kind = case.kind;
     match kind {
-        b'k' => tapes::check(list, case),
-        b'p' => tapes::pick(list, case),
-        b'y' => tapes::play(list, case),
-        b'Y' => tapes::play_marked(list, case),
-        b'x' => examples::run(list, case),
-        _ => listings::run(list, case),
+        b'k' => tapes::check(rt, list, case),
+        b'p' => tapes::pick(rt, list, case),
+        b'y' => tapes::play(rt, list, case),
+        b'Y' => tapes::play_marked(rt, list, case),
+        b'x' => examples::run(rt, list, case),
+        _ => listings::run(rt, list, case),
     }
 }
 
-fn run_list(k: usize) {
-    let list = lists::open(k);
+fn run_list(rt: &HostRuntime, k: usize) {
+    let mut list = lists::open(rt, k);
     let mut count = 0;
     let mut wrong = 0;
     let mut tapes = Tapes::none();
     while count < MOST {
-        let case = next_case(list);
+        let case = next_case(&mut list);
         if case.is_none() {
             break;
         }
-        let outcome = run_case(list, case);
-        wrong += say::count_wrong(count, outcome.is_right());
+        let outcome = run_case(rt, &mut list, case);
+        wrong += say::count_wrong(rt, count, outcome.is_right());
         tapes = tapes.with(outcome);
         count += 1;
     }
-    lists::end(k, count, wrong);
-    tapes.end();
-    libc::close(list);
+    lists::end(rt, k, count, wrong);
+    tapes.end(rt);
 }
 
-fn main() {
-    let lists = os::arg_count();
-    let mut k = 1;
-    while k < lists {
-        run_list(k);
-        k += 1;
+// Argument 0 is the program's own name.
+fn main(rt: HostRuntime) {
+    for k in 1..usize::MAX {
+        if !lists::is_named(&rt, k) {
+            break;
+        }
+        run_list(&rt, k);
     }
 }

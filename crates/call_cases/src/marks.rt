@@ -7,13 +7,14 @@ use super::ask;
 use super::ask::Told;
 use memory::layout::MARKS;
 use replay::line::{digit, read_text};
+use replay::lists::List;
 use replay::say;
 
 // With its line feed.
 pub const LINE: usize = 65;
 
 // What is read where the list ends is no line.
-pub fn next_marks(list: i32) -> [u8; LINE] {
+pub fn next_marks(list: &mut List) -> [u8; LINE] {
     let mut line = [0u8; LINE];
     read_text(list, &mut line, LINE);
     line
@@ -48,24 +49,30 @@ fn is_same(line: &[u8; LINE], marks: &[u8; MARKS]) -> bool
 }
 
 // Whether the rows that are marked are those of the line; prints the line if they are not.
-pub fn is_marked(line: [u8; LINE], told: Told) -> bool
+pub fn is_marked(rt: &impl Print, line: [u8; LINE], told: Told) -> bool
     ensures { result ≡ marked_by line told.marks }
 {
     let marks = told.marks;
     let is_right = is_same(&line, &marks);
     if !is_right {
-        say::word(b"the port has marked other rows than ");
-        say::word(&line);
+        say::word(rt, b"the port has marked other rows than ");
+        say::word(rt, &line);
     }
     is_right
 }
 
 // Whether the answer is the wanted one, the memory zero, and the marks are those of the line.
-pub fn is_right(whose: &[u8], wanted: [u64; 6], line: [u8; LINE], told: Told) -> bool
+pub fn is_right(
+    rt: &impl Print,
+    whose: &[u8],
+    wanted: [u64; 6],
+    line: [u8; LINE],
+    told: Told,
+) -> bool
     ensures { result ≡ (answered_by wanted told.words told.is_clear && marked_by line told.marks) }
 {
-    if !ask::is_right(whose, wanted, told) {
+    if !ask::is_right(rt, whose, wanted, told) {
         return false;
     }
-    is_marked(line, told)
+    is_marked(rt, line, told)
 }

@@ -71,15 +71,15 @@ impl Tapes {
     }
 
     // Says how many there were of each, if any was played.
-    pub fn end(self) {
+    pub fn end(self, rt: &impl Print) {
         if self.played == 0 {
             return;
         }
-        decimal(self.played);
-        word(b" compiled and played, ");
-        decimal(self.long);
-        word(b" too long for a tape, ");
-        decimal(self.refused);
-        word(b" refused\n");
+        decimal(rt, self.played);
+        word(rt, b" compiled and played, ");
+        decimal(rt, self.long);
+        word(rt, b" too long for a tape, ");
+        decimal(rt, self.refused);
+        word(rt, b" refused\n");
     }
 }

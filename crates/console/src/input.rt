@@ -4,7 +4,7 @@ ghost use Rattle.io.specs.Counts.{IsPrefixLen};
 ghost use Rattle.console.specs.Parting.{Parted};
 ghost use Rattle.console.specs.Slices.{SheetPart};
 
-use libc::STDERR_FILENO;
+use std::io::Read;
 
 const LF: u8 = b'\n';
 
@@ -16,14 +16,12 @@ pub enum Input {
 }
 
 // Reads a file up to its end. One that fills the slice is too long.
-pub fn read(file: i32, text: &mut [u8]) -> Input {
+pub fn read<R: Read>(file: &mut R, text: &mut [u8]) -> Input {
     let mut done: usize = 0;
     while done < text.len() {
-        let got = libc::read(file, &mut text[done..]);
-        if got < 0 {
+        let Ok(more) = file.read(&mut text[done..]) else {
             return Input::Failed;
-        }
-        let more = io::count(got, &text[done..]);
+        };
         if more == 0 {
             return Input::Whole(done);
         }
@@ -70,6 +68,59 @@ pub fn sheet_of(rest: &[u8]) -> &[u8]
 }
 
 // The sentence on standard error for an input that failed.
-pub fn say_unread() {
-    io::write_all(STDERR_FILENO, b"The input could not be read to its end.\n");
+pub fn say_unread(rt: &impl Eprint) {
+    let _ = rt.eprint("The input could not be read to its end.\n");
+}
+
+#[cfg(test)]
+mod tests {
+    use super::*;
+    use std::io;
+
+    // Gives one byte a call. The call after `whole` of them fails, and those after it go on.
+    #[derive(Drop)]
+    struct Broken {
+        calls: usize,
+        whole: usize,
+    }
+
+    impl Read for Broken {
+        fn read(&mut self, buf: &mut [u8]) -> io::Result<usize> {
+            self.calls = self.calls.saturating_add(1);
+            if self.calls == self.whole.saturating_add(1) {
+                return Err(io::Error::from(io::ErrorKind::Other));
+            }
+            if buf.len() == 0 {
+                return Ok(0);
+            }
+            buf[0] = b'7';
+            Ok(1)
+        }
+    }
+
+    // How many bytes are read where the input is read to its end.
+    fn length(input: Input) -> Option<usize> {
+        match input {
+            Input::Whole(length) => Some(length),
+            _ => None,
+        }
+    }
+
+    fn is_failed(input: Input) -> bool {
+        match input {
+            Input::Failed => true,
+            _ => false,
+        }
+    }
+
+    #[test]
+    fn an_input_ends_or_fails_or_is_too_long(rt: HostRuntime) {
+        let mut text = [0u8; 8];
+        let mut bytes: &[u8] = b"a job";
+        assert_eq!(rt; length(read(&mut bytes, &mut text)), Some(5));
+        assert!(rt; is_failed(read(&mut Broken { calls: 0, whole: 3 }, &mut text)));
+        let long = read(&mut Broken { calls: 0, whole: 8 }, &mut text);
+        assert!(rt; !is_failed(long));
+        assert_eq!(rt; length(long), None);
+    }
 }

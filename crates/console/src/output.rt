@@ -1,14 +1,13 @@
-// The answer on standard output.
-use libc::{STDERR_FILENO, STDOUT_FILENO};
+// The answer on standard output. Where a sentence on standard error cannot be written either, there is nowhere left to say so.
 
 // The sentence on standard error for an answer that was not written, or not to its end.
-pub fn say_unwritten() {
-    io::write_all(STDERR_FILENO, b"The answer could not be written.\n");
+pub fn say_unwritten(rt: &impl Eprint) {
+    let _ = rt.eprint("The answer could not be written.\n");
 }
 
 // Writes an answer, and says so where that fails.
-pub fn put(answer: &[u8]) {
-    if !io::write_all(STDOUT_FILENO, answer) {
-        say_unwritten();
+pub fn put(rt: &(impl Print + Eprint), answer: &[u8]) {
+    if rt.write_all(answer).is_err() {
+        say_unwritten(rt);
     }
 }

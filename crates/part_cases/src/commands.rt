@@ -10,7 +10,7 @@ use expression::{ExpressionFunction, InfixOperator, PrefixOperator};
 use memory::layout::DESK_WORDS;
 use memory::{zero, zero_rows};
 use replay::line::{Line, next_line};
-use replay::lists::MOST;
+use replay::lists::{List, MOST};
 use replay::say::{count, word};
 use replay::slices::{is_zero, part};
 use store::desk::{REFUSED, calls_made, refusal_of, set_calls, standing};
@@ -52,15 +52,21 @@ enum Given {
 }
 
 // Adds a node, with the number of its command as the count of simplify calls, and says what came of it.
-fn add(store: &mut [[u64; 4]], desk: &mut [u64; DESK_WORDS], line: Line, calls: u64) {
+fn add(
+    rt: &impl Print,
+    store: &mut [[u64; 4]],
+    desk: &mut [u64; DESK_WORDS],
+    line: Line,
+    calls: u64,
+) {
     set_calls(desk, calls);
     let at = store::add(store, desk, node_of(line));
     if REFUSED <= at {
-        refused_text(refusal_of(desk, at));
+        refused_text(rt, refusal_of(desk, at));
         return;
     }
-    nodes::added(at, standing(desk), calls_made(desk));
-    nodes::read(store, at);
+    nodes::added(rt, at, standing(desk), calls_made(desk));
+    nodes::read(rt, store, at);
 }
 
 // As a call clears what it was lent.
@@ -70,7 +76,13 @@ fn clear(store: &mut [[u64; 4]], desk: &mut [u64; DESK_WORDS]) {
 }
 
 // Obeys a command on what is lent. Every letter but these asks to add a node.
-fn obey(line: Line, calls: u64, store: &mut [[u64; 4]], desk: &mut [u64; DESK_WORDS]) -> Given {
+fn obey(
+    rt: &impl Print,
+    line: Line,
+    calls: u64,
+    store: &mut [[u64; 4]],
+    desk: &mut [u64; DESK_WORDS],
+) -> Given {
     let kind = line.kind;
     let a = line.fields[2] as usize;
     let b = line.fields[3] as usize;
@@ -82,7 +94,7 @@ fn obey(line: Line, calls: u64, store: &mut [[u64; 4]], desk: &mut [u64; DESK_WO
         b'r' => return Given::Recalled(store::kept_at(store, a)),
         b'e' => return Given::Compared(store::equal_at(store, a, b)),
         _ => {
-            add(store, desk, line, calls);
+            add(rt, store, desk, line, calls);
             return Given::Added;
         }
     }
@@ -90,40 +102,40 @@ fn obey(line: Line, calls: u64, store: &mut [[u64; 4]], desk: &mut [u64; DESK_WO
 }
 
 // Of clearing it is said apart.
-fn say_obeyed(kind: u8) {
+fn say_obeyed(rt: &impl Print, kind: u8) {
     match kind {
-        b'j' => word(b"filled"),
-        b's' => word(b"started"),
-        b'k' => word(b"keeps"),
+        b'j' => word(rt, b"filled"),
+        b's' => word(rt, b"started"),
+        b'k' => word(rt, b"keeps"),
         _ => (),
     }
 }
 
-fn say_recalled(answer: usize) {
+fn say_recalled(rt: &impl Print, answer: usize) {
     if answer == 0 {
-        word(b"nothing");
+        word(rt, b"nothing");
     } else {
-        word(b"result");
-        count((answer - 1) as u64);
+        word(rt, b"result");
+        count(rt, (answer - 1) as u64);
     }
 }
 
-fn say_compared(is_equal: bool) {
+fn say_compared(rt: &impl Print, is_equal: bool) {
     if is_equal {
-        word(b"equal");
+        word(rt, b"equal");
     } else {
-        word(b"unequal");
+        word(rt, b"unequal");
     }
 }
 
-fn say_given(kind: u8, given: Given) {
+fn say_given(rt: &impl Print, kind: u8, given: Given) {
     match given {
         Given::Added => return,
-        Given::Nothing => say_obeyed(kind),
-        Given::Recalled(answer) => say_recalled(answer),
-        Given::Compared(is_equal) => say_compared(is_equal),
+        Given::Nothing => say_obeyed(rt, kind),
+        Given::Recalled(answer) => say_recalled(rt, answer),
+        Given::Compared(is_equal) => say_compared(rt, is_equal),
     }
-    word(b"\n");
+    word(rt, b"\n");
 }
 
 // In how many rows word k is not zero.
@@ -143,14 +155,14 @@ fn others(store: &[[u64; 4]; 4096], k: usize) -> u64
 
 // Says of each of the four words in how many of all rows it is not zero after those that are lent were cleared, and if the
 // desk is not zero.
-fn say_cleared(store: &[[u64; 4]; 4096], desk: &[u64; DESK_WORDS]) {
-    word(b"cleared");
-    count(others(store, 0));
-    count(others(store, 1));
-    count(others(store, 2));
-    count(others(store, 3));
+fn say_cleared(rt: &impl Print, store: &[[u64; 4]; 4096], desk: &[u64; DESK_WORDS]) {
+    word(rt, b"cleared");
+    count(rt, others(store, 0));
+    count(rt, others(store, 1));
+    count(rt, others(store, 2));
+    count(rt, others(store, 3));
     if !is_zero(desk) {
-        word(b"\tdesk");
+        word(rt, b"\tdesk");
     }
 }
 
@@ -163,7 +175,7 @@ fn rows_after(line: Line, rows: usize) -> usize {
     }
 }
 
-pub fn run(list: i32) {
+pub fn run(rt: &impl Print, list: &mut List) {
     let mut store = [[JUNK; 4]; 4096];
     let mut desk = [JUNK; DESK_WORDS];
     let mut rows = 0;
@@ -180,11 +192,11 @@ pub fn run(list: i32) {
         }
         rows = rows_after(line, rows);
         let n = part(&store, rows);
-        let given = obey(line, calls, &mut store[..n], &mut desk);
+        let given = obey(rt, line, calls, &mut store[..n], &mut desk);
         if line.kind == b'c' {
-            say_cleared(&store, &desk);
+            say_cleared(rt, &store, &desk);
         }
-        say_given(line.kind, given);
+        say_given(rt, line.kind, given);
         calls += 1;
     }
 }

@@ -7,6 +7,7 @@ use listing::{Listing, Swap, read_listing, swap_of};
 use memory::layout::{DESK_WORDS, TABLE_WORDS};
 use replay::lent::BLANK;
 use replay::line::Line;
+use replay::lists::List;
 use replay::say::{count, word};
 use replay::slices::{is_all, is_same, part_of_bytes};
 use store::desk::standing;
@@ -18,11 +19,11 @@ const JUNK: u64 = 0xdead_beef_0001_0001;
 // No node.
 const NONE: usize = 4096;
 
-fn say_read(nodes: usize, swaps: usize) {
-    word(b"read");
-    count(nodes as u64);
-    count(swaps as u64);
-    word(b"\n");
+fn say_read(rt: &impl Print, nodes: usize, swaps: usize) {
+    word(rt, b"read");
+    count(rt, nodes as u64);
+    count(rt, swaps as u64);
+    word(rt, b"\n");
 }
 
 // How many bytes were written, 0 after a refusal.
@@ -38,35 +39,36 @@ fn room_of(line: Line) -> usize {
     (line.fields[3] % 4294967296) as usize
 }
 
-fn say_compared(is_same: bool) {
+fn say_compared(rt: &impl Print, is_same: bool) {
     if is_same {
-        word(b"same\n");
+        word(rt, b"same\n");
     } else {
-        word(b"differs\n");
+        word(rt, b"differs\n");
     }
 }
 
 // Says what was written on a paper, and whether the bytes beside it are as they were before.
-fn say_written(answer: Written, paper: &[u8]) {
+fn say_written(rt: &impl Print, answer: Written, paper: &[u8]) {
     let n = part_of_bytes(paper, length_of(answer));
-    word(&paper[..n]);
+    word(rt, &paper[..n]);
     match answer {
         Written::Bytes(length) => {
-            word(b"wrote");
-            count(length as u64);
+            word(rt, b"wrote");
+            count(rt, length as u64);
         }
-        Written::Refused(why) => refused(why),
+        Written::Refused(why) => refused(rt, why),
     }
     if is_all(paper, n, BLANK) {
-        word(b"\tkept\n");
+        word(rt, b"\tkept\n");
     } else {
-        word(b"\tchanged\n");
+        word(rt, b"\tchanged\n");
     }
 }
 
 // Writes the listing of a node where `room` bytes of the paper are lent, and answers how many bytes it has, 0 after a
 // refusal.
 fn write(
+    rt: &impl Print,
     store: &mut [[u64; 4]],
     at: usize,
     table: &mut [u64; TABLE_WORDS],
@@ -75,28 +77,29 @@ fn write(
 ) -> usize {
     let lent = part_of_bytes(paper, room);
     let answer = write_listing(store, at, table, &mut paper[..lent]);
-    say_written(answer, paper);
+    say_written(rt, answer, paper);
     length_of(answer)
 }
 
 // Writes a node with a table of its own, so that the s lines stay where they are.
-fn write_apart(store: &mut [[u64; 4]], at: usize, room: usize) {
+fn write_apart(rt: &impl Print, store: &mut [[u64; 4]], at: usize, room: usize) {
     let mut table = [JUNK; TABLE_WORDS];
     let mut paper = [BLANK; 40960];
-    write(store, at, &mut table, &mut paper, room);
+    write(rt, store, at, &mut table, &mut paper, room);
 }
 
 // Writes the node that a line asks for, if there is one.
-fn write_swap(found: Swap, store: &mut [[u64; 4]], room: usize) {
+fn write_swap(rt: &impl Print, found: Swap, store: &mut [[u64; 4]], room: usize) {
     match found {
-        Swap::Node(at) => write_apart(store, at, room),
-        Swap::Nothing => word(b"nothing\n"),
+        Swap::Node(at) => write_apart(rt, store, at, room),
+        Swap::Nothing => word(rt, b"nothing\n"),
     }
 }
 
 // Answers the lines that ask for the nodes of variables.
 fn write_swaps(
-    list: i32,
+    rt: &impl Print,
+    list: &mut List,
     asked: u64,
     room: usize,
     store: &mut [[u64; 4]],
@@ -107,14 +110,15 @@ fn write_swaps(
     while i < asked {
         let line = next(list);
         let found = swap_of(table, swaps, (line.fields[1] % 65536) as u16);
-        write_swap(found, store, room);
+        write_swap(rt, found, store, room);
         i += 1;
     }
 }
 
 // Says what was read, and writes what the lines ask for that follow. Answers the root, or none.
 fn say_listing(
-    list: i32,
+    rt: &impl Print,
+    list: &mut List,
     line: Line,
     answer: Listing,
     store: &mut [[u64; 4]],
@@ -123,12 +127,12 @@ fn say_listing(
 ) -> usize {
     match answer {
         Listing::Read { root, swaps } => {
-            say_read(standing(desk), swaps);
-            write_swaps(list, line.fields[4], room_of(line), store, table, swaps);
+            say_read(rt, standing(desk), swaps);
+            write_swaps(rt, list, line.fields[4], room_of(line), store, table, swaps);
             root
         }
         Listing::Refused(why) => {
-            refused_text(why);
+            refused_text(rt, why);
             NONE
         }
     }
@@ -136,6 +140,7 @@ fn say_listing(
 
 // Says whether what was read back is written as the bytes that it was read from.
 fn say_same(
+    rt: &impl Print,
     answer: Listing,
     written: &[u8],
     store: &mut [[u64; 4]],
@@ -146,14 +151,15 @@ fn say_same(
         Listing::Read { root, swaps: _ } => {
             let n = length_of(write_listing(store, root, table, &mut paper));
             let m = part_of_bytes(&paper, n);
-            say_compared(is_same(written, &paper[..m]));
+            say_compared(rt, is_same(written, &paper[..m]));
         }
-        Listing::Refused(why) => refused_text(why),
+        Listing::Refused(why) => refused_text(rt, why),
     }
 }
 
 // Writes the root, if there is one, and reads back what was written, in the same rows.
 fn write_back(
+    rt: &impl Print,
     root: usize,
     room: usize,
     store: &mut [[u64; 4]],
@@ -164,16 +170,17 @@ fn write_back(
         return;
     }
     let mut paper = [BLANK; 40960];
-    let n = write(store, root, table, &mut paper, room);
+    let n = write(rt, store, root, table, &mut paper, room);
     if 0 < n {
         let m = part_of_bytes(&paper, n);
         let answer = read_listing(&paper[..m], false, store, desk, table);
-        say_same(answer, &paper[..m], store, table);
+        say_same(rt, answer, &paper[..m], store, table);
     }
 }
 
 pub fn run(
-    list: i32,
+    rt: &impl Print,
+    list: &mut List,
     line: Line,
     store: &mut [[u64; 4]],
     desk: &mut [u64; DESK_WORDS],
@@ -182,6 +189,6 @@ pub fn run(
     let mut text = [0u8; 81920];
     let n = texts::read(list, line, &mut text);
     let answer = read_listing(&text[..n], line.kind == b's', store, desk, table);
-    let root = say_listing(list, line, answer, store, desk, table);
-    write_back(root, room_of(line), store, desk, table);
+    let root = say_listing(rt, list, line, answer, store, desk, table);
+    write_back(rt, root, room_of(line), store, desk, table);
 }

@@ -13,14 +13,8 @@ mod sheets;
 mod texts;
 mod vectors;
 
-fn main() {
-    let vectors = lists::open(1);
-    vectors::run(vectors, 1);
-    libc::close(vectors);
-    let commands = lists::open(2);
-    commands::run(commands);
-    libc::close(commands);
-    let texts = lists::open(3);
-    texts::run(texts);
-    libc::close(texts);
+fn main(rt: HostRuntime) {
+    vectors::run(&rt, &mut lists::open(&rt, 1), 1);
+    commands::run(&rt, &mut lists::open(&rt, 2));
+    texts::run(&rt, &mut lists::open(&rt, 3));
 }

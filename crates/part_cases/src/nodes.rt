@@ -5,26 +5,26 @@ use replay::slices::part_of_bytes;
 use store::reading::{class_at, depth_at, expression_at, size_at};
 use writing::line::{line_length, write_line};
 
-pub fn added(at: usize, nodes: usize, calls: u64) {
-    word(b"node");
-    count(at as u64);
-    count(nodes as u64);
-    count(calls);
+pub fn added(rt: &impl Print, at: usize, nodes: usize, calls: u64) {
+    word(rt, b"node");
+    count(rt, at as u64);
+    count(rt, nodes as u64);
+    count(rt, calls);
 }
 
-pub fn read(store: &[[u64; 4]], at: usize) {
-    count(size_at(store, at));
-    count(depth_at(store, at));
-    count(class_at(store, at));
-    line(expression_at(store, at));
+pub fn read(rt: &impl Print, store: &[[u64; 4]], at: usize) {
+    count(rt, size_at(store, at));
+    count(rt, depth_at(store, at));
+    count(rt, class_at(store, at));
+    line(rt, expression_at(store, at));
 }
 
 // The node as the line of a listing, which ends the line.
-fn line(e: Expression) {
+fn line(rt: &impl Print, e: Expression) {
     let mut paper = [0u8; 64];
     let length = line_length(e);
     write_line(&mut paper, 0, e);
     let n = part_of_bytes(&paper, length);
-    word(b"\t");
-    word(&paper[..n]);
+    word(rt, b"\t");
+    word(rt, &paper[..n]);
 }

@@ -7,34 +7,35 @@ use complex::bits::from_bits;
 use expression::refusal::Operation;
 use memory::layout::TABLE_WORDS;
 use replay::line::Line;
+use replay::lists::List;
 use replay::say::{count, word};
 use sheet::{Counts, Found, FoundRow, Sheet, cell, function_row, read_sheet, variable};
 
-pub fn run(list: i32, line: Line, table: &mut [u64; TABLE_WORDS]) {
+pub fn run(rt: &impl Print, list: &mut List, line: Line, table: &mut [u64; TABLE_WORDS]) {
     let mut text = [0u8; 81920];
     let n = texts::read(list, line, &mut text);
     match read_sheet(&text[..n], table) {
         Sheet::Read(counts) => {
-            say_read(counts);
-            look_up(list, line.fields[4], table, counts);
+            say_read(rt, counts);
+            look_up(rt, list, line.fields[4], table, counts);
         }
-        Sheet::Refused(why) => refused_text(why),
+        Sheet::Refused(why) => refused_text(rt, why),
     }
 }
 
-fn say_read(counts: Counts) {
-    word(b"read");
-    count(counts.variables as u64);
-    count(counts.cells as u64);
-    count(counts.functions as u64);
-    word(b"\n");
+fn say_read(rt: &impl Print, counts: Counts) {
+    word(rt, b"read");
+    count(rt, counts.variables as u64);
+    count(rt, counts.cells as u64);
+    count(rt, counts.functions as u64);
+    word(rt, b"\n");
 }
 
 // Answers the lines that ask for values.
-fn look_up(list: i32, asked: u64, table: &[u64], counts: Counts) {
+fn look_up(rt: &impl Print, list: &mut List, asked: u64, table: &[u64], counts: Counts) {
     let mut i = 0;
     while i < asked {
-        say_found(found(table, counts, next(list)));
+        say_found(rt, found(table, counts, next(list)));
         i += 1;
     }
 }
@@ -79,14 +80,14 @@ fn operation_of(mark: u8) -> Operation {
     }
 }
 
-fn say_found(answer: Found) {
+fn say_found(rt: &impl Print, answer: Found) {
     match answer {
         Found::Value(z) => {
-            word(b"value");
-            double(z.re);
-            double(z.im);
-            word(b"\n");
+            word(rt, b"value");
+            double(rt, z.re);
+            double(rt, z.im);
+            word(rt, b"\n");
         }
-        Found::Nothing => word(b"nothing\n"),
+        Found::Nothing => word(rt, b"nothing\n"),
     }
 }

@@ -4,7 +4,7 @@ ghost use Rattle.io.specs.Counts.{IsPrefixLen};
 use super::{listings, sheets};
 use memory::layout::{DESK_WORDS, TABLE_WORDS};
 use replay::line::{Line, next_line, read_text};
-use replay::lists::MOST;
+use replay::lists::{List, MOST};
 use replay::say::{count, word};
 use replay::slices::part;
 
@@ -12,12 +12,12 @@ use replay::slices::part;
 const LINE: usize = 71;
 
 // The next line of the list that begins a case or asks for something.
-pub fn next(list: i32) -> Line {
+pub fn next(list: &mut List) -> Line {
     next_line(list, LINE)
 }
 
 // Puts the text of a case at the start of a slice, and answers how long it is.
-pub fn read(list: i32, line: Line, text: &mut [u8]) -> usize
+pub fn read(list: &mut List, line: Line, text: &mut [u8]) -> usize
     ensures { IsPrefixLen result text.new }
 {
     read_text(list, text, (line.fields[3] / 4294967296) as usize)
@@ -25,7 +25,8 @@ pub fn read(list: i32, line: Line, text: &mut [u8]) -> usize
 
 // A line that asks for something begins no case; where one stands in a case's place, the text before it was to be accepted.
 fn run_case(
-    list: i32,
+    rt: &impl Print,
+    list: &mut List,
     line: Line,
     store: &mut [[u64; 4]],
     desk: &mut [u64; DESK_WORDS],
@@ -33,20 +34,20 @@ fn run_case(
 ) {
     let kind = line.kind;
     match kind {
-        b'a' => word(b"no case\n"),
-        b'v' => sheets::run(list, line, table),
-        _ => listings::run(list, line, store, desk, table),
+        b'a' => word(rt, b"no case\n"),
+        b'v' => sheets::run(rt, list, line, table),
+        _ => listings::run(rt, list, line, store, desk, table),
     }
 }
 
-fn say_case(number: u64) {
-    word(b"case");
-    count(number);
-    word(b"\n");
+fn say_case(rt: &impl Print, number: u64) {
+    word(rt, b"case");
+    count(rt, number);
+    word(rt, b"\n");
 }
 
 // Rows, desk and table hold the word of a line that is marked, or what the case before left there.
-pub fn run(list: i32) {
+pub fn run(rt: &impl Print, list: &mut List) {
     let mut store = [[0; 4]; 4096];
     let mut desk = [0; DESK_WORDS];
     let mut table = [0; TABLE_WORDS];
@@ -56,7 +57,7 @@ pub fn run(list: i32) {
         if line.is_none() {
             break;
         }
-        say_case(cases);
+        say_case(rt, cases);
         if line.mark == b'1' {
             let junk = line.fields[1];
             store = [[junk; 4]; 4096];
@@ -64,7 +65,7 @@ pub fn run(list: i32) {
             table = [junk; TABLE_WORDS];
         }
         let rows = part(&store, line.fields[2] as usize);
-        run_case(list, line, &mut store[..rows], &mut desk, &mut table);
+        run_case(rt, list, line, &mut store[..rows], &mut desk, &mut table);
         cases += 1;
     }
 }

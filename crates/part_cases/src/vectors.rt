@@ -5,8 +5,9 @@ use complex::equality::{equal, equal_doubles, identical, identical_doubles};
 use complex::zero::{is_one, is_zero};
 use complex::{Complex, constants};
 use replay::line::{Line, next_line};
-use replay::lists::MOST;
+use replay::lists::{List, MOST};
 use replay::{lists, say};
+use std::rt::Env;
 
 // With its line feed.
 const LINE: usize = 104;
@@ -77,14 +78,14 @@ fn answered(line: Line) -> [u64; 6] {
     }
 }
 
-fn is_right(line: Line) -> bool {
+fn is_right(rt: &impl Print, line: Line) -> bool {
     let wanted = words(line.fields[5], line.fields[6]);
     let got = answered(line);
-    say::is_right(b"wanted", &wanted, &got)
+    say::is_right(rt, b"wanted", &wanted, &got)
 }
 
 // `k` is the number of the argument that names the list.
-pub fn run(list: i32, k: usize) {
+pub fn run(rt: &(impl Print + Env), list: &mut List, k: usize) {
     let mut count = 0;
     let mut wrong = 0;
     while count < MOST {
@@ -92,8 +93,8 @@ pub fn run(list: i32, k: usize) {
         if line.is_none() {
             break;
         }
-        wrong += say::count_wrong(count, is_right(line));
+        wrong += say::count_wrong(rt, count, is_right(rt, line));
         count += 1;
     }
-    lists::end(k, count, wrong);
+    lists::end(rt, k, count, wrong);
 }

@@ -1,13 +1,15 @@
 // The words of the command line, gathered into a text: each of them is a line.
+use std::env::FillError;
+use std::rt::Env;
 use text::writing::{write_byte, write_bytes};
 
 const LF: u8 = b'\n';
 
-// One word more, unless it was not had; the whole length stands for words that are too long.
-fn append(space: &mut [u8], at: usize, error: i32, word: &[u8]) -> usize {
-    if error != 0 {
-        return space.len();
-    }
+// Room for the longest word.
+const WORD: usize = 4096;
+
+// One word more; the whole length stands for words that are too long.
+fn append(space: &mut [u8], at: usize, word: &[u8]) -> usize {
     if space.len() <= word.len() {
         return space.len();
     }
@@ -20,16 +22,15 @@ fn append(space: &mut [u8], at: usize, error: i32, word: &[u8]) -> usize {
 
 // How many bytes the words take, or the whole length where they are too long. The program's own name, which comes first, is
 // none of them.
-pub fn gather(space: &mut [u8]) -> usize {
-    let count = os::arg_count();
+pub fn gather(rt: &impl Env, space: &mut [u8]) -> usize {
     let mut at: usize = 0;
-    let mut k: usize = 1;
-    while k < count {
-        let mut word = io::buffer();
-        let n = os::arg(k, &mut word);
-        let error = os::errno();
-        at = append(space, at, error, &word[..n]);
-        k += 1;
+    for k in 1..usize::MAX {
+        let mut word = [0u8; WORD];
+        match rt.arg(k, &mut word) {
+            Ok(n) => at = append(space, at, &word[..n]),
+            Err(FillError::TooLong) => return space.len(),
+            Err(FillError::NotPresent) => break,
+        }
     }
     at
 }

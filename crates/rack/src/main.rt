@@ -9,8 +9,9 @@ use commands::answer;
 use commands::words::{Asked, read_words};
 use console::input::Input;
 use console::{input, output};
-use libc::{STDERR_FILENO, STDIN_FILENO};
 use line::gather;
+use opening::{open, say_unopened};
+use std::io::Read;
 
 mod line;
 
@@ -29,23 +30,24 @@ fn saying_room() -> [u8; 148_480]
 }
 
 // The first bytes of the two outputs.
-fn write(out: &[u8], printed: usize, said: &[u8], spoken: usize) {
+fn write(rt: &HostRuntime, out: &[u8], printed: usize, said: &[u8], spoken: usize) {
     let n = input::part(out, printed);
     let m = input::part(said, spoken);
-    output::put(&out[..n]);
-    io::write_all(STDERR_FILENO, &said[..m]);
+    output::put(rt, &out[..n]);
+    // Where this fails there is nowhere left to say so.
+    let _ = rt.stderr().write_all(&said[..m]);
 }
 
-fn finish(words: &[u8], input: &[u8])
+fn finish(rt: &HostRuntime, words: &[u8], input: &[u8])
     requires { length words.now ≤ 8192 }
 {
     let mut out = io::large_buffer();
     let mut said = saying_room();
     let printed = answer(words, input, &mut out, &mut said);
-    write(&out, printed.out, &said, printed.said);
+    write(rt, &out, printed.out, &said, printed.said);
 }
 
-fn with_file(words: &[u8], file: i32)
+fn with_file<R: Read>(rt: &HostRuntime, words: &[u8], file: &mut R)
     requires { length words.now ≤ 8192 }
 {
     let mut space = input_room();
@@ -53,51 +55,47 @@ fn with_file(words: &[u8], file: i32)
     match read {
         Input::Whole(length) => {
             let n = input::part(&space, length);
-            finish(words, &space[..n]);
+            finish(rt, words, &space[..n]);
         }
-        Input::TooLong => finish(words, &space),
-        Input::Failed => input::say_unread(),
+        Input::TooLong => finish(rt, words, &space),
+        Input::Failed => input::say_unread(rt),
     }
 }
 
 // The job stands in the file that the last word names, or on standard input.
-fn with_input(words: &[u8], at: usize)
+fn with_input(rt: &HostRuntime, words: &[u8], at: usize)
     requires { length words.now ≤ 8192 }
 {
     if words.len() <= at {
-        with_file(words, STDIN_FILENO);
+        with_file(rt, words, &mut rt.stdin());
         return;
     }
     let name = &words[at..words.len() - 1];
-    let file = os::open_read(name);
-    if file < 0 {
-        os::fail(name);
-        return;
+    match open(rt, name) {
+        Ok(mut file) => with_file(rt, words, &mut file),
+        Err(error) => say_unopened(&rt.stderr(), name, &error),
     }
-    with_file(words, file);
-    libc::close(file);
 }
 
-fn obey(words: &[u8])
+fn obey(rt: &HostRuntime, words: &[u8])
     requires { length words.now ≤ 8192 }
 {
     let asked = read_words(words);
     match asked {
-        Asked::Job(_, at) => with_input(words, at),
-        _ => finish(words, b""),
+        Asked::Job(_, at) => with_input(rt, words, at),
+        _ => finish(rt, words, b""),
     }
 }
 
-fn main() {
+fn main(rt: HostRuntime) {
     let mut space = [0u8; 8192];
-    let length = gather(&mut space);
+    let length = gather(&rt, &mut space);
     if space.len() <= length {
-        io::write_all(
-            STDERR_FILENO,
-            b"The words are too long: one may have 4096 bytes, and all of them 8191.\n",
+        let _ = rt.eprint(
+            "The words are too long: one may have 4096 bytes, and all of them 8191.\n",
         );
         return;
     }
     let n = input::part(&space, length);
-    obey(&space[..n]);
+    obey(&rt, &space[..n]);
 }

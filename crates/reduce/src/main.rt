@@ -5,7 +5,6 @@
 
 use console::input::Input;
 use console::{input, output};
-use libc::STDIN_FILENO;
 use reduction::reduce;
 
 mod reduction;
@@ -13,22 +12,22 @@ mod reduction;
 // A byte more than an input may have, so that a longer one shows.
 const ROOM: usize = 65_537;
 
-fn run(text: &[u8]) {
+fn run(rt: &(impl Print + Eprint), text: &[u8]) {
     // More than 1024 lines of the longest form take.
     let mut out = io::large_buffer();
     let n = reduce(text, &mut out);
-    output::put(&out[..n]);
+    output::put(rt, &out[..n]);
 }
 
-fn main() {
+fn main(rt: HostRuntime) {
     let mut space = [0u8; ROOM];
-    let read = input::read(STDIN_FILENO, &mut space);
+    let read = input::read(&mut rt.stdin(), &mut space);
     match read {
         Input::Whole(length) => {
             let n = input::part(&space, length);
-            run(&space[..n]);
+            run(&rt, &space[..n]);
         }
-        Input::TooLong => run(&space),
-        Input::Failed => input::say_unread(),
+        Input::TooLong => run(&rt, &space),
+        Input::Failed => input::say_unread(&rt),
     }
 }

@@ -28,16 +28,16 @@ pub fn is_clear(
 }
 
 // Whether a paper begins with the wanted bytes, and the others are blank.
-pub fn is_written(wanted: &[u8], paper: &[u8]) -> bool
+pub fn is_written(rt: &impl Print, wanted: &[u8], paper: &[u8]) -> bool
     ensures { result ≡ written wanted.now paper.now }
 {
     let n = part_of_bytes(paper, wanted.len());
     if !is_same(wanted, &paper[..n]) {
-        say::fault(b"the port has written something else");
+        say::fault(rt, b"the port has written something else");
         return false;
     }
     if !is_all(paper, n, BLANK) {
-        say::fault(b"the port has changed bytes beside what it wrote");
+        say::fault(rt, b"the port has changed bytes beside what it wrote");
         return false;
     }
     true

@@ -5,6 +5,7 @@ ghost use Rattle.replay.specs.Judges.{digit_of};
 ghost use Rattle.io.specs.Counts.{IsPrefixLen};
 
 use super::slices::part_of_bytes;
+use std::io::Read;
 
 // The first two bytes, and the fields by their numbers from 1 on; a field that the line does not have is 0.
 #[derive(Clone, Copy)]
@@ -79,7 +80,7 @@ fn line_of(bytes: &[u8]) -> Line {
 }
 
 // The next line of a list whose lines have this length, or none where there is no whole line.
-pub fn next_line(list: i32, length: usize) -> Line {
+pub fn next_line<R: Read>(list: &mut R, length: usize) -> Line {
     let mut bytes = [0u8; 190];
     let n = read_text(list, &mut bytes, length);
     if n < length {
@@ -88,11 +89,69 @@ pub fn next_line(list: i32, length: usize) -> Line {
     line_of(&bytes[..n])
 }
 
+// Reads until a slice is full, the list ends or a read fails, and answers how many bytes were put at the start of the slice.
+fn read_full<R: Read>(list: &mut R, text: &mut [u8]) -> usize
+    ensures { IsPrefixLen result text.new }
+{
+    let mut done = 0;
+    while done < text.len() {
+        let n = list.read(&mut text[done..]).unwrap_or(0);
+        if n == 0 {
+            break;
+        }
+        done += n;
+    }
+    done
+}
+
 // Puts the next bytes of the list at the start of a slice, and answers how many they are.
-pub fn read_text(list: i32, text: &mut [u8], length: usize) -> usize
+pub fn read_text<R: Read>(list: &mut R, text: &mut [u8], length: usize) -> usize
     ensures { IsPrefixLen result text.new }
 {
     let most = part_of_bytes(text, length);
-    let n = io::read_full(list, &mut text[..most]);
+    let n = read_full(list, &mut text[..most]);
     part_of_bytes(text, n)
+}
+
+#[cfg(test)]
+mod tests {
+    use super::*;
+    use std::io;
+
+    // Gives one byte a call. The call after `whole` of them fails, and those after it go on.
+    #[derive(Drop)]
+    struct Broken {
+        calls: usize,
+        whole: usize,
+    }
+
+    impl Read for Broken {
+        fn read(&mut self, buf: &mut [u8]) -> io::Result<usize> {
+            self.calls = self.calls.saturating_add(1);
+            if self.calls == self.whole.saturating_add(1) {
+                return Err(io::Error::from(io::ErrorKind::Other));
+            }
+            if buf.len() == 0 {
+                return Ok(0);
+            }
+            buf[0] = b'7';
+            Ok(1)
+        }
+    }
+
+    #[test]
+    fn a_read_that_fails_ends_the_text(rt: HostRuntime) {
+        let mut text = [0u8; 8];
+        let mut list = Broken { calls: 0, whole: 3 };
+        assert_eq!(rt; read_text(&mut list, &mut text, 5), 3);
+        assert!(rt; text == [b'7', b'7', b'7', 0, 0, 0, 0, 0]);
+    }
+
+    #[test]
+    fn a_line_that_a_failed_read_cuts_short_is_none(rt: HostRuntime) {
+        let mut list = Broken { calls: 0, whole: 3 };
+        assert!(rt; next_line(&mut list, 4).is_none());
+        let mut sound = Broken { calls: 0, whole: 4 };
+        assert_eq!(rt; next_line(&mut sound, 4).kind, b'7');
+    }
 }

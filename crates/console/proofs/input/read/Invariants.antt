@@ -5,7 +5,7 @@ use lib.ListN.{length}
 use Rattle.console.proofs.input.read.Given as goal
 
 abbrev pub invariant-loop-done : goal.invariant-loop-done
-invariant-loop-done l = (l.done ≤ length l.text) × (length l.text ≡ length l.initial.text)
+invariant-loop-done g l = (l.done ≤ length l.text) × (length l.text ≡ length l.initial.text)
 
 abbrev pub decreases-loop-done : goal.decreases-loop-done
-decreases-loop-done l = length l.initial.text - l.done
+decreases-loop-done g l = length l.initial.text - l.done

@@ -3,7 +3,7 @@ use Prim.Native.Nat.{◌-◌}
 use Rattle.part_cases.proofs.commands.run.Given as goal
 
 abbrev pub invariant-loop-calls : goal.invariant-loop-calls
-invariant-loop-calls l = Unit {0}
+invariant-loop-calls g l = Unit {0}
 
 abbrev pub decreases-loop-calls : goal.decreases-loop-calls
-decreases-loop-calls l = 1000000 - l.calls
+decreases-loop-calls g l = 1000000 - l.calls

@@ -5,7 +5,7 @@ use lib.ListN.{length}
 use Rattle.part_cases.proofs.listings.write_swaps.Given as goal
 
 abbrev pub invariant-loop-i : goal.invariant-loop-i
-invariant-loop-i l = length l.store ≡ length l.initial.store
+invariant-loop-i g l = length l.store ≡ length l.initial.store
 
 abbrev pub decreases-loop-i : goal.decreases-loop-i
-decreases-loop-i l = l.asked - l.i
+decreases-loop-i g l = l.asked - l.i

@@ -3,7 +3,7 @@ use Prim.Native.Nat.{◌-◌}
 use Rattle.part_cases.proofs.sheets.look_up.Given as goal
 
 abbrev pub invariant-loop-i : goal.invariant-loop-i
-invariant-loop-i l = Unit {0}
+invariant-loop-i g l = Unit {0}
 
 abbrev pub decreases-loop-i : goal.decreases-loop-i
-decreases-loop-i l = l.asked - l.i
+decreases-loop-i g l = l.asked - l.i

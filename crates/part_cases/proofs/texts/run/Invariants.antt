@@ -3,7 +3,7 @@ use Prim.Native.Nat.{◌-◌}
 use Rattle.part_cases.proofs.texts.run.Given as goal
 
 abbrev pub invariant-loop-cases : goal.invariant-loop-cases
-invariant-loop-cases l = Unit {0}
+invariant-loop-cases g l = Unit {0}
 
 abbrev pub decreases-loop-cases : goal.decreases-loop-cases
-decreases-loop-cases l = 1000000 - l.cases
+decreases-loop-cases g l = 1000000 - l.cases

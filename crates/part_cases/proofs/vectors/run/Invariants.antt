@@ -3,7 +3,7 @@ use Prim.Native.Nat.{◌≤◌, ◌-◌}
 use Rattle.part_cases.proofs.vectors.run.Given as goal
 
 abbrev pub invariant-loop-count : goal.invariant-loop-count
-invariant-loop-count l = l.wrong ≤ l.count
+invariant-loop-count g l = l.wrong ≤ l.count
 
 abbrev pub decreases-loop-count : goal.decreases-loop-count
-decreases-loop-count l = 1000000 - l.count
+decreases-loop-count g l = 1000000 - l.count

@@ -1,9 +1,8 @@
 -- `replay::lent::is_clear` meets its contract: rows, desk and table, one after another. Assumes nothing.
-use mathlib.Core.Path.{◌∙◌, refl}
+use mathlib.Core.Bool.{not}
+use mathlib.Core.Path.{◌∙◌, refl, ap}
 use Rattle.replay.specs.Judges.{blank_rows, all_are}
 use Rattle.replay.proofs.Judging.{first_no, second_no, first_yes}
-use mathlib.Core.Bool.{not}
-use mathlib.Core.Path.{ap}
 use Rattle.replay.proofs.lent.is_clear.Goals as goal
 
 pub returns-then-not-is_zero_in : goal.returns-then-not-is_zero_in

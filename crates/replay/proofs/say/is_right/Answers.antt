@@ -3,7 +3,7 @@ use mathlib.Core.Path.{sym, ◌∙◌}
 use Rattle.replay.proofs.say.is_right.Goals as goal
 
 pub returns-then-is_same_answer : goal.returns-then-is_same_answer
-returns-then-is_same_answer c = sym c.if-is_same_answer.true ∙ c.is_same_answer.ensures
+returns-then-is_same_answer g c = sym c.if-is_same_answer.true ∙ c.is_same_answer.ensures
 
 pub returns : goal.returns
-returns c = sym c.if-is_same_answer.false ∙ c.is_same_answer.ensures
+returns g c = sym c.if-is_same_answer.false ∙ c.is_same_answer.ensures

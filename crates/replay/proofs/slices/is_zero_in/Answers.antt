@@ -1,12 +1,9 @@
 -- `replay::slices::is_zero_in` meets its contract: the rows before the place are blank. Assumes nothing.
-use Prim.Native.Nat.{◌-◌}
 use mathlib.Core.Path.{sym, ◌∙◌}
-use mathlib.Core.Bool.{true}
 use mathlib.Core.List.{[]}
 use lib.ListN.{get_or}
 use Rattle.replay.specs.Judges.{blank}
 use Rattle.replay.proofs.Judging.{none_yet, one_more_lem, rows_no, rows_yes}
-use borrow.Author.Tests.{not-true, not-false}
 use Rattle.replay.proofs.slices.is_zero_in.Goals as goal
 
 pub loop-i-init : goal.loop-i-init
