@@ -286,14 +286,14 @@ module _ (R : Rows) (fit : FittingRows R.functions) where
   pub fitting_numbers : Numbers Fitting R
   unfolding calculate_function calculate_infix cis Gives
   fitting_numbers = record {
-    functions = λ f x. elim f [
+    functions = λ f x. elim f as (λ f. Gives Fitting (calculate_function R f x)) [
       | ExpressionFunction.Sine ↦ asked_fits Operation.Sine x zero_number
       | ExpressionFunction.Cosine ↦ asked_fits Operation.Cosine x zero_number
       | ExpressionFunction.Exponent ↦ asked_fits Operation.Exponent x zero_number
       | ExpressionFunction.SquareRoot ↦ asked_fits Operation.SquareRoot x zero_number
       | ExpressionFunction.Cis ↦ then_fits (asked_one R Operation.Cosine x) _ λ c. then_fits (asked_one R Operation.Sine x) _ λ s. plus_fitting _ _
     ];
-    infixes = λ o x y. elim o [
+    infixes = λ o x y. elim o as (λ o. Gives Fitting (calculate_infix R o x y)) [
       | InfixOperator.Plus ↦ plus_fitting x y
       | InfixOperator.Minus ↦ minus_fitting x y
       | InfixOperator.Star ↦ times_fitting x y
