@@ -6,7 +6,6 @@ use Rattle.expression.proofs.Under.{within_one, within_two}
 use borrow.Enum.Refused.{opened}
 use Rattle.lacks.proofs.+missing.Goals as goal
 
-
 pub first_missing-returns-then-below-node : goal.first_missing-returns-then-below-node
 first_missing-returns-then-below-node t c = λ n o l b h. absurd (omega (arith, b, c.if-below-node.true))
 

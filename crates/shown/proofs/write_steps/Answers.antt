@@ -30,4 +30,4 @@ pub shape_of-out : goal.shape_of-out
 shape_of-out c = put_length c.loop-i.invariant.put
 
 pub returns : goal.returns
-returns c = ends c.loop-i.invariant c.loop-i-test.false c.requires
+returns c = record { put = (ends c.loop-i.invariant c.loop-i-test.false c.requires).0; within = (ends c.loop-i.invariant c.loop-i-test.false c.requires).1 }
