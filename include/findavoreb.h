@@ -1,7 +1,7 @@
 /* Findavoreb for C and for all that calls C: expressions evaluated, simplified, substituted and read as real numbers, or compiled to a
  * tape that is checked, played and picked.
  *
- * The functions are those of the static library that `rt staticlib exports` writes, target/staticlib/libexports.a, for x86-64. What is
+ * The functions are those of the static library that `rt lib` writes in crates/exports_c, out/libexports_c.a there, for x86-64. What is
  * named here is what a caller lends and what comes back. How a listing, a sheet and a tape are written and when each is refused is said in
  * docs/FORMATS.md; what of all this is proved, and what is believed, in docs/TRUST.md.
  *
@@ -27,8 +27,8 @@
  *                 register MXCSR counts: the archive has no x87 instruction. A call may set the flags of exceptions (fetestexcept), and
  *                 leaves the mode as it was.
  *   memset        The archive needs this one function of the C library, and nothing else. A host without a C library brings its own.
- *   Stack         Bytes that a call takes, its return address and what C passes on the stack included. Measured with this build on x86-64
- *                 by bench/stack, the most over its jobs, and not proved (bench/results/stack.md). What memset takes is not in it, nor
+ *   Stack         Bytes that a call takes, its return address and what C passes on the stack included. Measured on x86-64, with the build
+ *                 of an older kit, by bench/stack, the most over its jobs, and not proved (bench/results/stack.md). What memset takes is not in it, nor
  *                 what binding it takes at its first call in a dynamically linked program, about 3,000 bytes.
  *
  *                   evaluate        15,600    substitute      14,648    simplify        8,904    compile     8,408

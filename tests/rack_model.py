@@ -52,7 +52,7 @@ def defined(text, name):
 
 def helping():
     text = page('commands', 'specs', 'Help.antt')
-    return {name: defined(text, name) for name in ('help', 'version', 'usage', 'tooMany')}
+    return {name: defined(text, name) for name in ('help', 'version', 'usage', 'too_many')}
 
 
 # ---- sentences
@@ -507,7 +507,7 @@ def answer(words, text):
     is_traced, rest = word_and_rest(b'origins', TRACING, command, rest)
     most = 1 if command in COMMANDS else len(rest) if WORDS_AFTER_HELP else 0
     if len(rest) > most:
-        return Answer(b'', said['tooMany'])
+        return Answer(b'', said['too_many'])
     if command not in COMMANDS:
         return Answer(said['version' if command == '--version' else 'help'])
     given = job_answer(command, limit, text, is_traced)
