@@ -16,7 +16,7 @@ pub shape_of-out-then-table-i-eq-LF : goal.shape_of-out-then-table-i-eq-LF
 shape_of-out-then-table-i-eq-LF c = put_length c.write_piece-at.ensures.0 ∙ put_length c.loop-i.invariant.put
 
 pub returns-then-table-i-eq-LF : goal.returns-then-table-i-eq-LF
-returns-then-table-i-eq-LF c = ends c.loop-i.invariant c.loop-i-test.true c.write_piece-at.ensures c.if-table-i-eq-LF.true c.requires
+returns-then-table-i-eq-LF c = record { put = (ends c.loop-i.invariant c.loop-i-test.true c.write_piece-at.ensures c.if-table-i-eq-LF.true c.requires).0; within = (ends c.loop-i.invariant c.loop-i-test.true c.write_piece-at.ensures c.if-table-i-eq-LF.true c.requires).1 }
 
 pub loop-i-preserved : goal.loop-i-preserved
 loop-i-preserved c = goes_on c.loop-i.invariant c.loop-i-test.true c.write_piece-at.ensures c.if-table-i-eq-LF.false
@@ -25,4 +25,4 @@ pub shape_of-out : goal.shape_of-out
 shape_of-out c = put_length c.loop-i.invariant.put
 
 pub returns : goal.returns
-returns c = runs_out c.loop-i.invariant c.loop-i-test.false c.requires
+returns c = record { put = (runs_out c.loop-i.invariant c.loop-i-test.false c.requires).0; within = (runs_out c.loop-i.invariant c.loop-i-test.false c.requires).1 }
