@@ -21,7 +21,7 @@ use Rattle.commands.specs.declared.words.Command.{Command}
 use Rattle.commands.specs.Words.{first_of, request, shows, traces}
 use Rattle.commands.specs.Asking as Asking
 use Rattle.commands.specs.Help as Help
-use Rattle.commands.specs.Results.{result, marks}
+use Rattle.commands.specs.Results.{result_for, marks}
 use Rattle.outcomes.specs.Outcomes.{output_with, said_with}
 use Rattle.commands.specs.Printing.{output_of, Answers}
 use Rattle.commands.specs.Printing as Printing
@@ -31,7 +31,7 @@ use Rattle.commands.proofs.Choosing.{chosen, passed}
 
 -- ---- a job
 
-module _ (command : Command) (input out : List ℕ) {outcome : Outcome} {mid marks' : List ℕ} (c : ComesMarked (result command input out) (marks command input out) outcome mid marks') where
+module _ (command : Command) (input out : List ℕ) {outcome : Outcome} {mid marks' : List ℕ} (c : ComesMarked (result_for command input out) (marks command input out) outcome mid marks') where
   pub prints_job : {shown traced : Bool} {out' said' : List ℕ} {n m : ℕ} → shown ≡ shows command → traced ≡ traces command
       → Stands (output_with shown marks' (seen mid outcome)) n out' → Stands (said_with traced marks' (seen mid outcome)) m said'
       → PrintsJob command input out (record { out = n; said = m }) out' said'

@@ -22,7 +22,7 @@ use Rattle.outcomes.specs.Outcomes.{Result, refused_text, output}
 use Rattle.commands.specs.declared.words.Command.{Command}
 use Rattle.commands.specs.declared.words.Parted.{Parted}
 use Rattle.commands.specs.Words.{job, after, job_word, first_word, with_file, request, parted_shows, shows}
-use Rattle.commands.specs.Results.{of_evaluated, parted, result_in, result}
+use Rattle.commands.specs.Results.{of_evaluated, parted, result_in, result_for}
 use Rattle.commands.specs.Printing.{output_of, standard_output}
 
 word : request (bytes "evaluate\n") ≡ job (Command.Parted (Parted.Evaluate false)) []
@@ -36,7 +36,7 @@ module _ (input out : List ℕ) (h : length input ≤ 262144) where
 
   prints : standard_output (bytes "evaluate\n") input out
       ≡ output (of_evaluated (missing_in_job 4096 (listing_in input) (sheet_in input)) (listing_in input) (sheet_in input) called)
-  unfolding output_of shows parted_shows result result_in parted
+  unfolding output_of shows parted_shows result_for result_in parted
   prints = ap (λ r. output_of r input out) word ∙ rw (append-nil, le-ltb 262144 (length input) h)
 
   pub value_printed : {z : Complex} → called ≡ Evaluated.Value z → standard_output (bytes "evaluate\n") input out ≡ value_line z

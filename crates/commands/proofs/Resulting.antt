@@ -37,7 +37,7 @@ use Rattle.outcomes.specs.declared.Outcome.{Outcome}
 use Rattle.commands.specs.declared.words.Command.{Command}
 use Rattle.commands.specs.declared.words.Parted.{Parted}
 use Rattle.commands.specs.declared.words.Whole.{Whole}
-use Rattle.commands.specs.Results.{fault_of, empty_at, alone_of, lack_of, of_evaluated, evaluated, of_simplified, simplified_with, played_of, played, of_written, substituted, substituted_origins, substituted_with, of_real, real, of_tape, empty_tape, compiled, of_checked, whole, parted, result_in, result, marks_with, parted_marks, marks_in, marks}
+use Rattle.commands.specs.Results.{fault_of, empty_at, alone_of, lack_of, of_evaluated, evaluated, of_simplified, simplified_with, played_of, played, of_written, substituted, substituted_origins, substituted_with, of_real, real, of_tape, empty_tape, compiled, of_checked, whole, parted, result_in, result_for, marks_with, parted_marks, marks_in, marks}
 use Rattle.commands.specs.Coming.{ComesMarked}
 use Rattle.outcomes.specs.Outcomes.{Result, printed, with_calls, refused}
 use Rattle.outcomes.specs.Coming.{seen, Comes}
@@ -281,8 +281,8 @@ module _ (room : ℕ) (list values out : List ℕ) {r : Outcome} {out' marks' : 
 -- ---- an input that is too long
 
 module _ (command : Command) (input out : List ℕ) where
-  pub too_long_lem : 262144 < length input → {out' marks' : List ℕ} → marks' ≡ no_marks → ComesMarked (result command input out) (marks command input out) Outcome.TooLong out' marks'
-  unfolding result marks
+  pub too_long_lem : 262144 < length input → {out' marks' : List ℕ} → marks' ≡ no_marks → ComesMarked (result_for command input out) (marks command input out) Outcome.TooLong out' marks'
+  unfolding result_for marks
   too_long_lem h e = record {
     comes = record { answer = rw (lt-ltb 262144 (length input) h); inside = tt };
     marked = rw (lt-ltb 262144 (length input) h) e;

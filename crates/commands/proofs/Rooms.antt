@@ -14,7 +14,7 @@ use Rattle.outcomes.specs.Coming.{Comes}
 use Rattle.commands.specs.declared.words.Command.{Command}
 use Rattle.commands.specs.declared.words.Parted.{Parted}
 use Rattle.commands.specs.declared.words.Whole.{Whole}
-use Rattle.commands.specs.Results.{of_evaluated, evaluated, of_real, real, of_tape, empty_tape, compiled, whole, parted, result_in, result, parted_marks, marks_in, marks}
+use Rattle.commands.specs.Results.{of_evaluated, evaluated, of_real, real, of_tape, empty_tape, compiled, whole, parted, result_in, result_for, parted_marks, marks_in, marks}
 use Rattle.commands.specs.Coming.{ComesMarked}
 use Rattle.commands.specs.Needing.{WholeAlike, PartedAlike, Alike}
 
@@ -66,13 +66,13 @@ in_so_many room command input out store {r} {out'} {marks'} h a x =
 
 module _ (command : Command) (input out : List ℕ) {r : Outcome} {out' marks' : List ℕ} (short : length input ≤ 262144) where
   pub with_4096 : ComesMarked (result_in 4096 command input out) (marks_in 4096 command input out) r out' marks'
-      → ComesMarked (result command input out) (marks command input out) r out' marks'
-  unfolding result marks
+      → ComesMarked (result_for command input out) (marks command input out) r out' marks'
+  unfolding result_for marks
   with_4096 x = record {
     comes = record { answer = rw (le-ltb 262144 (length input) short) x.comes.answer; inside = x.comes.inside };
     marked = rw (le-ltb 262144 (length input) short) x.marked;
   }
 
   pub with_1024 : Alike command → ComesMarked (result_in 1024 command input out) (marks_in 1024 command input out) r out' marks'
-      → ComesMarked (result command input out) (marks command input out) r out' marks'
+      → ComesMarked (result_for command input out) (marks command input out) r out' marks'
   with_1024 p x = with_4096 (record { comes = subst (λ k. Comes k r out') (p input out).0 x.comes; marked = x.marked ∙ (p input out).1 })

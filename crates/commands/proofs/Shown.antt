@@ -23,7 +23,7 @@ use Rattle.commands.specs.declared.words.Command.{Command}
 use Rattle.commands.specs.declared.words.Parted.{Parted}
 use Rattle.commands.specs.declared.words.Whole.{Whole}
 use Rattle.commands.specs.Words.{parted_shows, shows}
-use Rattle.commands.specs.Results.{of_evaluated, of_simplified, simplified_with, parted, result_in, result}
+use Rattle.commands.specs.Results.{of_evaluated, of_simplified, simplified_with, parted, result_in, result_for}
 use Rattle.commands.proofs.Choosing.{never}
 
 -- the bytes of a result leave room
@@ -74,15 +74,15 @@ unfolding result_in shows
 command_few room (Command.Whole command) input out e h = never e
 command_few room (Command.Parted command) input out e h = parted_few room command (listing_in input) (sheet_in input) out e h
 
-result_few : (command : Command) (input out : List ℕ) → shows command ≡ true → 43008 ≤ length out → Few (result command input out)
-unfolding result Few
+result_few : (command : Command) (input out : List ℕ) → shows command ≡ true → 43008 ≤ length out → Few (result_for command input out)
+unfolding result_for Few
 result_few command input out e h = go (ltb 262144 (length input))
   where
     go : (b : Bool) → Few (cond b too_long (result_in 4096 command input out))
     go true = tt
     go false = command_few 4096 command input out e h
 
-pub shown_short : (command : Command) (input out : List ℕ) {shown : Bool} {o : Outcome} {out' : List ℕ} → Comes (result command input out) o out' → shown ≡ shows command
+pub shown_short : (command : Command) (input out : List ℕ) {shown : Bool} {o : Outcome} {out' : List ℕ} → Comes (result_for command input out) o out' → shown ≡ shows command
     → 65536 ≤ length out → shown ≡ true → Short o
 shown_short command input out {shown} {o} {out'} c e h t =
     few_short out' o c.inside (subst Few (sym c.answer) (result_few command input out (sym e ∙ t) (omega (arith, h))))

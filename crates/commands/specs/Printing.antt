@@ -4,13 +4,13 @@ use Rattle.io.specs.Counts.{IsPrefixLen}
 use Rattle.commands.specs.declared.Printed.{Printed}
 use Rattle.commands.specs.Words.{Request, job, help, version, nothing, unknown, too_many, first_of, request, shows, traces}
 use Rattle.outcomes.specs.Outcomes.{output_with, said_with}
-use Rattle.commands.specs.Results.{result, marks}
+use Rattle.commands.specs.Results.{result_for, marks}
 use Rattle.commands.specs.Help as Help
 
 -- ---- the words and the input
 
 unfoldable pub output_of : Request → (input out : List ℕ) → List ℕ
-output_of (job command rest) input out = output_with (shows command) (marks command input out) (result command input out)
+output_of (job command rest) input out = output_with (shows command) (marks command input out) (result_for command input out)
 output_of help input out = Help.help
 output_of version input out = Help.version
 output_of nothing input out = []
@@ -18,7 +18,7 @@ output_of unknown input out = []
 output_of too_many input out = []
 
 unfoldable pub said_of : Request → (words input out : List ℕ) → List ℕ
-said_of (job command rest) words input out = said_with (traces command) (marks command input out) (result command input out)
+said_of (job command rest) words input out = said_with (traces command) (marks command input out) (result_for command input out)
 said_of help words input out = []
 said_of version words input out = []
 said_of nothing words input out = Help.usage

@@ -158,8 +158,8 @@ result_in room (Command.Whole command) input out = whole room command input out
 result_in room (Command.Parted command) input out = parted room command (listing_in input) (sheet_in input) out
 
 -- with a store of 4096; an input may have 262,144 bytes
-unfoldable pub result : Command → (input out : List ℕ) → Result
-result command input out = cond (ltb 262144 (length input)) too_long (result_in 4096 command input out)
+unfoldable pub result_for : Command → (input out : List ℕ) → Result
+result_for command input out = cond (ltb 262144 (length input)) too_long (result_in 4096 command input out)
 
 -- ---- the t rows that it used, as marks; commands that do not say them have none
 

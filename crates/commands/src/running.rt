@@ -2,7 +2,7 @@
 ghost use Rattle.std.specs.Prelude.{◌≡◌, true, ◌≤◌, length};
 ghost use Rattle.calls.specs.Lent.{work, capacity};
 ghost use Rattle.commands.specs.Results as Results;
-ghost use Rattle.commands.specs.Results.{simplified_with, marks_with, substituted_with, result_in, result, marks_in};
+ghost use Rattle.commands.specs.Results.{simplified_with, marks_with, substituted_with, result_in, result_for, marks_in};
 ghost use Rattle.commands.specs.Needing.{WholeAlike, PartedAlike, Alike};
 ghost use Rattle.outcomes.specs.Coming.{Comes};
 ghost use Rattle.memory.specs.Marks.{no_marks};
@@ -25,7 +25,7 @@ fn run_substitute(
     table: &mut [u64; TABLE_WORDS],
     out: &mut [u8],
 ) -> Outcome
-    ensures* { λ r. ⌜ Comes (substituted_with traced (capacity (work store.old desk.old table.old)) text.now out.old) r out.new ⌝ }
+    ensures { Comes (substituted_with traced (capacity (work store.old desk.old table.old)) text.now out.old) result out.new }
 {
     if traced {
         return jobs::substitute_origins(text, store, desk, table, out);
@@ -42,7 +42,7 @@ fn run_whole(
     out: &mut [u8],
 ) -> Outcome
     requires { 65536 ≤ length out.old }
-    ensures* { λ r. ⌜ Comes (Results.whole (capacity (work store.old desk.old table.old)) command text.now out.old) r out.new ⌝ }
+    ensures { Comes (Results.whole (capacity (work store.old desk.old table.old)) command text.now out.old) result out.new }
 {
     match command {
         Whole::Substitute(traced) => run_substitute(traced, text, store, desk, table, out),
@@ -64,7 +64,7 @@ fn run_simplify(
     out: &mut [u8],
     marks: &mut [u8; MARKS],
 ) -> Outcome
-    ensures* { λ r. ⌜ ComesMarked (simplified_with traced (capacity (work store.old desk.old table.old)) limit list.now values.now out.old) (marks_with traced (capacity (work store.old desk.old table.old)) limit list.now values.now out.old) r out.new marks.new ⌝ }
+    ensures { ComesMarked (simplified_with traced (capacity (work store.old desk.old table.old)) limit list.now values.now out.old) (marks_with traced (capacity (work store.old desk.old table.old)) limit list.now values.now out.old) result out.new marks.new }
 {
     if traced {
         return jobs::simplify_origins(list, values, limit, store, desk, table, out, marks);
@@ -83,7 +83,7 @@ fn run_parted(
     marks: &mut [u8; MARKS],
 ) -> Outcome
     requires { (65536 ≤ length out.old) × (marks.old ≡ no_marks) }
-    ensures* { λ r. ⌜ ComesMarked (Results.parted (capacity (work store.old desk.old table.old)) command list.now values.now out.old) (Results.parted_marks (capacity (work store.old desk.old table.old)) command list.now values.now out.old) r out.new marks.new ⌝ }
+    ensures { ComesMarked (Results.parted (capacity (work store.old desk.old table.old)) command list.now values.now out.old) (Results.parted_marks (capacity (work store.old desk.old table.old)) command list.now values.now out.old) result out.new marks.new }
 {
     match command {
         Parted::Evaluate(_) => jobs::evaluate(list, values, store, desk, table, out, marks),
@@ -105,7 +105,7 @@ fn run_lent(
     marks: &mut [u8; MARKS],
 ) -> Outcome
     requires { (65536 ≤ length out.old) × (marks.old ≡ no_marks) }
-    ensures* { λ r. ⌜ ComesMarked (result_in (capacity (work store.old desk.old table.old)) command input.now out.old) (marks_in (capacity (work store.old desk.old table.old)) command input.now out.old) r out.new marks.new ⌝ }
+    ensures { ComesMarked (result_in (capacity (work store.old desk.old table.old)) command input.now out.old) (marks_in (capacity (work store.old desk.old table.old)) command input.now out.old) result out.new marks.new }
 {
     match command {
         Command::Whole(whole) => run_whole(whole, input, store, desk, table, out),
@@ -118,19 +118,19 @@ fn run_lent(
 }
 
 fn rows_of_the_store() -> [[u64; 4]; 4096]
-    ensures* { λ r. ⌜ 4096 ≡ length r ⌝ }
+    ensures { 4096 ≡ length result }
 {
     [[0; 4]; 4096]
 }
 
 fn rows_for_a_listing() -> [[u64; 4]; 1024]
-    ensures* { λ r. ⌜ 1024 ≡ length r ⌝ }
+    ensures { 1024 ≡ length result }
 {
     [[0; 4]; 1024]
 }
 
 fn whole_stores_little(command: Whole) -> bool
-    ensures* { λ r. ⌜ (r ≡ true → WholeAlike command) ⌝ }
+    ensures { (result ≡ true → WholeAlike command) }
 {
     match command {
         Whole::Substitute(_) => false,
@@ -142,7 +142,7 @@ fn whole_stores_little(command: Whole) -> bool
 }
 
 fn parted_stores_little(command: Parted) -> bool
-    ensures* { λ r. ⌜ (r ≡ true → PartedAlike command) ⌝ }
+    ensures { (result ≡ true → PartedAlike command) }
 {
     match command {
         Parted::Evaluate(_) => true,
@@ -155,7 +155,7 @@ fn parted_stores_little(command: Parted) -> bool
 // Whether a command stores no node but those of a listing, which has at most 1024 node lines: then it comes to the same with 1024 rows, and
 // the others need not be cleared.
 fn stores_little(command: Command) -> bool
-    ensures* { λ r. ⌜ (r ≡ true → Alike command) ⌝ }
+    ensures { (result ≡ true → Alike command) }
 {
     match command {
         Command::Whole(whole) => whole_stores_little(whole),
@@ -165,7 +165,7 @@ fn stores_little(command: Command) -> bool
 
 fn run_in_1024(command: Command, input: &[u8], out: &mut [u8], marks: &mut [u8; MARKS]) -> Outcome
     requires { (65536 ≤ length out.old) × (marks.old ≡ no_marks) }
-    ensures* { λ r. ⌜ ComesMarked (result_in 1024 command input.now out.old) (marks_in 1024 command input.now out.old) r out.new marks.new ⌝ }
+    ensures { ComesMarked (result_in 1024 command input.now out.old) (marks_in 1024 command input.now out.old) result out.new marks.new }
 {
     let mut store = rows_for_a_listing();
     let mut desk = [0; DESK_WORDS];
@@ -177,7 +177,7 @@ fn run_in_1024(command: Command, input: &[u8], out: &mut [u8], marks: &mut [u8; 
 
 fn run_in_4096(command: Command, input: &[u8], out: &mut [u8], marks: &mut [u8; MARKS]) -> Outcome
     requires { (65536 ≤ length out.old) × (marks.old ≡ no_marks) }
-    ensures* { λ r. ⌜ ComesMarked (result_in 4096 command input.now out.old) (marks_in 4096 command input.now out.old) r out.new marks.new ⌝ }
+    ensures { ComesMarked (result_in 4096 command input.now out.old) (marks_in 4096 command input.now out.old) result out.new marks.new }
 {
     let mut store = rows_of_the_store();
     let mut desk = [0; DESK_WORDS];
@@ -190,7 +190,7 @@ fn run_in_4096(command: Command, input: &[u8], out: &mut [u8], marks: &mut [u8; 
 // A command is lent the rows that it needs.
 pub fn run(command: Command, input: &[u8], out: &mut [u8], marks: &mut [u8; MARKS]) -> Outcome
     requires { (65536 ≤ length out.old) × (marks.old ≡ no_marks) }
-    ensures* { λ r. ⌜ ComesMarked (result command input.now out.old) (Results.marks command input.now out.old) r out.new marks.new ⌝ }
+    ensures { ComesMarked (result_for command input.now out.old) (Results.marks command input.now out.old) result out.new marks.new }
 {
     if MOST < input.len() {
         return Outcome::TooLong;

@@ -11,20 +11,20 @@ returns-in-Job c = answers_job c.read_words-asked.ensures.0 c.args.input.now c.a
 
 pub returns-in-Help : goal.returns-in-Help
 unfolding output_of said_of
-returns-in-Help c = answers_out c.read_words-asked.ensures.0 c.args.input.now c.args.out.now Asked.Help c.in-Help.is c.write_help.ensures refl
+returns-in-Help c = answers_out c.read_words-asked.ensures.0 c.args.input.now c.args.out.now Asked.Help c.in-Help.is (c.write_help.ensures.put, c.write_help.ensures.within) refl
 
 pub returns-in-Version : goal.returns-in-Version
 unfolding output_of said_of
-returns-in-Version c = answers_out c.read_words-asked.ensures.0 c.args.input.now c.args.out.now Asked.Version c.in-Version.is c.write_version.ensures refl
+returns-in-Version c = answers_out c.read_words-asked.ensures.0 c.args.input.now c.args.out.now Asked.Version c.in-Version.is (c.write_version.ensures.put, c.write_version.ensures.within) refl
 
 pub returns-in-Nothing : goal.returns-in-Nothing
 unfolding output_of said_of
-returns-in-Nothing c = answers_said c.read_words-asked.ensures.0 c.args.input.now c.args.out.now Asked.Nothing c.in-Nothing.is c.write_usage.ensures refl
+returns-in-Nothing c = answers_said c.read_words-asked.ensures.0 c.args.input.now c.args.out.now Asked.Nothing c.in-Nothing.is (c.write_usage.ensures.put, c.write_usage.ensures.within) refl
 
 pub returns-in-Unknown : goal.returns-in-Unknown
 unfolding output_of said_of
-returns-in-Unknown c = answers_said c.read_words-asked.ensures.0 c.args.input.now c.args.out.now Asked.Unknown c.in-Unknown.is (names_word c.first_length-n.ensures.words_value c.write_unknown.ensures) refl
+returns-in-Unknown c = answers_said c.read_words-asked.ensures.0 c.args.input.now c.args.out.now Asked.Unknown c.in-Unknown.is (names_word c.first_length-n.ensures.words_value (c.write_unknown.ensures.put, c.write_unknown.ensures.within)) refl
 
 pub returns-in-TooMany : goal.returns-in-TooMany
 unfolding output_of said_of
-returns-in-TooMany c = answers_said c.read_words-asked.ensures.0 c.args.input.now c.args.out.now Asked.TooMany c.in-TooMany.is c.write_too_many.ensures refl
+returns-in-TooMany c = answers_said c.read_words-asked.ensures.0 c.args.input.now c.args.out.now Asked.TooMany c.in-TooMany.is (c.write_too_many.ensures.put, c.write_too_many.ensures.within) refl

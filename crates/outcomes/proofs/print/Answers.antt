@@ -9,7 +9,7 @@ pub returns-in-Simplified : goal.returns-in-Simplified
 returns-in-Simplified c = prints_listing c.in-Simplified.is c.requires.1
 
 pub returns-in-Refused : goal.returns-in-Refused
-returns-in-Refused c = prints_refusal c.in-Refused.is c.print_refusal.ensures
+returns-in-Refused c = prints_refusal c.in-Refused.is (c.print_refusal.ensures.put, c.print_refusal.ensures.within)
 
 pub returns-in-TooLong : goal.returns-in-TooLong
-returns-in-TooLong c = prints_too_long c.in-TooLong.is c.write_refused.ensures
+returns-in-TooLong c = prints_too_long c.in-TooLong.is (c.write_refused.ensures.put, c.write_refused.ensures.within)

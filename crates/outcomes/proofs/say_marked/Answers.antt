@@ -15,4 +15,4 @@ pub write_used-requires : goal.write_used-requires
 write_used-requires c = (search rules, room_after 1040 81920 c.args.said.now c.requires c.say-n.new.said (put_length c.say-n.ensures.put) c.say-n.ensures.within.0)
 
 pub returns : goal.returns
-returns c = says_rows 1040 81920 c.args.said.now c.requires c.say-n.new.said (put_length c.say-n.ensures.put) c.say-n.ensures c.write_used.ensures
+returns c = says_rows 1040 81920 c.args.said.now c.requires c.say-n.new.said (put_length c.say-n.ensures.put) (c.say-n.ensures.put, c.say-n.ensures.within) c.write_used.ensures

@@ -4,4 +4,4 @@ use Rattle.console.proofs.Lines.{put_counts}
 use Rattle.commands.proofs.help.write_too_many.Goals as goal
 
 pub returns : goal.returns
-returns c = (c.write_bytes.ensures, put_counts c.write_bytes.ensures (omega (arith, c.requires)))
+returns c = record { put = c.write_bytes.ensures; within = put_counts c.write_bytes.ensures (omega (arith, c.requires)) }

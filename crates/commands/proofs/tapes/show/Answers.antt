@@ -4,7 +4,7 @@ use Rattle.commands.proofs.Resulting.{of_text, sound_comes, unsound_comes}
 use Rattle.commands.proofs.tapes.show.Goals as goal
 
 pub returns-in-Sound : goal.returns-in-Sound
-returns-in-Sound c = of_text shown_tape _ c.read_tape-n.ensures (sound_comes _ _ c.check-answer.ensures c.in-Sound.is c.write_steps.ensures)
+returns-in-Sound c = of_text shown_tape _ (c.read_tape-n.ensures.put, c.read_tape-n.ensures.within) (sound_comes _ _ c.check-answer.ensures c.in-Sound.is (c.write_steps.ensures.put, c.write_steps.ensures.within))
 
 pub returns-in-Bad : goal.returns-in-Bad
-returns-in-Bad c = of_text shown_tape _ c.read_tape-n.ensures (unsound_comes _ _ c.check-answer.ensures c.in-Bad.is)
+returns-in-Bad c = of_text shown_tape _ (c.read_tape-n.ensures.put, c.read_tape-n.ensures.within) (unsound_comes _ _ c.check-answer.ensures c.in-Bad.is)
