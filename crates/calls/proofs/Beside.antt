@@ -2,8 +2,8 @@
 -- bytes without the fields are those of the call without. What is shown of the calls with origins follows from what is shown of those without:
 -- demand 1, and that what is written reads back. Assumes nothing.
 use mathlib.Core.Path.{◌≡◌, refl, sym, ap, subst, ◌∙◌}
-use mathlib.Core.Bool.{Bool, true, false, cond, true≢false}
-use mathlib.Core.List.{List, [], ◌++◌}
+use mathlib.Core.Bool.{Bool, true, false, cond}
+use mathlib.Core.List.{List, ◌++◌}
 use Prim.Native.Nat.{ℕ, suc, ◌≤◌, ◌<◌}
 use native.Mathlib.Omega.{arith}
 use borrow.Author.Tests.{ltb-false, le-ltb}
@@ -35,7 +35,7 @@ use Rattle.calls.specs.Calls.{Job, ready, after_listing, job, written_answer, wi
 use Rattle.calls.specs.Origins.{traced_answer, substitute_origins, traced_job, simplify_origins}
 use Rattle.calls.proofs.Given.{given_few}
 use Rattle.calls.proofs.ReadBack.{ReadsBack, SubstitutedBack, SimplifiedBack, substituted_reads_back, simplified_reads_back}
-use Rattle.calls.proofs.Answering.{Numbered, WrittenSo, SimplifiedSo, substitute_call_so, simplify_call_so}
+use Rattle.calls.proofs.Answering.{WrittenSo, SimplifiedSo, substitute_call_so, simplify_call_so}
 
 -- what is written of a tree, and the rest of the output
 abbrev leaving : (text out : List ℕ) → Written × List ℕ

@@ -1,6 +1,6 @@
 -- With room for 1024 nodes no listing is refused by 8, since it has at most 1024 node lines and each of them stores at most one node. So evaluating,
 -- reading as a real and compiling, which store nothing else, answer the same with any such room. Assumes nothing.
-use mathlib.Core.Path.{◌≡◌, refl, sym, ap, ◌∙◌, subst}
+use mathlib.Core.Path.{◌≡◌, refl, sym, ◌∙◌, subst}
 use mathlib.Core.Bool.{Bool, true, false, cond, ◌&&◌}
 use mathlib.Core.List.{List, [], ◌∷◌}
 use Prim.Native.Nat.{ℕ, suc, ◌≤◌, ◌<◌}

@@ -1,26 +1,16 @@
 -- Every call answers for a text with origin fields what it answers for the text without them: one theorem over all calls that read a listing. It
 -- rests on one law of reading alone. Assumes nothing.
-use mathlib.Core.Path.{◌≡◌, refl, sym, ap, ◌∙◌}
-use mathlib.Core.Bool.{Bool, true, false, cond}
+use mathlib.Core.Path.{◌≡◌, refl, ap}
+use mathlib.Core.Bool.{Bool, true, false}
 use mathlib.Core.List.{List}
 use Prim.Native.Nat.{ℕ}
-use Rattle.expression.specs.Trees.{Tree}
 use Rattle.store.specs.Storing.{fresh}
-use Rattle.listing.specs.Listings.{Listing, listing, given}
+use Rattle.listing.specs.Listings.{listing, given}
 use Rattle.node_lines.specs.Without.{without_origins}
 use Rattle.listing.proofs.Ignoring.{ignored, given_ignored}
-use Rattle.writing.specs.declared.Written.{Written}
-use Rattle.evaluation.specs.declared.real.Real.{Real}
-use Rattle.evaluation.specs.Reals.{to_real}
-use Rattle.sheet.specs.Rows.{sheet}
-use Rattle.substitution.specs.Substituting.{substitute}
-use Rattle.tape.specs.Tapes.{compiled}
-use Rattle.calls.specs.declared.Evaluated.{Evaluated}
-use Rattle.calls.specs.declared.Simplified.{Simplified}
-use Rattle.calls.specs.Calls as Calls
-use Rattle.calls.specs.Calls.{Job, after_listing, with_sheet, job, written_answer, evaluate_job, evaluate_call, substitute_call, to_real_call, simplify_call, compile_call}
+use Rattle.calls.specs.Calls.{job, evaluate_job, evaluate_call, substitute_call, to_real_call, simplify_call, compile_call}
 use Rattle.calls.specs.Marks.{evaluate_job_marks, evaluate_marks, simplify_marks}
-use Rattle.calls.specs.Origins.{traced_answer, substitute_origins, simplify_origins, simplify_origins_marks}
+use Rattle.calls.specs.Origins.{substitute_origins, simplify_origins, simplify_origins_marks}
 
 -- answer, output and marks of every call are the same for two listings
 pub record SameCalls (room : ℕ) (a b : List ℕ) : Type 0 where

@@ -24,7 +24,7 @@ use Rattle.expression.specs.Alike.{identical, equal}
 use Rattle.expression.specs.Codes.{operation_code}
 use Rattle.expression.specs.Limits.{Limited, Proper, ProperLeaf, largest, deepest}
 use Rattle.expression.proofs.Likeness.{identical_same}
-use Rattle.store.specs.Storing.{nothing, result, State, state, Answer, and_then, among, place, intern, recall, keep, noting}
+use Rattle.store.specs.Storing.{result, State, state, Answer, among, place, intern, recall, keep, noting}
 use Rattle.store.proofs.Places.{place_within, place_hit, among_no}
 use Rattle.sheet.specs.Rows.{Rows, Row, row, Lookup, found, missing, function_value}
 use Rattle.evaluation.specs.declared.Evaluation.{Evaluation}

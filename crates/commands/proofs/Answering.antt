@@ -1,24 +1,15 @@
 -- From words and results to what is printed and said. Assumes nothing.
 use mathlib.Core.Path.{◌≡◌, refl, sym, ap, subst, ◌∙◌}
-use mathlib.Core.List.{List, [], ◌∷◌, ◌++◌}
+use mathlib.Core.List.{List, []}
 use mathlib.Core.Bool.{Bool}
-use Prim.Native.Nat.{ℕ, ◌≤◌, ◌<◌}
+use Prim.Native.Nat.{ℕ}
 use native.Mathlib.Omega.{arith}
-use lib.ListN.{length, take}
-use borrow.Author.Tests.{eq-eqb, ne_eqb}
-use Rattle.io.specs.Counts.{IsPrefixLen}
-use Rattle.expression.specs.declared.refusal.Refusal.{Refusal}
-use Rattle.expression.specs.Refusals.{number_of}
-use Rattle.text.specs.Letters.{bytes}
-use Rattle.text.proofs.Putting.{put_none}
-use Rattle.console.specs.Answers.{refused_line, refusal_line}
 use Rattle.console.proofs.Lines.{Line, stands}
-use Rattle.sentences.specs.declared.Detail.{Detail}
 use Rattle.commands.specs.declared.Printed.{Printed}
 use Rattle.outcomes.specs.declared.Outcome.{Outcome}
 use Rattle.commands.specs.declared.words.Asked.{Asked}
 use Rattle.commands.specs.declared.words.Command.{Command}
-use Rattle.commands.specs.Words.{first_of, request, shows, traces}
+use Rattle.commands.specs.Words.{request, shows, traces}
 use Rattle.commands.specs.Asking as Asking
 use Rattle.commands.specs.Help as Help
 use Rattle.commands.specs.Results.{result_for, marks}
@@ -27,7 +18,6 @@ use Rattle.commands.specs.Printing.{output_of, Answers}
 use Rattle.commands.specs.Printing as Printing
 use Rattle.outcomes.specs.Coming.{seen, Stands}
 use Rattle.commands.specs.Coming.{ComesMarked, PrintsJob}
-use Rattle.commands.proofs.Choosing.{chosen, passed}
 
 -- ---- a job
 

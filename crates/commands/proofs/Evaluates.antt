@@ -1,10 +1,9 @@
 -- What `rack evaluate` prints, by the public call's answer: the value where there is one, `incomplete` where the call answers 10, and the line of
 -- any other refusal. Assumes nothing.
-use mathlib.Core.Path.{◌≡◌, refl, sym, ap, ◌∙◌}
+use mathlib.Core.Path.{◌≡◌, refl, ap, ◌∙◌}
 use mathlib.Core.List.{List, [], append-nil}
-use mathlib.Core.Bool.{false, cond}
+use mathlib.Core.Bool.{false}
 use Prim.Native.Nat.{ℕ, ◌≤◌}
-use lib.Dec.{ltb, eqb}
 use lib.ListN.{length}
 use borrow.Author.Tests.{le-ltb, ne_eqb}
 use Rattle.complex.specs.declared.Complex.{Complex}
@@ -18,7 +17,7 @@ use Rattle.console.specs.Answers.{value_line, refusal_line}
 use Rattle.console.specs.Parting.{listing_in, sheet_in}
 use Rattle.console.specs.TapeText.{next_line}
 use Rattle.lacks.specs.Lacking.{missing_in_job}
-use Rattle.outcomes.specs.Outcomes.{Result, refused_text, output}
+use Rattle.outcomes.specs.Outcomes.{refused_text, output}
 use Rattle.commands.specs.declared.words.Command.{Command}
 use Rattle.commands.specs.declared.words.Parted.{Parted}
 use Rattle.commands.specs.Words.{job, after, job_word, first_word, with_file, request, parted_shows, shows}

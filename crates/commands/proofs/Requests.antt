@@ -1,7 +1,7 @@
 -- What follows on the first word: a limit, the words `marks` and `origins`, a file, nothing. Assumes nothing.
 use mathlib.Core.Path.{◌≡◌, refl, sym, ap, ◌∙◌}
 use mathlib.Core.List.{List, [], ◌∷◌}
-use mathlib.Core.Bool.{Bool, true, false, cond}
+use mathlib.Core.Bool.{Bool, true, false}
 use Prim.Native.Nat.{ℕ, ◌+◌, ◌-◌, ◌≤◌, ◌<◌}
 use native.Mathlib.Omega.{arith}
 use lib.Dec.{eqb}
@@ -10,7 +10,7 @@ use lib.Seq.{drop-drop}
 use borrow.Author.Tests.{eq-eqb, ne_eqb}
 use Rattle.text.specs.declared.reading.Number.{Number}
 use Rattle.text.specs.Letters.{bytes}
-use Rattle.text.specs.Reading.{Read, is, bad, starts}
+use Rattle.text.specs.Reading.{Read, starts}
 use Rattle.text.specs.Seen as Seen
 use Rattle.steps.proofs.Knowing.{second_true}
 use Rattle.console.specs.TapeText.{next_line}
@@ -18,8 +18,8 @@ use Rattle.commands.specs.declared.words.Asked.{Asked}
 use Rattle.commands.specs.declared.words.Command.{Command}
 use Rattle.commands.specs.declared.words.Found.{Found}
 use Rattle.commands.specs.declared.words.Parted.{Parted}
-use Rattle.commands.specs.Words.{Request, job, too_many, after, marking, tracing, simplifying, with_limit, first_word, with_file, request}
-use Rattle.commands.specs.Asking.{seen, FoundAt, Inside}
+use Rattle.commands.specs.Words.{job, too_many, after, marking, tracing, simplifying, with_limit, first_word, with_file, request}
+use Rattle.commands.specs.Asking.{seen, FoundAt}
 use Rattle.commands.proofs.Choosing.{never, chosen, passed}
 
 -- ---- the words `marks` and `origins`

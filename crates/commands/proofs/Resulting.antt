@@ -1,15 +1,14 @@
 -- From what the calls answer to what a command comes to. Assumes nothing.
 use mathlib.Core.Path.{◌≡◌, refl, sym, ap, subst, ◌∙◌}
 use mathlib.Core.List.{List, []}
-use mathlib.Core.Bool.{Bool, true, false, cond, ◌&&◌}
-use Prim.Native.Nat.{ℕ, ◌-◌, ◌≤◌, ◌<◌, min}
-use lib.Dec.{eqb, ltb}
+use mathlib.Core.Bool.{Bool, true, false}
+use Prim.Native.Nat.{ℕ, ◌-◌, ◌<◌, min}
+use lib.Dec.{eqb}
 use native.Mathlib.Omega.{arith}
-use native.Mathlib.Decide.{dec_lt}
 use lib.Ieee.{Float}
-use lib.ListN.{length, get_or, take, drop, length-drop, replicate, length-replicate}
-use lib.Seq.{take_all, take-length, get_or-drop}
-use borrow.Author.Tests.{eq-eqb, ne_eqb, lt-ltb, le-ltb}
+use lib.ListN.{length, get_or, take, drop, length-replicate}
+use lib.Seq.{get_or-drop}
+use borrow.Author.Tests.{eq-eqb, ne_eqb, lt-ltb}
 use Rattle.io.specs.Counts.{IsPrefixLen}
 use Rattle.complex.specs.declared.Complex.{Complex}
 use Rattle.expression.specs.declared.refusal.Refusal.{Refusal}
@@ -20,7 +19,7 @@ use Rattle.calls.specs.declared.Evaluated.{Evaluated}
 use Rattle.calls.specs.declared.Simplified.{Simplified}
 use Rattle.calls.specs.Lent.{Work, capacity, zeroed}
 use Rattle.memory.specs.Marks.{no_marks}
-use Rattle.calls.specs.Calls.{evaluate_call, to_real_call, simplify_call, compile_call}
+use Rattle.calls.specs.Calls.{to_real_call, simplify_call, compile_call}
 use Rattle.tape.specs.declared.Checked.{Checked}
 use Rattle.console.specs.TapeText.{in_lines, tape_in}
 use Rattle.console.specs.Answers.{value_line, real_line}
@@ -40,7 +39,7 @@ use Rattle.commands.specs.declared.words.Whole.{Whole}
 use Rattle.commands.specs.Results.{fault_of, empty_at, alone_of, lack_of, of_evaluated, evaluated, of_simplified, simplified_with, played_of, played, of_written, substituted, substituted_origins, substituted_with, of_real, real, of_tape, empty_tape, compiled, of_checked, whole, parted, result_in, result_for, marks_with, parted_marks, marks_in, marks}
 use Rattle.commands.specs.Coming.{ComesMarked}
 use Rattle.outcomes.specs.Outcomes.{Result, printed, with_calls, refused}
-use Rattle.outcomes.specs.Coming.{seen, Comes}
+use Rattle.outcomes.specs.Coming.{Comes}
 use Rattle.commands.proofs.Choosing.{chosen, passed}
 
 -- ---- what is known of a refusal besides

@@ -1,5 +1,5 @@
 -- The commands that store no node but those of a listing come to the same with 1024 rows as with 4096. Assumes nothing.
-use mathlib.Core.Path.{◌≡◌, refl, sym, ap, subst, ◌∙◌}
+use mathlib.Core.Path.{◌≡◌, refl, ap, subst, ◌∙◌}
 use mathlib.Core.Bool.{Bool}
 use mathlib.Core.List.{List}
 use Prim.Native.Nat.{ℕ, ◌≤◌, min}
@@ -14,7 +14,7 @@ use Rattle.outcomes.specs.Coming.{Comes}
 use Rattle.commands.specs.declared.words.Command.{Command}
 use Rattle.commands.specs.declared.words.Parted.{Parted}
 use Rattle.commands.specs.declared.words.Whole.{Whole}
-use Rattle.commands.specs.Results.{of_evaluated, evaluated, of_real, real, of_tape, empty_tape, compiled, whole, parted, result_in, result_for, parted_marks, marks_in, marks}
+use Rattle.commands.specs.Results.{of_evaluated, of_real, of_tape, empty_tape, whole, parted, result_in, result_for, parted_marks, marks_in, marks}
 use Rattle.commands.specs.Coming.{ComesMarked}
 use Rattle.commands.specs.Needing.{WholeAlike, PartedAlike, Alike}
 

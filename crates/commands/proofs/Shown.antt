@@ -2,10 +2,10 @@
 use mathlib.Core.Path.{◌≡◌, refl, sym, subst, ◌∙◌}
 use mathlib.Core.Bool.{Bool, true, false, cond}
 use mathlib.Core.List.{List}
-use Prim.Native.Nat.{ℕ, ◌≤◌, min}
+use Prim.Native.Nat.{ℕ, ◌≤◌}
 use native.Mathlib.Omega.{arith}
 use lib.Dec.{ltb}
-use lib.ListN.{length, take, length-take}
+use lib.ListN.{length, length-take}
 use Rattle.calls.specs.declared.Evaluated.{Evaluated}
 use Rattle.calls.specs.declared.Simplified.{Simplified}
 use Rattle.calls.specs.Calls.{evaluate_call, simplify_call, play_call}
@@ -21,7 +21,6 @@ use Rattle.outcomes.specs.Outcomes.{Result, printed, with_calls, refused, too_lo
 use Rattle.outcomes.specs.Coming.{seen, Inside, Comes, Short}
 use Rattle.commands.specs.declared.words.Command.{Command}
 use Rattle.commands.specs.declared.words.Parted.{Parted}
-use Rattle.commands.specs.declared.words.Whole.{Whole}
 use Rattle.commands.specs.Words.{parted_shows, shows}
 use Rattle.commands.specs.Results.{of_evaluated, of_simplified, simplified_with, parted, result_in, result_for}
 use Rattle.commands.proofs.Choosing.{never}

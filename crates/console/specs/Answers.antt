@@ -1,5 +1,5 @@
 -- The lines that the programs print: a value, a real, a function value that is lacking, a refusal. Definitions only.
-use Rattle.std.specs.Prelude.{ℕ, List, [], ◌∷◌, ◌++◌, Float}
+use Rattle.std.specs.Prelude.{ℕ, List, [], ◌∷◌, Float}
 use Rattle.complex.specs.declared.Complex.{Complex}
 use Rattle.complex.specs.Bits.{bits_of}
 use Rattle.expression.specs.declared.refusal.Operation.{Operation}

@@ -11,7 +11,7 @@ use Rattle.complex.specs.declared.Complex.{Complex}
 use Rattle.complex.specs.Bits.{Fitting}
 use Rattle.expression.specs.declared.node.Expression.{Expression}
 use Rattle.expression.specs.declared.node.Operands.{Operands}
-use Rattle.expression.specs.Trees.{Tree, leaf, number}
+use Rattle.expression.specs.Trees.{Tree}
 use Rattle.expression.specs.Nodes.{operands_of, grown}
 use Rattle.expression.proofs.Under.{IsOne, IsTwo, one_under, two_under}
 use Rattle.memory.specs.Marks.{noted}

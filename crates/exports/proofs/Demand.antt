@@ -6,7 +6,6 @@ use mathlib.Core.Logic.{inl, inr}
 use Prim.Native.Nat.{ℕ, ◌≤◌}
 use native.Mathlib.Omega.{arith}
 use lib.ListN.{get_or, take}
-use Rattle.expression.specs.declared.refusal.Refusal.{Refusal}
 use Rattle.expression.specs.Refusals.{number_of, Carried, place, lacking, carries}
 use Rattle.writing.specs.declared.Written.{Written}
 use Rattle.calls.specs.Lent.{Work, capacity}

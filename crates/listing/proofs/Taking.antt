@@ -27,7 +27,6 @@ use Rattle.memory.specs.Keys.{up_to, key_at, Ascends}
 use Rattle.memory.proofs.Values.{length_up_to, at_up_to, up_to_snoc, up_to_alike, up_to_grown}
 use Rattle.memory.proofs.Ascending.{ascends_more}
 use Rattle.text.specs.Reading.{is}
-use Rattle.text.specs.Lines as Lines
 use Rattle.text.specs.Lines.{goes, stops, none, above_last}
 use Rattle.node_lines.specs.declared.Line.{Line}
 use Rattle.listing.specs.declared.Progress.{Progress}

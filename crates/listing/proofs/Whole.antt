@@ -20,7 +20,6 @@ use Rattle.memory.specs.Layout.{table_words}
 use Rattle.listing.specs.declared.Listing.{Listing}
 use Rattle.listing.specs.declared.Progress.{Progress}
 use Rattle.listing.specs.declared.Step.{Step}
-use Rattle.listing.specs.Listings as Spec
 use Rattle.listing.specs.Listings.{known, Swap, accepted, last, rooted, whole, listing, listing_line, lines_of, given}
 use Rattle.listing.proofs.Shortening.{listing_shortens}
 use Rattle.listing.specs.Tables.{line_trees, swap_trees, known_at, Listed, Ready, Takes, lines_seen, Ended, ReadsLines, listing_seen, ListsAfter, TracedAfter, Reads, root_of}

@@ -3,13 +3,13 @@
 use mathlib.Core.Path.{◌≡◌, refl, sym, ap, ◌∙◌}
 use mathlib.Core.List.{List, [], ◌∷◌}
 use mathlib.Core.Bool.{Bool, true, false, cond, ◌&&◌}
-use Prim.Native.Nat.{ℕ, zero, suc, ◌+◌, ◌*◌, ◌≤◌, ◌<◌}
+use Prim.Native.Nat.{ℕ, zero, suc, ◌+◌, ◌*◌, ◌<◌}
 use native.Mathlib.Omega.{arith}
 use native.Mathlib.Decide.{dec_lt, ℕ_discrete}
 use lib.ListN.{length, get_or, drop}
 use lib.Dec.{ltb, eqb}
 use borrow.Author.Tests.{lt-ltb, le-ltb, eq-eqb, ne_eqb}
-use Rattle.text.specs.Reading.{Read, is, bad, then, tab, ended, digit_of, run, value, spelt, decimal, hex_from, hex, starts, name_from}
+use Rattle.text.specs.Reading.{Read, is, bad, digit_of, run, value, spelt, decimal, hex_from, hex, starts, name_from}
 use Rattle.text.proofs.Running.{from_0_to_9, from_a_to_f, no_digit_at_all, which_digit}
 
 -- ---- what was read, with another rest

@@ -8,7 +8,7 @@ use Rattle.expression.specs.declared.node.Expression.{Expression}
 use Rattle.expression.specs.Trees.{Tree, leaf, number, pi, variable, cell, function_call, prefixed, infixed}
 use Rattle.expression.specs.Nodes.{grown}
 use Rattle.expression.proofs.OneNode.{ByTree, one_node}
-use Rattle.text.specs.Reading.{Read, is, bad}
+use Rattle.text.specs.Reading.{Read}
 use Rattle.text.proofs.OneAnswer.{one_place}
 use Rattle.node_lines.specs.declared.Line.{Line}
 use Rattle.node_lines.specs.Seen.{line_seen, Finds}

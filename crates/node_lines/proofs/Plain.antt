@@ -12,7 +12,7 @@ use Rattle.text.specs.Reading.{Read, is, bad, then, lf, ended}
 use Rattle.origins.specs.Fields.{origin, line_end}
 use Rattle.origins.proofs.Ending.{end_bad, end_plain}
 use Rattle.node_lines.specs.NodeLines.{line_by, node_fields}
-use Rattle.node_lines.proofs.Beside.{rests, rests_id}
+use Rattle.node_lines.proofs.Beside.{rests_id}
 use Rattle.node_lines.proofs.BesideLine.{Rest, rest_ended, stays, Ways, line_beside}
 
 -- none of the bytes is `@`

@@ -1,16 +1,14 @@
 -- A node line is taken away from the text: the rest is never longer. Assumes nothing.
 use mathlib.Core.Path.{◌≡◌, refl, ap}
-use mathlib.Core.List.{List, []}
-use Prim.Native.Nat.{ℕ, ◌≤◌}
+use mathlib.Core.List.{List}
+use Prim.Native.Nat.{ℕ}
 use native.Mathlib.Omega.{arith}
-use lib.ListN.{length, get_or, length-append}
+use lib.ListN.{length, length-append}
 use lib.Dec.{eqb}
-use Rattle.complex.specs.Constants.{of_parts}
-use Rattle.expression.specs.Codes.{infix_of, prefix_of, function_of}
-use Rattle.expression.specs.Trees.{Tree, leaf, number, pi, variable, cell, function_call, prefixed, infixed}
+use Rattle.expression.specs.Trees.{Tree}
 use Rattle.spelling.specs.Names.{function_names, prefix_names, infix_names}
 use Rattle.text.specs.Letters.{letter}
-use Rattle.text.specs.Reading.{Read, is, bad, then, tab, ended, decimal, hex, decimal_field, hex_field, name_field}
+use Rattle.text.specs.Reading.{Read, is, bad, tab, ended, decimal, hex, decimal_field, hex_field, name_field}
 use Rattle.text.specs.Writing.{in_decimal, in_hex}
 use Rattle.text.proofs.Only.{decimal_only, hex_only}
 use Rattle.text.proofs.Shortening.{Shorter, as_long, shorter_cond, shorter_then, shorter_ended, shorter_decimal, shorter_hex_field, shorter_name_field}

@@ -1,5 +1,5 @@
 -- What the reducer prints for each input. Definitions only.
-use Rattle.std.specs.Prelude.{◌≡◌, ℕ, ◌+◌, List, cond, ltb, length, take, drop}
+use Rattle.std.specs.Prelude.{◌≡◌, ℕ, List, cond, ltb, length, take, drop}
 use Rattle.calls.specs.declared.Simplified.{Simplified}
 use Rattle.calls.specs.Calls.{simplify_call}
 use Rattle.calls.specs.Lent.{Work, capacity}

@@ -1,15 +1,12 @@
 -- How a line of the table is written, byte by byte. Assumes nothing.
 use mathlib.Core.Path.{◌≡◌, refl, sym, ap, subst, ◌∙◌}
-use mathlib.Core.List.{List, [], ◌∷◌, ◌++◌, append_assoc, append-nil}
-use mathlib.Core.Bool.{cond}
+use mathlib.Core.List.{List, [], ◌++◌, append_assoc, append-nil}
 use Prim.Native.Nat.{ℕ, ◌+◌, ◌-◌, ◌*◌, ◌≤◌, ◌<◌}
 use native.Mathlib.Omega.{arith}
-use lib.Dec.{eqb}
 use lib.ListN.{length, drop, get_or, drop_of_length-le}
 use borrow.Author.Tests.{eq-eqb, ne_eqb}
-use Rattle.io.specs.Counts.{IsPrefixLen}
 use Rattle.text.specs.Put.{Put}
-use Rattle.text.proofs.Putting.{put_then, put_none, put_length}
+use Rattle.text.proofs.Putting.{put_then, put_none}
 use Rattle.text.proofs.Running.{here}
 use Rattle.console.proofs.Lines.{Line, put_counts}
 use Rattle.sentences.specs.Table.{piece, filled}

@@ -17,7 +17,7 @@ use Rattle.memory.proofs.Values.{first, first_found, first_missing_lem}
 use Rattle.memory.specs.Layout.{cells_from, functions_from}
 use Rattle.sheet.specs.declared.Counts.{Counts}
 use Rattle.complex.specs.Equality.{identical, identical_doubles}
-use Rattle.sheet.specs.Rows.{Variable, variable, Cell, cell, Row, row, Lookup, found, missing, value_of, cell_value, at, nowhere, matches, value_in, row_from, function_row}
+use Rattle.sheet.specs.Rows.{Variable, variable, Cell, cell, Row, Lookup, found, missing, value_of, cell_value, at, nowhere, matches, value_in, row_from, function_row}
 use Rattle.expression.specs.Codes.{operation_code, operation_of}
 use Rattle.expression.proofs.Numbering.{operation_code_back}
 use Rattle.sheet.specs.Index.{word_at, name_in}

@@ -1,7 +1,7 @@
 -- The index: the fields of its words, the head of a bucket, and what stays in it or is new when rows change. Assumes nothing.
 use mathlib.Core.Path.{◌≡◌, refl, sym, ap, ◌∙◌}
 use mathlib.Core.List.{List}
-use mathlib.Core.Bool.{Bool, true, false, cond, ◌&&◌}
+use mathlib.Core.Bool.{Bool, true, false, cond}
 use Prim.Native.Nat.{ℕ, ◌+◌, ◌-◌, ◌*◌, ◌/◌, ◌%◌, ◌≤◌, ◌<◌, min}
 use native.Mathlib.Nat.{mul-le-mul}
 use native.Mathlib.Omega.{arith}
@@ -12,7 +12,7 @@ use borrow.Author.Tests.{lt-ltb, le-ltb, eq-eqb, ne_eqb, ltb-false, eqb-true}
 use Rattle.memory.specs.Keys.{First}
 use Rattle.memory.specs.Layout.{functions_from}
 use Rattle.sheet.specs.declared.fields.Words.{Words}
-use Rattle.sheet.specs.Index.{word_at, name_in, next_in, home_in, head_in, linked, headed, spread, bucket_of, counting, head_for, Leads, hits, steps}
+use Rattle.sheet.specs.Index.{word_at, name_in, next_in, home_in, head_in, linked, headed, bucket_of, counting, head_for, Leads, hits, steps}
 use Rattle.sheet.specs.Table.{row_matches, next_at, Indexed, Alike}
 use Rattle.sheet.proofs.Seeking.{both_ways, leads_some, leads_kept, Walking}
 

@@ -16,7 +16,7 @@ use Rattle.sheet.specs.declared.fields.Words.{Words}
 use Rattle.sheet.specs.Seen.{number_of}
 use Rattle.sheet.specs.Rows.{variable, cell, row}
 use Rattle.expression.specs.Codes.{operation_of}
-use Rattle.sheet.specs.Index.{word_at, name_in}
+use Rattle.sheet.specs.Index.{name_in}
 use Rattle.sheet.specs.Table.{number_at, variable_at, cell_at, row_at, Comparable, with_number, with_variable, with_cell, with_row, canonical_words, Outside, Alike}
 use Rattle.sheet.proofs.Seeking.{both}
 use Rattle.sheet.proofs.Indexing.{same_name, Owns}

@@ -1,16 +1,15 @@
 -- A line of a sheet is taken away from the text: the rest is never longer, so that the fuel of `sheet` never runs out. Assumes nothing.
-use mathlib.Core.List.{List, []}
-use mathlib.Core.Bool.{Bool, true, false, cond, ◌&&◌, ◌||◌}
-use Prim.Native.Nat.{ℕ, ◌≤◌}
+use mathlib.Core.List.{List}
+use mathlib.Core.Bool.{Bool, ◌&&◌, ◌||◌}
+use Prim.Native.Nat.{ℕ}
 use lib.ListN.{length}
 use lib.Dec.{ltb, eqb}
-use Rattle.complex.specs.declared.Complex.{Complex}
 use Rattle.complex.specs.Constants.{of_parts}
 use Rattle.expression.specs.declared.refusal.Refusal.{Refusal}
 use Rattle.spelling.specs.Names.{operation_names}
 use Rattle.text.specs.Letters.{letter}
-use Rattle.text.specs.Reading.{Read, is, bad, then, tab, lf, ended, decimal_field, hex_field, name_field}
-use Rattle.text.specs.Lines.{Line, goes, stops}
+use Rattle.text.specs.Reading.{Read, is, bad, tab, lf, ended, decimal_field, hex_field, name_field}
+use Rattle.text.specs.Lines.{Line, goes}
 use Rattle.text.proofs.Shortening.{Shorter, ShorterLine, Shortens, as_long, shorter_cond, shorter_line_cond, shorter_then, shorter_ended, shorter_decimal, shorter_hex_field, shorter_name_field}
 use Rattle.sheet.specs.Rows.{Rows, complex_field, variable_fields, cell_fields, second_operand, row_fields, power, formed, counted, fields_after, variable_line, cell_line, function_line, sheet_line}
 

@@ -17,7 +17,7 @@ use Rattle.text.specs.Lines.{Line, goes, stops, none, above_last}
 use Rattle.memory.specs.Keys.{up_to}
 use Rattle.memory.proofs.Values.{length_up_to, up_to_alike, up_to_grown}
 use Rattle.memory.proofs.Ascending.{ascends_same, ascends_more}
-use Rattle.memory.specs.Layout.{table_words, cells_from, functions_from}
+use Rattle.memory.specs.Layout.{table_words, cells_from}
 use Rattle.sheet.specs.declared.fields.Words.{Words}
 use Rattle.sheet.specs.declared.Counts.{Counts}
 use Rattle.sheet.specs.declared.lines.Step.{Step}

@@ -1,5 +1,5 @@
 -- A value sheet, on bytes: what its lines bind, when a line is refused, and what is looked up in it. Definitions only.
-use Rattle.std.specs.Prelude.{ℕ, suc, ◌+◌, List, [], ◌∷◌, ◌++◌, Bool, true, false, cond, ◌&&◌, ◌||◌, length, ltb, eqb, Float}
+use Rattle.std.specs.Prelude.{ℕ, suc, ◌+◌, List, [], ◌∷◌, ◌++◌, Bool, true, cond, ◌&&◌, ◌||◌, length, ltb, eqb, Float}
 use Rattle.complex.specs.declared.Complex.{Complex}
 use Rattle.complex.specs.Bits.{double_of}
 use Rattle.complex.specs.Equality.{identical}

@@ -12,7 +12,7 @@ use Rattle.store.specs.Storing.{Tally, State, state, Answer, gives, refused, int
 use Rattle.sheet.specs.Rows.{Rows}
 use Rattle.evaluation.specs.declared.Evaluation.{Evaluation}
 use Rattle.simplification.specs.Simplifying.{counted, folded_to, keeping, simplify_by}
-use Rattle.simplification.proofs.Tallying.{Beside, beside, Both, both_give, both_refuse, Passing, stores, folds, keeps, passed}
+use Rattle.simplification.proofs.Tallying.{Beside, beside, Both, both_give, both_refuse, stores, folds, keeps, passed}
 
 unfoldable pub marks_of : State → List ℕ
 marks_of (state room stored kept tally) = tally.marks

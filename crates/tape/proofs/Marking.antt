@@ -1,7 +1,7 @@
 -- The rows that the player marks: after each step, with those that the steps which are left use, they come to those of the whole tape. Assumes nothing.
 use mathlib.Core.Path.{◌≡◌, refl, sym, ap, ◌∙◌}
 use mathlib.Core.Bool.{false, true≢false}
-use mathlib.Core.List.{List, [], ◌∷◌, ◌++◌, map, append-nil}
+use mathlib.Core.List.{List, [], map}
 use mathlib.Core.Logic.{⊎_elim}
 use Prim.Native.Nat.{ℕ, zero, suc, ◌+◌, ◌*◌, ◌-◌, ◌<◌, ◌≤◌}
 use native.Mathlib.Omega.{arith}
@@ -19,7 +19,7 @@ use Rattle.steps.specs.declared.Step.{Step}
 use Rattle.steps.specs.declared.Fields.{Fields}
 use Rattle.steps.specs.Steps.{fields_in, step_of}
 use Rattle.tape.specs.Tapes.{count, takes}
-use Rattle.tape.specs.Playing.{Outcome, stands, push, step}
+use Rattle.tape.specs.Playing.{push, step}
 use Rattle.tape.specs.Using.{on_stack, used_by_step, used_in_run, used_playing}
 use Rattle.tape.specs.Run.{filler, stack_of, value_of, used_at, seen_value, asks, Values}
 use Rattle.tape.proofs.Ways.{first_four, as_number, as_pi, as_variable, as_cell, Lacks, missing_lacks}

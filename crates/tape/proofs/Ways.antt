@@ -1,7 +1,7 @@
 -- Which step fields say by their opcode and sub, and by that how the player comes to its value. Assumes nothing.
 use mathlib.Core.Path.{◌≡◌, refl, sym, ap, subst, ◌∙◌}
 use mathlib.Core.Bool.{Bool, true, false}
-use mathlib.Core.List.{List, [], ◌∷◌}
+use mathlib.Core.List.{[], ◌∷◌}
 use mathlib.Core.Logic.{⊎_elim, inl, inr}
 use Prim.Native.Nat.{ℕ, zero, suc, ◌<◌}
 use native.Mathlib.Omega.{arith}
@@ -21,7 +21,7 @@ use Rattle.evaluation.specs.Evaluating.{bound, leaf_value, calculate_infix}
 use Rattle.steps.specs.declared.Step.{Step}
 use Rattle.steps.specs.declared.Fields.{Fields}
 use Rattle.steps.specs.Steps.{known, step_of}
-use Rattle.steps.proofs.Knowing.{Which, one, two, three, four, five, six, seven, other, which, as_infix, as_last}
+use Rattle.steps.proofs.Knowing.{one, two, three, four, five, six, seven, other, which, as_infix, as_last}
 use Rattle.tape.specs.Tapes.{takes}
 use Rattle.tape.specs.Run.{value_of, seen_value, asks}
 use Rattle.tape.proofs.Checking.{never}

@@ -1,5 +1,5 @@
 -- The tape of an expression, when a tape is sound, and which of two is picked, by 01's "The tape". Definitions only.
-use Rattle.std.specs.Prelude.{◌≡◌, ℕ, zero, suc, ◌+◌, ◌/◌, ◌%◌, ◌-◌, List, [], ◌∷◌, ◌++◌, map, Bool, cond, ◌&&◌, length, drop, ltb, eqb}
+use Rattle.std.specs.Prelude.{◌≡◌, ℕ, zero, suc, ◌/◌, ◌%◌, ◌-◌, List, [], ◌∷◌, ◌++◌, map, Bool, cond, ◌&&◌, length, drop, ltb, eqb}
 use Rattle.std.specs.Borrow.{Bor}
 use Rattle.expression.specs.declared.refusal.Refusal.{Refusal}
 use Rattle.expression.specs.Trees.{Tree, Leaf, number, pi, variable, cell, leaf, function_call, prefixed, infixed, size}

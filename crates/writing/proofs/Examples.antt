@@ -1,6 +1,6 @@
 -- A worked example of the definitions, which antt computes: 01's listing of (a-b)-b as it is written, and with origins. Assumes nothing.
 use mathlib.Core.Path.{◌≡◌, refl}
-use mathlib.Core.List.{List, [], ◌∷◌}
+use mathlib.Core.List.{[], ◌∷◌}
 use Rattle.expression.specs.declared.InfixOperator.{InfixOperator}
 use Rattle.expression.specs.Trees.{Tree, leaf, variable, infixed}
 use Rattle.expression.specs.Alike.{alike, alike_leaves}

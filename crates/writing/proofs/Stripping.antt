@@ -1,9 +1,9 @@
 -- A listing with origins, its fields of origins taken out, is the listing without: `strips`; and so are the bytes that are written,
 -- `written-stripped`. Assumes nothing.
-use mathlib.Core.Path.{◌≡◌, refl, sym, ap, ◌∙◌, subst}
+use mathlib.Core.Path.{◌≡◌, refl, ap, ◌∙◌, subst}
 use mathlib.Core.List.{List, [], ◌∷◌, ◌++◌, map}
-use mathlib.Core.Bool.{true, false, ◌&&◌, not}
-use Prim.Native.Nat.{ℕ, zero, suc, ◌+◌, ◌-◌, ◌/◌, ◌%◌, ◌≤◌, ◌<◌}
+use mathlib.Core.Bool.{not}
+use Prim.Native.Nat.{ℕ, zero, suc, ◌/◌, ◌%◌, ◌≤◌}
 use native.Mathlib.Omega.{arith}
 use native.Mathlib.Decide.{dec_lt}
 use lib.Dec.{T, ltb, ltb→lt, eqb}
@@ -18,7 +18,7 @@ use Rattle.expression.specs.declared.refusal.Refusal.{Refusal}
 use Rattle.expression.specs.Codes.{infix_code, prefix_code, function_code}
 use Rattle.expression.specs.Trees.{Tree, leaf, number, pi, variable, cell, function_call, prefixed, infixed}
 use Rattle.expression.specs.Alike.{identical}
-use Rattle.node_lines.specs.Without.{start, node, dropped, whole_field, in_line, passing, left, without, without_origins}
+use Rattle.node_lines.specs.Without.{node, dropped, whole_field, in_line, passing, left, without, without_origins}
 use Rattle.node_lines.proofs.Beside.{Plain, PlainWord, PlainName}
 use Rattle.origins.specs.Fields.{origin, origin_text}
 use Rattle.origins.proofs.Ending.{origin_reads}

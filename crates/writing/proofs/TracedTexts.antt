@@ -1,7 +1,7 @@
 -- The text with origins of the lines that a table orders is that of the tree, where the tags say where the nodes came from. Assumes nothing.
 use mathlib.Core.Path.{◌≡◌, refl, sym, ap, ◌∙◌, subst}
 use mathlib.Core.List.{List, [], ◌∷◌, ◌++◌, append_assoc, append-nil}
-use Prim.Native.Nat.{ℕ, zero, suc, ◌+◌, ◌-◌, ◌*◌, ◌≤◌, ◌<◌}
+use Prim.Native.Nat.{ℕ, zero, suc, ◌+◌, ◌-◌, ◌≤◌, ◌<◌}
 use native.Mathlib.Numerals.{add-one}
 use native.Mathlib.Omega.{arith}
 use lib.ListN.{length, get_or, length-append}
@@ -17,13 +17,12 @@ use Rattle.store.specs.Memory.{Memory, origin_on, origin_at, tree_at}
 use Rattle.store.specs.Desk.{count}
 use Rattle.store.specs.Held.{Sound}
 use Rattle.store.specs.Tracing.{Traced}
-use Rattle.text.specs.Writing.{line}
 use Rattle.text.specs.Put.{Put}
 use Rattle.text.proofs.Putting.{put_then, few_digits}
 use Rattle.listing.specs.Tables.{line_trees}
 use Rattle.writing.specs.declared.Written.{Written}
-use Rattle.writing.specs.Order.{order, line_fields}
-use Rattle.writing.specs.Ordering.{Listed, Visited, no_child, text_fields, line_text, line_at, traced_text, traced_lines_text}
+use Rattle.writing.specs.Order.{order}
+use Rattle.writing.specs.Ordering.{Listed, Visited, no_child, line_text, line_at, traced_text, traced_lines_text}
 use Rattle.writing.specs.Origins as Spec
 use Rattle.writing.specs.Origins.{traced_line, traced_text_of, written_traced}
 use Rattle.writing.proofs.Texts.{line_fields_lem, order_is, count_is}

@@ -1,7 +1,6 @@
 -- `simplify_texts` meets its contract. Assumes nothing.
 use mathlib.Core.Path.{sym, ◌∙◌}
 use Rattle.calls.proofs.Framing.{job_holds, simplifies_beyond, simplifies, simplifies_refused}
-use borrow.Author.Tests.{not-true, not-false}
 use Rattle.calls.proofs.simplify_texts.Goals as goal
 
 pub returns-then-not-is_allowed : goal.returns-then-not-is_allowed

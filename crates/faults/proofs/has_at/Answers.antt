@@ -1,6 +1,5 @@
 -- `has_at` meets its contract. What is left of the line has an `@` if the whole has one; the measure is what is left of the text. Assumes nothing.
 use mathlib.Core.Path.{refl, sym, ◌∙◌}
-use Prim.Native.Nat.{◌-◌}
 use native.Mathlib.Omega.{arith}
 use Rattle.faults.proofs.Telling.{at_passed, at_feed, at_found, at_end}
 use Rattle.faults.proofs.has_at.Goals as goal

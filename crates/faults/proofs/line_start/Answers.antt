@@ -1,7 +1,5 @@
 -- `line_start` meets its contract. The invariant is `At`; the measure is what is left of the text. Assumes nothing.
-use mathlib.Core.Logic.{⊎_elim}
 use mathlib.Core.Path.{refl}
-use Prim.Native.Nat.{◌-◌}
 use native.Mathlib.Omega.{arith}
 use Rattle.faults.proofs.Telling.{line_ended, line_other, line_passed, line_found}
 use Rattle.faults.proofs.line_start.Goals as goal

@@ -1,5 +1,5 @@
 -- The proof of a cycle of calls. Assumes nothing.
-use Rattle.std.proofs.Common.{◌+◌, ◌*◌, ◌-◌}
+use Rattle.std.proofs.Common.{◌+◌, ◌*◌}
 use Rattle.lacks.proofs.+missing.Given as goal
 
 abbrev pub decreases-first_missing : goal.decreases-first_missing

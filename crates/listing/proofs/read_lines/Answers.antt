@@ -1,6 +1,5 @@
 -- `read_lines` meets its contract: the invariant is `Going`. The measure is how many lines are still allowed. Assumes nothing.
 use mathlib.Core.Path.{◌∙◌}
-use Prim.Native.Nat.{◌-◌}
 use Rattle.store.specs.Held.{lent}
 use Rattle.listing.proofs.Whole.{going_begins, is_ready, going_stops, going_on, going_ends, less, same_begins, same_on}
 use Rattle.listing.proofs.read_lines.Goals as goal

@@ -1,6 +1,5 @@
 -- `take_swap` meets its contract: each return is a law of proofs/Taking. Assumes nothing.
 use native.Mathlib.Omega.{arith}
-use Rattle.listing.proofs.Numbers.{said, unsaid}
 use Rattle.listing.proofs.Taking.{swap_long, swap_bad, swap_unasked, swap_low, swap_next}
 use Rattle.listing.proofs.take_swap.Goals as goal
 

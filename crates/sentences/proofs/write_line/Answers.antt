@@ -1,7 +1,6 @@
 -- `write_line` meets its contract. Assumes nothing.
 use native.Mathlib.Omega.{arith}
 use mathlib.Core.Path.{◌∙◌}
-use Prim.Native.Nat.{◌-◌}
 use Rattle.text.proofs.Putting.{put_length}
 use Rattle.sentences.proofs.Filling.{begun, goes_on, ends, runs_out}
 use Rattle.sentences.proofs.write_line.Goals as goal

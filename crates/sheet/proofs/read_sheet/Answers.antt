@@ -1,6 +1,5 @@
 -- `read_sheet` meets its contract. The invariant is `Reading`: what is left of the text, from these rows on, is the whole. Assumes nothing.
 use mathlib.Core.Path.{◌∙◌}
-use Prim.Native.Nat.{◌-◌}
 use native.Mathlib.Omega.{arith}
 use Rattle.sheet.proofs.Sheets.{reading_begins, reading_less, reading_goes_on, reading_stops, reading_ends}
 use Rattle.sheet.proofs.read_sheet.Goals as goal

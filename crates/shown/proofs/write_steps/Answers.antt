@@ -1,5 +1,4 @@
 -- `write_steps` meets its contract. The invariant: the lines of the steps that were passed stand, and those of the steps that are left are to come. Assumes nothing.
-use Prim.Native.Nat.{◌-◌}
 use native.Mathlib.Omega.{arith}
 use Rattle.text.proofs.Putting.{put_length}
 use Rattle.shown.proofs.Turns.{begins, room, goes_on, ends}

@@ -1,5 +1,5 @@
 -- The cycle of simplifying meets its contracts. Assumes nothing.
-use Rattle.std.proofs.Common.{◌+◌, ◌*◌, ◌-◌}
+use Rattle.std.proofs.Common.{◌+◌, ◌*◌}
 use Rattle.simplification.proofs.+simplifying.Given as goal
 
 abbrev pub decreases-add_simplified : goal.decreases-add_simplified

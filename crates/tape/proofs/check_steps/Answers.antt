@@ -1,5 +1,4 @@
 -- `check_steps` meets its contract: the steps that are left. Assumes nothing.
-use Prim.Native.Nat.{◌-◌}
 use native.Mathlib.Omega.{arith}
 use Rattle.tape.proofs.Checking.{rest_begins, rest_bad, rest_on, rest_sound, rest_left}
 use Rattle.tape.proofs.check_steps.Goals as goal

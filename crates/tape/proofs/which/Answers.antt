@@ -1,5 +1,4 @@
 -- `which` meets its contract: by what is sound. Assumes nothing.
-use borrow.Author.Tests.{not-true, not-false}
 use Rattle.tape.proofs.Checking.{so, pick_second, pick_neither, pick_shorter, pick_only, pick_first}
 use Rattle.tape.proofs.which.Goals as goal
 

@@ -1,5 +1,4 @@
 -- `text_length` meets its contract. Assumes nothing.
-use Prim.Native.Nat.{◌-◌}
 use native.Mathlib.Omega.{arith}
 use Rattle.store.specs.Memory.{memory}
 use Rattle.writing.proofs.Texts.{no_length, more_length, all_counted}

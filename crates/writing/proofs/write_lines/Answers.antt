@@ -1,5 +1,4 @@
 -- `write_lines` meets its contract. Assumes nothing.
-use Prim.Native.Nat.{◌-◌}
 use native.Mathlib.Omega.{arith}
 use Rattle.store.specs.Memory.{memory}
 use Rattle.text.proofs.Putting.{put_length}

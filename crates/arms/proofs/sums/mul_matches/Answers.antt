@@ -1,7 +1,7 @@
 -- `mul_matches` meets its contract. Assumes nothing.
 use mathlib.Core.Path.{sym, ◌∙◌}
 use Rattle.arms.specs.Tables.{mul_matches}
-use Rattle.arms.proofs.Looking.{so, first_of_both, second_of_both, both_yes, both_not, tree_of_lem, within_of, compared, either_yes, either_not, not_true, not_false, left_parts, right_parts}
+use Rattle.arms.proofs.Looking.{so, first_of_both, second_of_both, both_yes, both_not, tree_of_lem, within_of, compared, either_yes, either_not, left_parts, right_parts}
 use Rattle.arms.proofs.sums.mul_matches.Goals as goal
 
 pub returns-then-not-are_infix : goal.returns-then-not-are_infix

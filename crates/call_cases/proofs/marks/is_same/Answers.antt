@@ -1,6 +1,4 @@
 -- `call_cases::marks::is_same` meets its contract: the rows before the place are marked as the line says. Assumes nothing.
-use Prim.Native.Nat.{◌-◌}
-use mathlib.Core.Bool.{true}
 use Rattle.replay.proofs.Judging.{none_yet}
 use Rattle.call_cases.proofs.Marking.{no_line, row_more, row_no, rows_yes}
 use Rattle.call_cases.proofs.marks.is_same.Goals as goal

@@ -1,5 +1,4 @@
 -- `copy_marks` meets its contract: each word of the marks as a byte. Assumes nothing.
-use Prim.Native.Nat.{◌-◌}
 use mathlib.Core.Path.{refl}
 use native.Mathlib.Omega.{arith}
 use Rattle.calls.proofs.Copying.{copied_more, copied_all}

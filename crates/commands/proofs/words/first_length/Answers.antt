@@ -1,5 +1,4 @@
 -- `first_length` meets its contract. Assumes nothing.
-use Prim.Native.Nat.{◌-◌}
 use Rattle.commands.proofs.FirstWord.{begun, goes_on, ends, all}
 use Rattle.commands.proofs.words.first_length.Goals as goal
 

@@ -1,8 +1,6 @@
 -- `listing_length` meets its contract. The invariant: `before` is the byte before this place, and no empty line stands
 -- at a place that was passed. Assumes nothing.
-use Prim.Native.Nat.{◌-◌}
 use mathlib.Core.Path.{refl, sym, ◌∙◌}
-use mathlib.Core.Logic.{⊎_elim}
 use native.Mathlib.Omega.{arith}
 use native.Mathlib.Numerals.{add-one}
 use lib.Seq.{length-take-le}

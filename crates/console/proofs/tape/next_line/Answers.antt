@@ -1,6 +1,5 @@
 -- `next_line` meets its contract. The invariant is `Searching`. Assumes nothing.
 use mathlib.Core.Path.{refl}
-use Prim.Native.Nat.{◌-◌}
 use native.Mathlib.Omega.{arith}
 use Rattle.console.proofs.TapeLines.{line_on, line_ends, line_none}
 use Rattle.console.proofs.tape.next_line.Goals as goal

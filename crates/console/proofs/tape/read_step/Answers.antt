@@ -1,6 +1,5 @@
 -- `read_step` meets its contract. The invariant is `Stepping`. Assumes nothing.
 use mathlib.Core.Path.{ap}
-use Prim.Native.Nat.{◌-◌}
 use native.Mathlib.Omega.{arith}
 use Rattle.text.proofs.Fields.{told, told_bad}
 use Rattle.console.specs.TapeText.{or_zeros}

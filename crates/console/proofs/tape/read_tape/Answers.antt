@@ -1,5 +1,4 @@
 -- `read_tape` meets its contract. The invariant is `Taking`. Assumes nothing.
-use Prim.Native.Nat.{◌-◌}
 use native.Mathlib.Omega.{arith}
 use Rattle.text.proofs.Putting.{put_length}
 use Rattle.console.proofs.Lines.{put_counts}

@@ -1,5 +1,4 @@
 -- `write_tape` meets its contract. The invariant: the lines of the bytes that were passed are put. Assumes nothing.
-use Prim.Native.Nat.{◌-◌}
 use native.Mathlib.Omega.{arith}
 use Rattle.text.proofs.Putting.{put_length}
 use Rattle.console.proofs.Lines.{put_counts}

@@ -1,5 +1,4 @@
 -- `real_part` meets its contract. Assumes nothing.
-use mathlib.Core.Logic.{⊎_elim}
 use Rattle.evaluation.proofs.Parts.{both_sides, not_below, not_above}
 use Rattle.evaluation.proofs.real.real_part.Goals as goal
 use Rattle.evaluation.proofs.real.real_part.Goals.{else-z-via-then-z+else-z-2, else-z-via-else-z}

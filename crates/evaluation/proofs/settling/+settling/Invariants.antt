@@ -1,5 +1,5 @@
 -- The proof of a cycle of calls. Assumes nothing.
-use Rattle.std.proofs.Common.{◌+◌, ◌*◌, ◌-◌}
+use Rattle.std.proofs.Common.{◌+◌, ◌*◌}
 use Rattle.evaluation.proofs.settling.+settling.Given as goal
 
 abbrev pub decreases-settle : goal.decreases-settle

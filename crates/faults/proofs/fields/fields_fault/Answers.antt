@@ -1,6 +1,5 @@
 -- `fields_fault` meets its contract. The invariant is `Fielding`; the measure is what is left of the form. Assumes nothing.
 use mathlib.Core.Path.{refl, ◌∙◌}
-use Prim.Native.Nat.{◌-◌}
 use native.Mathlib.Omega.{arith}
 use Rattle.text.proofs.Fields.{ends}
 use Rattle.faults.proofs.Telling.{stop_positive, fields_done, field_read, field_bad, kind_with}

@@ -1,6 +1,5 @@
 -- `no_digit` meets its contract. The measure is what is left of the text. Assumes nothing.
 use mathlib.Core.Path.{refl, sym, ◌∙◌}
-use Prim.Native.Nat.{◌-◌}
 use native.Mathlib.Omega.{arith}
 use Rattle.faults.proofs.Telling.{digit_inside, digit_passed, digit_none}
 use Rattle.faults.proofs.fields.no_digit.Goals as goal

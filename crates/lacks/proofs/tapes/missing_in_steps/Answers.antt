@@ -1,5 +1,4 @@
 -- `missing_in_steps` meets its contract: the steps that are left name what the tape names. Assumes nothing.
-use Prim.Native.Nat.{◌-◌}
 use native.Mathlib.Omega.{arith}
 use Rattle.lacks.proofs.Stepping.{same_begins, same_stops, same_goes, same_ends}
 use borrow.Enum.Refused.{opened}

@@ -1,6 +1,4 @@
 -- `replay::say::is_same_answer` meets its contract: the words before the place are the same. Assumes nothing.
-use Prim.Native.Nat.{◌-◌}
-use mathlib.Core.Bool.{true}
 use Rattle.replay.proofs.Judging.{none_yet, same_more, differ, agree}
 use Rattle.replay.proofs.say.is_same_answer.Goals as goal
 

@@ -1,6 +1,4 @@
 -- `replay::slices::is_all` meets its contract: the bytes between the first place and the place are this one. Assumes nothing.
-use Prim.Native.Nat.{◌-◌}
-use mathlib.Core.Bool.{true}
 use native.Mathlib.Omega.{arith}
 use Rattle.replay.proofs.Judging.{from_none, from_more, from_no, from_yes}
 use Rattle.replay.proofs.slices.is_all.Goals as goal

@@ -1,6 +1,4 @@
 -- `replay::slices::is_same` meets its contract: the bytes before the place are the same. Assumes nothing.
-use Prim.Native.Nat.{◌-◌}
-use mathlib.Core.Bool.{true}
 use Rattle.replay.proofs.Judging.{none_yet, same_more, same_no_length, same_no, same_yes}
 use Rattle.replay.proofs.slices.is_same.Goals as goal
 

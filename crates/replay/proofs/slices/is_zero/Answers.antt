@@ -1,6 +1,4 @@
 -- `replay::slices::is_zero` meets its contract: the words before the place are zero. Assumes nothing.
-use Prim.Native.Nat.{◌-◌}
-use mathlib.Core.Bool.{true}
 use Rattle.replay.proofs.Judging.{none_yet, all_more, all_no, all_yes}
 use Rattle.replay.proofs.slices.is_zero.Goals as goal
 

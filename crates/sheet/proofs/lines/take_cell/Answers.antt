@@ -1,7 +1,6 @@
 -- `take_cell` meets its contract: each return is a law of proofs/Taking. Assumes nothing.
 use mathlib.Core.Path.{sym, ◌∙◌}
 use native.Mathlib.Omega.{arith}
-use borrow.Author.Tests.{not-true, not-false}
 use Rattle.sheet.proofs.Taking.{refuses, cell_many, cell_malformed, cell_misplaced, cell_taken}
 use Rattle.sheet.proofs.lines.take_cell.Goals as goal
 

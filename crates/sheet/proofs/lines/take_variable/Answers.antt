@@ -1,7 +1,6 @@
 -- `take_variable` meets its contract: each return is a law of proofs/Taking. Assumes nothing.
 use mathlib.Core.Path.{sym, ◌∙◌}
 use native.Mathlib.Omega.{arith}
-use borrow.Author.Tests.{not-true, not-false}
 use Rattle.sheet.proofs.Taking.{refuses, variable_many, variable_malformed, variable_misplaced, variable_taken}
 use Rattle.sheet.proofs.lines.take_variable.Goals as goal
 

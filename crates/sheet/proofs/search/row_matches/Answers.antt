@@ -1,6 +1,6 @@
 -- `row_matches` meets its contract. Assumes nothing.
 use mathlib.Core.Path.{sym, ap, ◌∙◌}
-use borrow.Author.Tests.{eq-eqb, not-true, not-false}
+use borrow.Author.Tests.{eq-eqb}
 use Rattle.sheet.specs.Index.{name_in}
 use Rattle.sheet.proofs.Seeking.{other}
 use Rattle.sheet.proofs.search.row_matches.Goals as goal

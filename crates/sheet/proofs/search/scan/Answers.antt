@@ -1,8 +1,6 @@
 -- `scan` meets its contract. The invariant is `Passed`: no row before passes. Assumes nothing.
 use mathlib.Core.Path.{sym, ◌∙◌}
-use Prim.Native.Nat.{◌-◌}
 use native.Mathlib.Omega.{arith}
-use Rattle.sheet.specs.Table.{row_matches}
 use Rattle.sheet.proofs.Seeking.{passed_begins, passed_hits, passed_more, passed_ends}
 use Rattle.sheet.proofs.search.scan.Goals as goal
 

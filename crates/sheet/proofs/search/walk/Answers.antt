@@ -2,7 +2,6 @@
 use mathlib.Core.Path.{sym, ◌∙◌}
 use Prim.Native.Nat.{◌-◌}
 use native.Mathlib.Omega.{arith}
-use Rattle.sheet.specs.Table.{row_matches}
 use Rattle.sheet.proofs.Seeking.{walking_hits, walking_on, walking_ends}
 use Rattle.sheet.proofs.Indexing.{walking_begins}
 use Rattle.sheet.proofs.search.walk.Goals as goal

@@ -1,6 +1,6 @@
 -- `walk` meets its contract. The invariant: from here on the walk comes to the first row that matches. Assumes nothing.
 use mathlib.Core.Path.{◌≡◌}
-use Prim.Native.Nat.{◌-◌, ◌≤◌}
+use Prim.Native.Nat.{◌≤◌}
 use Rattle.sheet.specs.Index.{bucket_of, head_for}
 use Rattle.sheet.specs.Table.{row_matches, next_at, Indexed}
 use Rattle.sheet.proofs.Seeking.{Walking}

@@ -1,6 +1,5 @@
 -- `forget` meets its contract: one word more is cleared in each turn. Assumes nothing.
 use mathlib.Core.Path.{refl, ◌∙◌}
-use Prim.Native.Nat.{◌-◌}
 use native.Mathlib.Omega.{arith}
 use Rattle.substitution.proofs.Settling.{forgets_none, forgets_more, forgets_all}
 use Rattle.substitution.proofs.results.forget.Goals as goal

@@ -1,5 +1,4 @@
 -- `play` meets its contract: after each step the player has the definition's stack. Assumes nothing.
-use Prim.Native.Nat.{◌-◌}
 use mathlib.Core.Path.{refl, sym, ap, ◌∙◌}
 use lib.ListN.{get_or}
 use Rattle.tape.specs.Run.{filler}

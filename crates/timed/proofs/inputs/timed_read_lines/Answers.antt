@@ -1,6 +1,5 @@
 -- `timed_read_lines` meets its contract: what is answered from the place on is answered from the start. Assumes nothing.
 use mathlib.Core.Path.{◌∙◌, refl}
-use Prim.Native.Nat.{◌-◌}
 use native.Mathlib.Omega.{arith}
 use Rattle.timed.proofs.Lining.{ends_there, too_long_lem, malformed, goes_on}
 use Rattle.timed.proofs.inputs.timed_read_lines.Goals as goal

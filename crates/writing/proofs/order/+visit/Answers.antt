@@ -1,8 +1,6 @@
 -- `visit` meets its contract: each return is a law of proofs/Visiting. The measure is `below`. Assumes nothing.
 use mathlib.Core.Path.{refl, ap, ◌∙◌}
-use mathlib.Core.Logic.{⊎_elim}
 use native.Mathlib.Omega.{arith}
-use lib.ListN.{length}
 use Rattle.writing.specs.Ordering.{children_in}
 use Rattle.writing.proofs.Visiting.{visit_none, visit_met, visit_found, visit_entered}
 use Rattle.writing.specs.Ordering.{Visited}

@@ -1,5 +1,4 @@
 -- `traced_length` meets its contract. Assumes nothing.
-use Prim.Native.Nat.{◌-◌}
 use native.Mathlib.Omega.{arith}
 use Rattle.writing.proofs.TracedTexts.{origin_said, no_length, next_length, all_counted}
 use Rattle.writing.proofs.traced.traced_length.Goals as goal
