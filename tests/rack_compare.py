@@ -10,14 +10,13 @@ what `simplify` prints is a listing as it is written, and what it says a count o
 prints after the word `marks`, have to be those that it asks for one by one where the sheet has none, each the first that matches. With the word
 `origins` it has to print the listing that it prints without, with the origin of each line as the model finds it in the job, and to say the same.
 
-PROGRAM is target/bin/rack if none is named, which ./run makes. It is started as ./run starts it, so rt has to be on the path. Each case that
-differs is printed. The last line counts; the exit status is 0 if nothing differs."""
+PROGRAM is crates/rack/out/rack if none is named, which ./run makes. Each case that differs is printed. The last line counts; the exit status is 0
+if nothing differs."""
 import collections
 import itertools
 import os
 import random
 import re
-import shutil
 import subprocess
 import sys
 import tempfile
@@ -451,23 +450,11 @@ def odd_lines():
                     yield [command], text, None
 
 
-def start(program):
-    """The words that start a program, as ./run does."""
-    rt = shutil.which('rt')
-    if rt is None:
-        sys.exit("rack_compare.py: there is no rt on the path, the command of Rattle's kit")
-    kit = os.environ.get('RATTLE_HOME') or os.path.dirname(os.path.dirname(os.path.realpath(rt)))
-    tools = os.path.join(kit, 'on', os.uname().machine, 'toolchain')
-    emulator = os.path.join(tools, 'bin', 'qemu-x86_64')
-    emulated = [emulator] if os.access(emulator, os.X_OK) else []
-    return emulated + [os.path.join(tools, 'lib', 'ld-linux-x86-64.so.2'), '--library-path', os.path.join(tools, 'lib'), program]
-
-
 class Comparison:
     """The program's runs in a folder, and how many differ from what is wanted."""
 
     def __init__(self, program, folder):
-        self.started, self.folder = [word.encode() for word in start(program)], folder.encode()
+        self.started, self.folder = [program.encode()], folder.encode()
         self.cases, self.differ = collections.Counter(), 0
 
     def run(self, words, text, file=None):
@@ -581,5 +568,5 @@ def main(count, seed, program):
 if __name__ == '__main__':
     if len(sys.argv) not in (3, 4):
         sys.exit('use: rack_compare.py COUNT SEED [PROGRAM]')
-    built = os.path.join(model.ROOT, 'target', 'bin', 'rack')
+    built = os.path.join(model.ROOT, 'crates', 'rack', 'out', 'rack')
     sys.exit(0 if main(int(sys.argv[1]), int(sys.argv[2]), (sys.argv + [built])[3]) else 1)

@@ -74,16 +74,11 @@ try 'the list of programs' 0 0 '' ./run --help
 wanted=$nothing
 mkdir "$scratch/tools"
 for tool in sh dirname readlink; do ln -s "$(command -v $tool)" "$scratch/tools"; done
-try 'no rt' 2 1 'run: there is no rt on the path' env -u RATTLE_HOME PATH="$scratch/tools" "$root/run" rack evaluate <"$job"
+try 'no rt' 2 1 'run: there is no rt on the path' env PATH="$scratch/tools" "$root/run" rack evaluate <"$job"
 : >"$scratch/tools/rt"
 chmod +x "$scratch/tools/rt"
-ln -s "$(command -v uname)" "$scratch/tools"
-try 'another rt' 2 1 "is not a kit of Rattle's" env -u RATTLE_HOME PATH="$scratch/tools" "$root/run" rack evaluate <"$job"
-kit=${RATTLE_HOME:-$(dirname "$(dirname "$(readlink -f "$(command -v rt)")")")}
-tools=$kit/on/$(uname -m)/toolchain emulator=$kit/on/$(uname -m)/toolchain/bin/qemu-x86_64
-[ -x "$emulator" ] || emulator=''
-try 'the program itself, a full disk' 0 1 'The answer could not be written.' sh -c '"$@" </dev/null >/dev/full' sh \
-    $emulator "$tools/lib/ld-linux-x86-64.so.2" --library-path "$tools/lib" target/bin/reduce
+try 'another rt' 2 1 "is not a kit of Rattle's" env PATH="$scratch/tools" "$root/run" rack evaluate <"$job"
+try 'the program itself, a full disk' 0 1 'The answer could not be written.' sh -c 'crates/reduce/out/reduce </dev/null >/dev/full'
 
 # The small repository: copy stands on small, and not on aside.
 small=$scratch/small
@@ -153,7 +148,7 @@ sleep 1.1
 touch crates/small/src/lib.rt
 try 'a crate is newer, and the same' 0 1 'are proved and built first' ./run copy <"$scratch/hello"
 try 'nothing is newer' 0 0 '' ./run copy <"$scratch/hello"
-rm target/bin/copy
+rm crates/copy/out/copy
 try 'the program is gone' 0 2 'run: crate 2 of 2 proved: copy (' ./run copy <"$scratch/hello"
 
 # A run that is killed while it proves blocks nobody.
@@ -168,7 +163,7 @@ try 'another run was killed' 0 - '' ./run copy <"$scratch/hello"
 wanted=$nothing
 echo 'pub fn seven() -> u64 { 1 - 2 }' >crates/small/src/lib.rt
 try 'not proved' 2 - 'run: copy is not proved' ./run copy <"$scratch/hello"
-holds 'not proved: what rt said is shown' 2 - 'rt: small NOT PROVED'
+holds 'not proved: what rt said is shown' 2 - 'rt: the library small did not build'
 
 echo "$passed manners of run hold, $failed failed, $left not run"
 [ "$failed" -eq 0 ]
