@@ -1,7 +1,7 @@
 /* Findavoreb for C and for all that calls C: expressions evaluated, simplified, substituted and read as real numbers, or compiled to a
  * tape that is checked, played and picked.
  *
- * The functions are those of the static library that `rt lib` writes in crates/exports_c, out/libexports_c.a there, for x86-64. What is
+ * The functions are those of the static library that `tools/staticlib exports` makes, target/staticlib/libexports.a, for x86-64. What is
  * named here is what a caller lends and what comes back. How a listing, a sheet and a tape are written and when each is refused is said in
  * docs/FORMATS.md; what of all this is proved, and what is believed, in docs/TRUST.md.
  *
