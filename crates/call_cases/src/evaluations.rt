@@ -2,9 +2,9 @@
 // same sheet. Playing has to answer what evaluating does, bit for bit, and to mark the same rows.
 use super::ask::{Told, ask, is_left_clear, is_right, play};
 use super::case::Case;
-use super::marks::{is_marked, next_marks};
+use super::mark_lines::{is_marked, next_marks};
 use super::outcome::Outcome;
-use super::{marked, marks};
+use super::{mark_lines, marked};
 use complex::bits::class_of_bits;
 use replay::lists::List;
 use replay::slices::part_of_bytes;
@@ -43,7 +43,7 @@ pub fn run(rt: &impl Print, case: Case, text: &[u8], sheet: &[u8]) -> Outcome {
         return Outcome::Wrong;
     }
     let words = evaluated.words;
-    compile(rt, case, words, [0; marks::LINE], text, sheet)
+    compile(rt, case, words, [0; mark_lines::LINE], text, sheet)
 }
 
 // The line of marks follows in the list.
@@ -70,7 +70,7 @@ fn compile(
     rt: &impl Print,
     case: Case,
     evaluated: [u64; 6],
-    line: [u8; marks::LINE],
+    line: [u8; mark_lines::LINE],
     text: &[u8],
     sheet: &[u8],
 ) -> Outcome {
@@ -92,13 +92,13 @@ fn is_played(
     rt: &impl Print,
     case: Case,
     evaluated: [u64; 6],
-    line: [u8; marks::LINE],
+    line: [u8; mark_lines::LINE],
     tape: &[u8],
     sheet: &[u8],
 ) -> bool {
     if case.kind == b'E' {
         let told = marked::play(case, tape, sheet);
-        return marks::is_right(rt, b"evaluating", evaluated, line, told);
+        return mark_lines::is_right(rt, b"evaluating", evaluated, line, told);
     }
     is_right(rt, b"evaluating", evaluated, play(case, tape, sheet))
 }

@@ -6,7 +6,7 @@ use super::ask::{Told, ask, is_right};
 use super::case::Case;
 use super::digits::read_tape;
 use super::evaluations::is_value;
-use super::marks::{is_marked, next_marks};
+use super::mark_lines::{is_marked, next_marks};
 use super::outcome::Outcome;
 use super::{evaluations, marked};
 use replay::lent::is_written;

@@ -15,8 +15,8 @@ mod digits;
 mod evaluations;
 mod examples;
 mod listings;
+mod mark_lines;
 mod marked;
-mod marks;
 mod outcome;
 mod tapes;
 

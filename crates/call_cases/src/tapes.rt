@@ -1,9 +1,9 @@
 // A case of one or two tapes, which are checked, picked from or played.
 use super::case::Case;
 use super::digits::read_tape;
-use super::marks::next_marks;
+use super::mark_lines::next_marks;
 use super::outcome::Outcome;
-use super::{ask, marked, marks};
+use super::{ask, mark_lines, marked};
 use exports::{findavoreb_check, findavoreb_pick};
 use replay::line::read_text;
 use replay::lists::List;
@@ -75,5 +75,5 @@ pub fn play_marked(rt: &impl Print, list: &mut List, case: Case) -> Outcome {
     let line = next_marks(list);
     let told = marked::play(case, &tape[..n], &sheet[..m]);
     let wanted = case.wanted;
-    Outcome::Right.if_right(marks::is_right(rt, b"wanted", wanted, line, told))
+    Outcome::Right.if_right(mark_lines::is_right(rt, b"wanted", wanted, line, told))
 }

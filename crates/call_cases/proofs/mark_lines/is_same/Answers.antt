@@ -1,7 +1,7 @@
 -- `call_cases::marks::is_same` meets its contract: the rows before the place are marked as the line says. Assumes nothing.
 use Rattle.replay.proofs.Judging.{none_yet}
 use Rattle.call_cases.proofs.Marking.{no_line, row_more, row_no, rows_yes}
-use Rattle.call_cases.proofs.marks.is_same.Goals as goal
+use Rattle.call_cases.proofs.mark_lines.is_same.Goals as goal
 
 pub returns-then-line-ne10 : goal.returns-then-line-ne10
 returns-then-line-ne10 c = no_line c.args.line.now c.args.marks.now c.if-line-ne10.true

@@ -1,6 +1,6 @@
 -- `call_cases::marks::mark_in` meets its contract: by the row's place among four. Assumes nothing.
 use Rattle.call_cases.proofs.Marking.{mark_first, mark_second, mark_third, mark_fourth}
-use Rattle.call_cases.proofs.marks.mark_in.Goals as goal
+use Rattle.call_cases.proofs.mark_lines.mark_in.Goals as goal
 
 pub returns-in-0 : goal.returns-in-0
 returns-in-0 c = mark_first c.args.digit c.args.row c.in-0.is
