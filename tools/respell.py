@@ -14,9 +14,10 @@ import collections
 import glob
 import os
 import re
+import subprocess
 import sys
 
-KIT = "/opt/rattle/rattle"
+KIT = os.path.join(os.path.dirname(subprocess.run(["rt", "doc"], capture_output=True, text=True).stdout.strip()), "rattle")
 NAME = r"[^\s(){}.;,@\"«»\[\]|]+"
 TOKEN = re.compile(NAME)
 DECLARED = re.compile(r"^([ \t]*)((?:(?:unfoldable|abbrev|pub|infixl|infixr|ghost) )*)(" + NAME + r"(?:,? " + NAME + r")*)((?: \{[^{}\n]*\})*) : ", re.M)
