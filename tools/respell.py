@@ -44,7 +44,7 @@ def own_files(root):
 
 def declared(text):
     for m in DECLARED.finditer(text):
-        if m[1] == "" or "pub" in m[2] or len(m[1]) in (2, 4):
+        if m[1] == "" or "pub" in m[2] or len(m[1]) % 2 == 0:
             for n in m[3].replace(",", " ").split():
                 # an answer to a goal is named by Rattle
                 if f" : goal.{n}" not in m.string:

@@ -114,7 +114,7 @@ Tells test e r = (m : Memory) → r ≡ test (tree_of m e)
 abbrev pub TellsBoth : (Tree → Tree → Bool) → (a b : Expression) → Bool → Type 0
 TellsBoth test a b r = (m : Memory) → r ≡ test (tree_of m a) (tree_of m b)
 
--- where the test holds, the operand has this tree: so of the operands above (proofs/Looking.antt, `operand-parts`, `left-parts`, `right-parts`)
+-- where the test holds, the operand has this tree: so of the operands above (proofs/Looking.antt, `operand_parts`, `left_parts`, `right_parts`)
 abbrev pub Parts : (Tree → Bool) → (Tree → Tree) → Expression → ℕ → Type 0
 Parts test part e r = (m : Memory) (n : ℕ) → Within n e → test (tree_of m e) ≡ true → At m n r (part (tree_of m e))
 

@@ -1,5 +1,5 @@
 -- 01's arms by operator, a table for each, as the code tries them. Only connecting: a table chooses what is the first match in Ordered's list, which is
--- proved (proofs/Ordered.antt, `by-tables`), and the promise rests on the list.
+-- proved (proofs/Ordered.antt, `by_tables`), and the promise rests on the list.
 use Rattle.std.specs.Prelude.{Bool, true, false, ◌&&◌, ◌||◌}
 use Rattle.complex.specs.Constants.{zero_number, one_number, two_number, minus_one_number, nan_number}
 use Rattle.expression.specs.declared.InfixOperator.{InfixOperator}

@@ -142,7 +142,7 @@ simplify_origins_so room limit list values out =
 
 -- ---- "demand 2's read-back is of the expression without origins": what was written reads back to the tree that the call without origins gives
 
--- bytes that were written, with their tree: in its listing the line of each part u ends in `originText (origin_of lines u)`. Such an origin is a line of the
+-- bytes that were written, with their tree: in its listing the line of each part u ends in `origin_text (origin_of lines u)`. Such an origin is a line of the
 -- input that gives that very tree, and no earlier line does; where there is none, no line gives it. And what the call without origins writes
 pub record WithOrigins (lines : List Tree) (plain : Written × List ℕ) (bytes : ℕ) (out' : List ℕ) : Type 0 where
   pub tree : Tree

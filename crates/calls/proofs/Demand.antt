@@ -57,11 +57,11 @@ module _ (room : ℕ) (list out : List ℕ) {root : Tree} {swaps : List Swap} {s
       ap (λ c. play_checked c compiled_bytes values) compiled_sound
       ∙ ap (λ bs. play_sheet bs (sheet values)) bytes_are
       ∙ under (sheet values)
-      ∙ sym evaluated-is
+      ∙ sym evaluated_is
     where
       under : (w : Whole Rows Refusal) → play_sheet (tape root) w ≡ evaluate_job (with_sheet root store w)
       under (Lines.read rows) = ap evaluated (tape_plays rows root good.proper good.limited.shallow)
       under (Lines.refused why) = refl
 
-      evaluated-is : evaluate_call room list values ≡ evaluate_job (with_sheet root store (sheet values))
-      evaluated-is = ap (λ x. evaluate_job (after_listing Calls.refused x λ root swaps store. with_sheet root store (sheet values))) read
+      evaluated_is : evaluate_call room list values ≡ evaluate_job (with_sheet root store (sheet values))
+      evaluated_is = ap (λ x. evaluate_job (after_listing Calls.refused x λ root swaps store. with_sheet root store (sheet values))) read

@@ -93,7 +93,7 @@ pi_table =
     "p\n" 11 ∷
     []
 
--- 1e-11 is the double nearest 1 / 10 ^ 11 (T: complex/proofs/Examples.antt, `t-nearest`)
+-- 1e-11 is the double nearest 1 / 10 ^ 11 (T: complex/proofs/Examples.antt, `t_nearest`)
 small_nearest : round binary64 false 1 (10 ^ 11) ≡ double_of 0x3DA5_FD7F_E179_6495
 unfolding round of_bits
 small_nearest = refl

@@ -371,12 +371,12 @@ module _ (traced : Bool) (limit : ℕ) (allowed : is_allowed limit ≡ true) (st
       let by = job_most (subst JobBy (sym (rw told at p.answer)) (job_numbers (room (memory store)) list values)) in
       record {
         answer = from_job (ap (job_as traced lines limit out) (rw told at p.answer));
-        marks = λ x. absurd (true≢false (sym x ∙ below-nine (number_of why) by));
+        marks = λ x. absurd (true≢false (sym x ∙ below_nine (number_of why) by));
         none = λ x. sym (marks_from_job (ap (job_marks_as traced lines limit out) (rw told at p.answer)));
       }
     where
-      below-nine : (n : ℕ) → n ≤ 8 → (eqb n 9 || eqb n 10) ≡ false
-      below-nine n l = rw (ne_eqb n 9 (λ e. omega (arith, l, e)), ne_eqb n 10 (λ e. omega (arith, l, e))) refl
+      below_nine : (n : ℕ) → n ≤ 8 → (eqb n 9 || eqb n 10) ≡ false
+      below_nine n l = rw (ne_eqb n 9 (λ e. omega (arith, l, e)), ne_eqb n 10 (λ e. omega (arith, l, e))) refl
 
 -- ---- the marks that a call writes
 

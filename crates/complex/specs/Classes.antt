@@ -1,5 +1,5 @@
 -- One number for each class of equal doubles. Only connecting: equal doubles, and no others, have the same number (proofs/Classes.antt,
--- `equal-is-same-class`).
+-- `equal_is_same_class`).
 use Rattle.std.specs.Prelude.{ℕ, cond, ◌==◌, Float}
 use Rattle.complex.specs.Bits.{bits_of}
 

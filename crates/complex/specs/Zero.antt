@@ -8,7 +8,7 @@ use Rattle.complex.specs.Arithmetic.{◌⊖◌}
 use Rattle.complex.specs.Bits.{double_of}
 
 -- |x| as a multiple of the least subnormal, 2 ^ -1074. A finite x is m * 2 ^ e, and 2 ^ e is up e / down e. Of a double nothing is
--- cut off (proofs/Magnitude.antt, `magnitude-exact`).
+-- cut off (proofs/Magnitude.antt, `magnitude_exact`).
 unfoldable pub magnitude : Float → ℕ
 magnitude nan = 0
 magnitude (inf s) = 0

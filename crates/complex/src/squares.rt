@@ -11,7 +11,7 @@ use super::wide::{Wide, added, less, product, shifted};
 // T is 0x1B_7CDF_D9D7_BDBB * 2^988 least subnormals, so its scale is 988 + 53.
 const T_SCALE: u64 = 1041;
 
-// The square of that significand, in two limbs (proofs/Decide.antt, `t-squared`).
+// The square of that significand, in two limbs (proofs/Decide.antt, `t_squared`).
 const T_SQUARED_HI: u64 = 0x2F3_9421_9248;
 
 const T_SQUARED_LO: u64 = 0x447B_2941_42B7_A699;

@@ -29,11 +29,11 @@ module _ {e : List ℕ} {at a c : ℕ} (b : ℕ) (p : a ≡ byte_of (b / 16)) (q
 
   pub digits_stop : {stop r : ℕ} {x : List ℕ} → (stop ≡ 0 → ⊥) → Put (set (set e at a) (at + 1) c) (at + 2) (stop ∷ []) r x → Put e at (in_digits b stop) r x
   unfolding in_digits stopping
-  digits_stop {stop} h o = put_then two_put (rw (stopping-some stop h) o)
+  digits_stop {stop} h o = put_then two_put (rw (stopping_some stop h) o)
     where
-      stopping-some : (stop : ℕ) → (stop ≡ 0 → ⊥) → stopping stop ≡ stop ∷ []
-      stopping-some zero h = absurd (h refl)
-      stopping-some (suc s) h = refl
+      stopping_some : (stop : ℕ) → (stop ≡ 0 → ⊥) → stopping stop ≡ stop ∷ []
+      stopping_some zero h = absurd (h refl)
+      stopping_some (suc s) h = refl
 
 digits_length : (b stop : ℕ) → length (in_digits b stop) ≤ 3
 unfolding in_digits stopping

@@ -1,4 +1,4 @@
--- What is written of a tape reads back: `tape-back`. Assumes nothing.
+-- What is written of a tape reads back: `tape_back`. Assumes nothing.
 use mathlib.Core.Path.{◌≡◌, refl, sym, ap, ◌∙◌}
 use mathlib.Core.List.{List, [], ◌∷◌, ◌++◌, append_assoc, append-nil}
 use mathlib.Core.Bool.{Bool, true, ◌&&◌}

@@ -1,4 +1,4 @@
--- Only what is written of a tape reads: a text in which each line is a step is the text of the bytes that it says, `tape-only`. Assumes nothing.
+-- Only what is written of a tape reads: a text in which each line is a step is the text of the bytes that it says, `tape_only`. Assumes nothing.
 use mathlib.Core.Path.{◌≡◌, refl, sym, ap, ◌∙◌}
 use mathlib.Core.List.{List, [], ◌∷◌, ◌++◌, append_assoc, append-nil}
 use Prim.Native.Nat.{ℕ, zero, suc, ◌+◌, ◌-◌, ◌*◌, ◌%◌, ◌≤◌, ◌<◌}

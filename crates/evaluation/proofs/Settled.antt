@@ -128,25 +128,25 @@ module _ (rows : Rows) where
     lack_settled q = record { settling = s.settling; covered = s.covered; done = λ x. absurd (q x); lack = s.lack; all = s.all }
 
     module _ {m'' : Memory} {b : Bool} {marks'' : List ℕ} (f : Finished rows n node b m' m'' marks' marks'') where
-      all-marked : marks'' ≡ noted (used rows (tree_at m node)) marks
-      all-marked = f.marked ∙ same_marks rows marks' s.settling node l ∙ s.covered
+      all_marked : marks'' ≡ noted (used rows (tree_at m node)) marks
+      all_marked = f.marked ∙ same_marks rows marks' s.settling node l ∙ s.covered
 
-      both-settling : Settling (given rows marks'') n m m''
-      both-settling = settles_both (with_more rows marks' (used rows (tree_at m' node)) f.marked s.settling) f.ended.settling
+      both_settling : Settling (given rows marks'') n m m''
+      both_settling = settles_both (with_more rows marks' (used rows (tree_at m' node)) f.marked s.settling) f.ended.settling
 
-      all-covered : noted (used rows (tree_at m node)) marks'' ≡ noted (used rows (tree_at m node)) marks
-      all-covered = ap (noted (used rows (tree_at m node))) all-marked ∙ noted_again (used rows (tree_at m node)) marks
+      all_covered : noted (used rows (tree_at m node)) marks'' ≡ noted (used rows (tree_at m node)) marks
+      all_covered = ap (noted (used rows (tree_at m node))) all_marked ∙ noted_again (used rows (tree_at m node)) marks
 
       pub value_settled : b ≡ true → Settled rows n node 0 m m'' (IsNumber m'' node) marks marks''
-      value_settled e = record { settling = both-settling; covered = all-covered; done = λ x. f.ended.done e; lack = λ q. absurd (q refl); all = λ q. absurd (q refl) }
+      value_settled e = record { settling = both_settling; covered = all_covered; done = λ x. f.ended.done e; lack = λ q. absurd (q refl); all = λ q. absurd (q refl) }
 
       pub last_lacks : b ≡ false → Settled rows n node (1 + node) m m'' (IsNumber m'' node) marks marks''
       last_lacks e = record {
-        settling = both-settling;
-        covered = all-covered;
+        settling = both_settling;
+        covered = all_covered;
         done = λ x. absurd (omega (arith, x));
         lack = λ q. subst (LacksAt rows m'' n node) (omega arith) (f.ended.lack e);
-        all = λ q. all-marked;
+        all = λ q. all_marked;
       }
 
   -- a number's tree uses no row
@@ -221,20 +221,20 @@ module _ (rows : Rows) where
             }
 
         module _ {m'' : Memory} {r' : ℕ} {marks'' : List ℕ} (z : r ≡ 0) (j : b < n) (t : Settled rows n b r' m' m'' (IsNumber m'' b) marks' marks'') where
-          left-value : evaluate rows (tree_at m a) ≡ Evaluation.Value (number_at m' a)
-          left-value = sym (same_value rows marks' s.settling a i) ∙ number_value rows m' a (s.done z)
+          left_value : evaluate rows (tree_at m a) ≡ Evaluation.Value (number_at m' a)
+          left_value = sym (same_value rows marks' s.settling a i) ∙ number_value rows m' a (s.done z)
 
           both : Settling (given rows marks'') n m m''
           both = settles_both (with_more rows marks' (used rows (tree_at m' b)) (settled_marks t j) s.settling) t.settling
 
-          both-marked : marks'' ≡ noted (used rows (tree_at m a) ++ used rows (tree_at m b)) marks
-          both-marked = settled_marks t j ∙ same_marks rows marks' s.settling b j ∙ ap (noted (used rows (tree_at m b))) (settled_marks s i) ∙ sym (noted_append (used rows (tree_at m a)) (used rows (tree_at m b)) marks)
+          both_marked : marks'' ≡ noted (used rows (tree_at m a) ++ used rows (tree_at m b)) marks
+          both_marked = settled_marks t j ∙ same_marks rows marks' s.settling b j ∙ ap (noted (used rows (tree_at m b))) (settled_marks s i) ∙ sym (noted_append (used rows (tree_at m a)) (used rows (tree_at m b)) marks)
 
           pub both_operands : Settled rows n node r' m m'' (OverNumbers m'' node) marks marks''
           both_operands = record {
             settling = both;
-            covered = some_marked marks both-marked (both_begin rows (tree_at m) (expression_at m node) a b (sym is ∙ told) left-value);
+            covered = some_marked marks both_marked (both_begin rows (tree_at m) (expression_at m node) a b (sym is ∙ told) left_value);
             done = λ x. over_numbers both node (subst (Numbers m'') (sym told ∙ is) (stays_number t.settling a (s.done z), t.done x));
-            lack = λ q. of_operand marks'' both j (right_lacks (tree_at m) (expression_at m node) a b (sym is ∙ told) (number_at m' a) left-value) (t.lack q);
-            all = λ q. every_marked marks both-marked (both_all rows (tree_at m) (expression_at m node) a b (sym is ∙ told) left-value (lacking marks'' both j (t.lack q)));
+            lack = λ q. of_operand marks'' both j (right_lacks (tree_at m) (expression_at m node) a b (sym is ∙ told) (number_at m' a) left_value) (t.lack q);
+            all = λ q. every_marked marks both_marked (both_all rows (tree_at m) (expression_at m node) a b (sym is ∙ told) left_value (lacking marks'' both j (t.lack q)));
           }

@@ -150,8 +150,8 @@ module _ {text table : List ℕ} {p : Progress} (ready : Ready text table p) {l 
         abbrev marked : Lent
         marked = record { rows = with_mark l'.rows node p.lines; desk = l'.desk }
 
-        same-tree : (k : ℕ) → tree_in marked k ≡ tree_in l' k
-        same-tree k = tree_relabelled (relabelled_mark l'.rows node p.lines) k
+        same_tree : (k : ℕ) → tree_in marked k ≡ tree_in l' k
+        same_tree k = tree_relabelled (relabelled_mark l'.rows node p.lines) k
 
         pub node_refused : {why : Refusal} {table' : List ℕ} → refused_from ≤ node → why ≡ refusal_on (node - refused_from) l'.desk
             → Takes (node_line (known_at l table p) (get_or text p.at 0) (drop (p.at + 1) text)) text p (StepEnum.Step.Refused why) l' table'
@@ -167,7 +167,7 @@ module _ {text table : List ℕ} {p : Progress} (ready : Ready text table p) {l 
             rw m (record {
               answer = sym (found ∙ ap (stored (known_at l table p) (drop next text)) (sym built.answer ∙ seen_node node l' h)
                   ∙ ap (λ ts. goes (known ts (swap_trees l.rows table p.swaps) (state_in l')) (drop next text)) (sym grows)
-                  ∙ ap (λ ss. goes (known (line_trees marked.rows table' (p.lines + 1)) ss (state_in l')) (drop next text)) nothing-named
+                  ∙ ap (λ ss. goes (known (line_trees marked.rows table' (p.lines + 1)) ss (state_in l')) (drop next text)) nothing_named
                   ∙ ap (λ σ. goes (known (line_trees marked.rows table' (p.lines + 1)) (swap_trees marked.rows table' p.swaps) σ) (drop next text)) (sym (state_marked l' node p.lines)));
               after = record {
                 listed = record {
@@ -180,8 +180,8 @@ module _ {text table : List ℕ} {p : Progress} (ready : Ready text table p) {l 
               };
             })
           where
-            at-line : get_or table' p.lines 0 ≡ node
-            at-line = rw w (get_or-set_same table p.lines node 0 (omega (arith, few, ready.long)))
+            at_line_law : get_or table' p.lines 0 ≡ node
+            at_line_law = rw w (get_or-set_same table p.lines node 0 (omega (arith, few, ready.long)))
 
             before : (k : ℕ) → k < p.lines → get_or table' k 0 ≡ get_or table k 0
             before k h = rw w (get_or-set_other table p.lines k node 0 (λ z. omega (arith, z, h)))
@@ -189,22 +189,22 @@ module _ {text table : List ℕ} {p : Progress} (ready : Ready text table p) {l 
             grows : line_trees marked.rows table' (p.lines + 1) ≡ line_trees l.rows table p.lines ++ (tree_in l' node ∷ [])
             grows =
                 up_to_grown p.lines (λ k. tree_in marked (get_or table' k 0)) (λ k. tree_in l (get_or table k 0)) (tree_in l' node)
-                (λ k h. rw (before k h) (same-tree _ ∙ built.step.stays _ (li.lists.nodes k h))) (ap (tree_in marked) at-line ∙ same-tree node)
+                (λ k h. rw (before k h) (same_tree _ ∙ built.step.stays _ (li.lists.nodes k h))) (ap (tree_in marked) at_line_law ∙ same_tree node)
 
             origins : Traced (line_trees l.rows table p.lines ++ (tree_in l' node ∷ [])) marked
             origins =
                 subst (λ line. Traced (line_trees l.rows table p.lines ++ (tree_in l' node ∷ [])) (record { rows = with_mark l'.rows node line; desk = l'.desk })) lines_long
                 (traced_mark node built.step.sound (traced_step li.lists.sound li.traced built.step) (built.inside h) (omega (arith, lines_long, few)))
 
-            nothing-named : swap_trees l.rows table p.swaps ≡ swap_trees marked.rows table' p.swaps
-            nothing-named = up_to_alike p.swaps _ _ (λ k h. absurd (omega (arith, h, unswapped)))
+            nothing_named : swap_trees l.rows table p.swaps ≡ swap_trees marked.rows table' p.swaps
+            nothing_named = up_to_alike p.swaps _ _ (λ k h. absurd (omega (arith, h, unswapped)))
 
             inside : (k : ℕ) → k < p.lines + 1 → get_or table' k 0 < count l'.desk
             inside k o = go (dec_lt k p.lines)
               where
                 go : Dec (k < p.lines) → get_or table' k 0 < count l'.desk
                 go (yes y) = rw (before k y) (omega (arith, li.lists.nodes k y, built.step.grew))
-                go (no g) = let z : k ≡ p.lines = omega arith in rw (z, at-line) (built.inside h)
+                go (no g) = let z : k ≡ p.lines = omega arith in rw (z, at_line_law) (built.inside h)
 
 -- ---- an s line
 
@@ -242,37 +242,37 @@ module _ (substituting : Bool) {text table : List ℕ} {p : Progress} (ready : R
       operand : line < p.lines
       operand = rw is-swap at f.within
 
-      named-tree : Tree
-      named-tree = tree_in l (get_or table line 0)
+      named_tree : Tree
+      named_tree = tree_in l (get_or table line 0)
 
-      found-swap : swap_fields (line_trees l.rows table p.lines) (get_or text p.at 0) (drop (p.at + 1) text) ≡ is (swap v named-tree) (drop next text)
-      unfolding named-tree
-      found-swap =
+      found_swap : swap_fields (line_trees l.rows table p.lines) (get_or text p.at 0) (drop (p.at + 1) text) ≡ is (swap v named_tree) (drop next text)
+      unfolding named_tree
+      found_swap =
           let z = rw is-swap at (f.seen (line_trees l.rows table p.lines) (lines_long ready li)) in
           sym z ∙ rw (at_up_to p.lines (λ k. tree_in l (get_or table k 0)) (leaf pi) line operand)
 
       pub swap_unasked : {l' : Lent} {table' : List ℕ} → substituting ≡ false
           → Takes (swap_line substituting (known_at l table p) (get_or text p.at 0) (drop (p.at + 1) text)) text p (StepEnum.Step.Refused (Refusal.BadList (p.lines + p.swaps))) l' table'
       unfolding swap_line swapped
-      swap_unasked e = record { answer = sym (rw (swaps_long ready li, lt-ltb p.swaps 256 few, found-swap, e, lines_long ready li, swaps_long ready li)); after = tt }
+      swap_unasked e = record { answer = sym (rw (swaps_long ready li, lt-ltb p.swaps 256 few, found_swap, e, lines_long ready li, swaps_long ready li)); after = tt }
 
       module _ {a : Bool} (asked : substituting ≡ true) (tests : Above table p.swaps v a) where
         pub swap_low : {l' : Lent} {table' : List ℕ} → a ≡ false
             → Takes (swap_line substituting (known_at l table p) (get_or text p.at 0) (drop (p.at + 1) text)) text p (StepEnum.Step.Refused (Refusal.BadList (p.lines + p.swaps))) l' table'
-        unfolding swap_line swapped named-tree
+        unfolding swap_line swapped named_tree
         swap_low e =
-            let t : above_last above_variable (swap_trees l.rows table p.swaps) (swap v named-tree) ≡ false = sym (tests l.rows named-tree) ∙ e in
-            record { answer = sym (rw (swaps_long ready li, lt-ltb p.swaps 256 few, found-swap, asked, t, lines_long ready li, swaps_long ready li)); after = tt }
+            let t : above_last above_variable (swap_trees l.rows table p.swaps) (swap v named_tree) ≡ false = sym (tests l.rows named_tree) ∙ e in
+            record { answer = sym (rw (swaps_long ready li, lt-ltb p.swaps 256 few, found_swap, asked, t, lines_long ready li, swaps_long ready li)); after = tt }
 
         pub swap_next : {table₁ table' : List ℕ} {node : ℕ} → a ≡ true → node ≡ get_or table line 0 → table₁ ≡ set table (swaps_from + 2 * p.swaps) v → table' ≡ set table₁ (swaps_from + 2 * p.swaps + 1) node
             → Takes (swap_line substituting (known_at l table p) (get_or text p.at 0) (drop (p.at + 1) text)) text p
             (StepEnum.Step.Next (record { at = next; lines = p.lines; swaps = p.swaps + 1 })) l table'
-        unfolding swap_line swapped named-tree
+        unfolding swap_line swapped named_tree
         swap_next {table₁} {table'} {node} e n w₁ w₂ =
-            let t : above_last above_variable (swap_trees l.rows table p.swaps) (swap v named-tree) ≡ true = sym (tests l.rows named-tree) ∙ e in
+            let t : above_last above_variable (swap_trees l.rows table p.swaps) (swap v named_tree) ≡ true = sym (tests l.rows named_tree) ∙ e in
             record {
-              answer = sym (rw (swaps_long ready li, lt-ltb p.swaps 256 few, found-swap, asked, t)
-                  (ap (λ ts. goes (known ts (swap_trees l.rows table p.swaps ++ (swap v named-tree ∷ [])) (state_in l)) (drop next text)) same_lines
+              answer = sym (rw (swaps_long ready li, lt-ltb p.swaps 256 few, found_swap, asked, t)
+                  (ap (λ ts. goes (known ts (swap_trees l.rows table p.swaps ++ (swap v named_tree ∷ [])) (state_in l)) (drop next text)) same_lines
                   ∙ ap (λ ss. goes (known (line_trees l.rows table' p.lines) ss (state_in l)) (drop next text)) (sym grows)));
               after = record {
                 listed = record {
@@ -296,8 +296,8 @@ module _ (substituting : Bool) {text table : List ℕ} {p : Progress} (ready : R
                 rw w₂ (get_or-set_other table₁ (swaps_from + 2 * p.swaps + 1) (swaps_from + 2 * p.swaps) node 0 (λ z. omega (arith, z))
                 ∙ rw w₁ (get_or-set_same table (swaps_from + 2 * p.swaps) v 0 (omega (arith, few, ready.long))))
 
-            node-there : get_or table' (swaps_from + 2 * p.swaps + 1) 0 ≡ get_or table line 0
-            node-there = rw (w₂, n) (get_or-set_same table₁ (swaps_from + 2 * p.swaps + 1) (get_or table line 0) 0 (omega (arith, few, ready.long, long₁)))
+            node_there : get_or table' (swaps_from + 2 * p.swaps + 1) 0 ≡ get_or table line 0
+            node_there = rw (w₂, n) (get_or-set_same table₁ (swaps_from + 2 * p.swaps + 1) (get_or table line 0) 0 (omega (arith, few, ready.long, long₁)))
 
             same_lines : line_trees l.rows table p.lines ≡ line_trees l.rows table' p.lines
             same_lines = up_to_alike p.lines _ _ (λ k h. ap (tree_in l) (sym (kept k (omega (arith, h, ready.lines)))))
@@ -305,12 +305,12 @@ module _ (substituting : Bool) {text table : List ℕ} {p : Progress} (ready : R
             grows : swap_trees l.rows table' (p.swaps + 1) ≡ swap_trees l.rows table p.swaps ++ (swap v (tree_in l (get_or table line 0)) ∷ [])
             grows =
                 up_to_grown p.swaps (λ k. swap (get_or table' (swaps_from + 2 * k) 0) (tree_in l (get_or table' (swaps_from + 2 * k + 1) 0))) (λ k. swap (get_or table (swaps_from + 2 * k) 0) (tree_in l (get_or table (swaps_from + 2 * k + 1) 0))) (swap v (tree_in l (get_or table line 0)))
-                (λ k h. rw (kept (swaps_from + 2 * k) (omega (arith, h)), kept (swaps_from + 2 * k + 1) (omega (arith, h)))) (rw (variable_there, node-there))
+                (λ k h. rw (kept (swaps_from + 2 * k) (omega (arith, h)), kept (swaps_from + 2 * k + 1) (omega (arith, h)))) (rw (variable_there, node_there))
 
             last_below : (j : ℕ) → j + 1 ≡ p.swaps → get_or table (2 * j + swaps_from) 0 < v
             last_below j i =
                 let z : 2 * j + swaps_from ≡ swaps_from + 2 * (p.swaps - 1) = omega (arith, i) in
-                rw z (ltb-true (get_or table (swaps_from + 2 * (p.swaps - 1)) 0) v (above_later l.rows table p.swaps v named-tree (λ q. omega (arith, q, i)) ∙ sym (tests l.rows named-tree) ∙ e))
+                rw z (ltb-true (get_or table (swaps_from + 2 * (p.swaps - 1)) 0) v (above_later l.rows table p.swaps v named_tree (λ q. omega (arith, q, i)) ∙ sym (tests l.rows named_tree) ∙ e))
 
             rising : Ascends (key_at table' swaps_from 2) (p.swaps + 1)
             rising =
@@ -322,7 +322,7 @@ module _ (substituting : Bool) {text table : List ℕ} {p : Progress} (ready : R
               where
                 go : Dec (k < p.swaps) → get_or table' (swaps_from + 2 * k + 1) 0 < count l.desk
                 go (yes y) = rw (kept (swaps_from + 2 * k + 1) (omega (arith, y))) (li.lists.named k y)
-                go (no g) = let z : k ≡ p.swaps = omega arith in rw (z, node-there) (li.lists.nodes line operand)
+                go (no g) = let z : k ≡ p.swaps = omega arith in rw (z, node_there) (li.lists.nodes line operand)
 
 -- ---- any line
 

@@ -32,7 +32,7 @@ moved_to table e (Operands.Two a b) = with_operands e (get_or table a 0) (get_or
 abbrev pub moved : List ℕ → Expression → Expression
 moved table e = moved_to table e (operands_of e)
 
--- ---- the table: word i is the node of node line i; the s lines stand from `swapsFrom` on, two words each
+-- ---- the table: word i is the node of node line i; the s lines stand from `swaps_from` on, two words each
 
 abbrev pub line_trees : (m : Memory) (table : List ℕ) → ℕ → List Tree
 line_trees m table i = up_to i (λ k. tree_at m (get_or table k 0))

@@ -74,7 +74,7 @@ module _ (end : Read ℕ → Read ℕ) where
       cond (eqb first (letter "p")) (pi_line bs)
       (then (ended tab (is first bs)) λ first bs. fields_of earlier first bs)
 
--- ---- a node line: it may end in an origin. Without the field it is `lineBy (ended lf)` (proofs/Plain.antt)
+-- ---- a node line: it may end in an origin. Without the field it is `line_by (ended lf)` (proofs/Plain.antt)
 
 abbrev pub node_fields : (earlier : List Tree) → (first : ℕ) → List ℕ → Read Tree
 node_fields = line_by line_end

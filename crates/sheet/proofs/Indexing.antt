@@ -194,8 +194,8 @@ module _ {t t' : List ℕ} {n : ℕ} {name : ℕ} {x y : Words} (h : Indexed t n
           let b : head_for t' (n + 1) (bucket_of name' x' y') ≡ n + 1 = rw (q.0, q.1, q.2) new_head in
           rw (b, i) (hits refl e)
 
-      past-new : r < n → row_matches t' name' x' y' n ≡ false → Leads (next_at t') (row_matches t' name' x' y') (head_for t' (n + 1) (bucket_of name' x' y')) r
-      past-new l e = elim (ℕ_discrete (bucket_of name' x' y') (bucket_of name x y)) [
+      past_new : r < n → row_matches t' name' x' y' n ≡ false → Leads (next_at t') (row_matches t' name' x' y') (head_for t' (n + 1) (bucket_of name' x' y')) r
+      past_new l e = elim (ℕ_discrete (bucket_of name' x' y') (bucket_of name x y)) [
         | yes q ↦
             let w : Leads (next_at t') (row_matches t' name' x' y') (head_for t n (bucket_of name x y)) r = rw (sym q) (leads_before h kept (n + 1) (omega arith) name' x' y' r f l) in
             let u = counting_within n (head_in (word_at t (bucket_of name x y))) (home_in (word_at t (head_in (word_at t (bucket_of name x y)) - 1))) (bucket_of name x y) in
@@ -210,14 +210,14 @@ module _ {t t' : List ℕ} {n : ℕ} {name : ℕ} {x y : Words} (h : Indexed t n
           let q = o.own name' x' y' e in
           both_ways ((first_back h kept (n + 1) (omega arith) name' x' y' r f l).hit l) (rw (q.0, q.1, q.2) (fresh r l))
 
-      before-new : (b : Bool) → row_matches t' name' x' y' n ≡ b → r < n → Leads (next_at t') (row_matches t' name' x' y') (head_for t' (n + 1) (bucket_of name' x' y')) r
-      before-new true e l = absurd (not_new l e)
-      before-new false e l = past-new l e
+      before_new : (b : Bool) → row_matches t' name' x' y' n ≡ b → r < n → Leads (next_at t') (row_matches t' name' x' y') (head_for t' (n + 1) (bucket_of name' x' y')) r
+      before_new true e l = absurd (not_new l e)
+      before_new false e l = past_new l e
 
     pub fresh_indexed : Indexed t' (n + 1)
     fresh_indexed = record {
       leads = λ name' x' y' r f l. elim (dec_lt r n) [
-        | yes m ↦ before-new name' x' y' r f (row_matches t' name' x' y' n) refl m
+        | yes m ↦ before_new name' x' y' r f (row_matches t' name' x' y' n) refl m
         | no m ↦ at_new name' x' y' r f (omega arith)
       ];
     }

@@ -129,17 +129,17 @@ module _ (text t : List ℕ) (n : Counts) (h : Held t n) (room : table_words ≤
       changed : Outside t (with_variable t n.variables k w) (3 * n.variables) (3 * n.variables + 3)
       changed = variable_outside t n.variables k w
 
-      variable-rows : rows_of (with_variable t n.variables k w) (counts (n.variables + 1) n.cells n.functions)
+      variable_rows : rows_of (with_variable t n.variables k w) (counts (n.variables + 1) n.cells n.functions)
           ≡ rows (up_to n.variables (variable_at t) ++ (variable k (number_of w) ∷ [])) (up_to n.cells (cell_at t)) (up_to n.functions (row_at t))
-      variable-rows =
+      variable_rows =
           rw (
             up_to_grown n.variables (variable_at (with_variable t n.variables k w)) (variable_at t) (variable k (number_of w)) (λ j l. same_variable changed j (omega arith)) (variable_there t n.variables k w (omega arith)),
             up_to_alike n.cells (cell_at (with_variable t n.variables k w)) (cell_at t) (λ j l. same_cell_beyond changed j (omega arith)),
             up_to_alike n.functions (row_at (with_variable t n.variables k w)) (row_at t) (λ j l. same_row (alike_beyond changed j (omega arith))),
           )
 
-      variable-held : Held (with_variable t n.variables k w) (counts (n.variables + 1) n.cells n.functions)
-      variable-held = record {
+      variable_held : Held (with_variable t n.variables k w) (counts (n.variables + 1) n.cells n.functions)
+      variable_held = record {
         variables = omega arith;
         cells = h.cells;
         functions = h.functions;
@@ -152,8 +152,8 @@ module _ (text t : List ℕ) (n : Counts) (h : Held t n) (room : table_words ≤
       pub variable_taken : next ≤ length text → Takes text (with_variable t n.variables k w) n (variable_line (rows_of t n) first bs) (Step.Next (counts (n.variables + 1) n.cells n.functions) next)
       unfolding variable_line
       variable_taken inside = record {
-        answer = ap (λ s. goes s (drop next text)) variable-rows ∙ taken _ 256 n.variables _ _ _ line (number_is t n line here first bs) (length_up_to n.variables (variable_at t)) _ _ (drop next text) few e (f ∙ variable_order t n k (number_of w));
-        held = (variable-held, omega arith);
+        answer = ap (λ s. goes s (drop next text)) variable_rows ∙ taken _ 256 n.variables _ _ _ line (number_is t n line here first bs) (length_up_to n.variables (variable_at t)) _ _ (drop next text) few e (f ∙ variable_order t n k (number_of w));
+        held = (variable_held, omega arith);
         inside = inside;
       }
 
@@ -165,19 +165,19 @@ module _ (text t : List ℕ) (n : Counts) (h : Held t n) (room : table_words ≤
       p : Outside t (with_cell t n.cells key real) (2 * n.cells + cells_from) (2 * n.cells + cells_from + 2)
       p = cell_outside t n.cells key real
 
-      cell-rows : rows_of (with_cell t n.cells key real) (counts n.variables (n.cells + 1) n.functions)
+      cell_rows : rows_of (with_cell t n.cells key real) (counts n.variables (n.cells + 1) n.functions)
           ≡ rows (up_to n.variables (variable_at t)) (up_to n.cells (cell_at t) ++ (cell region index (double_of real) ∷ [])) (up_to n.functions (row_at t))
       unfolding key
-      cell-rows =
+      cell_rows =
           rw (
             up_to_alike n.variables (variable_at (with_cell t n.cells key real)) (variable_at t) (λ j l. same_variable p j (omega (arith, h.variables))),
             up_to_grown n.cells (cell_at (with_cell t n.cells key real)) (cell_at t) (cell region index (double_of real)) (λ j l. same_cell p j (omega arith)) (cell_there t n.cells key real (omega arith) region index refl small),
             up_to_alike n.functions (row_at (with_cell t n.cells key real)) (row_at t) (λ j l. same_row (alike_beyond p j (omega arith))),
           )
 
-      cell-held : Held (with_cell t n.cells key real) (counts n.variables (n.cells + 1) n.functions)
+      cell_held : Held (with_cell t n.cells key real) (counts n.variables (n.cells + 1) n.functions)
       unfolding key
-      cell-held = record {
+      cell_held = record {
         variables = h.variables;
         cells = omega arith;
         functions = h.functions;
@@ -190,8 +190,8 @@ module _ (text t : List ℕ) (n : Counts) (h : Held t n) (room : table_words ≤
       pub cell_taken : next ≤ length text → Takes text (with_cell t n.cells (region * 4294967296 + index) real) n (cell_line (rows_of t n) first bs) (Step.Next (counts n.variables (n.cells + 1) n.functions) next)
       unfolding cell_line key
       cell_taken inside = record {
-        answer = ap (λ s. goes s (drop next text)) cell-rows ∙ taken _ 1024 n.cells _ _ _ line (number_is t n line here first bs) (length_up_to n.cells (cell_at t)) _ _ (drop next text) few e (f ∙ cell_order t n region index (double_of real) small);
-        held = (cell-held, omega arith);
+        answer = ap (λ s. goes s (drop next text)) cell_rows ∙ taken _ 1024 n.cells _ _ _ line (number_is t n line here first bs) (length_up_to n.cells (cell_at t)) _ _ (drop next text) few e (f ∙ cell_order t n region index (double_of real) small);
+        held = (cell_held, omega arith);
         inside = inside;
       }
 

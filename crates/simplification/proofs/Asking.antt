@@ -138,12 +138,12 @@ module _ (more : ℕ → ℕ) (rows : Rows) (j : ℕ) where
     unfolding and_then marks_after
     used_after a {first} i f u = go u.asked
       where
-        found-for : {asks : Asking} → asks u.operation u.left u.right → Uses rows asks j
-        found-for q = record { operation = u.operation; left = u.left; right = u.right; value = u.value; asked = q; row = u.row }
+        found_for : {asks : Asking} → asks u.operation u.left u.right → Uses rows asks j
+        found_for q = record { operation = u.operation; left = u.left; right = u.right; value = u.value; asked = q; row = u.row }
 
         go : Then a first next u.operation u.left u.right → get_or (marks_after (and_then a h)) j 0 ≡ 1
-        go (sooner q) = let g = grows_after a in rw g.are (mark_stays g.rows (marks_after a) j (f (found-for q)))
-        go (later {t} {s} e q) = subst (λ a. get_or (marks_after (and_then a h)) j 0 ≡ 1) (sym e) ((l t).used s (rw e at i) (found-for q))
+        go (sooner q) = let g = grows_after a in rw g.are (mark_stays g.rows (marks_after a) j (f (found_for q)))
+        go (later {t} {s} e q) = subst (λ a. get_or (marks_after (and_then a h)) j 0 ≡ 1) (sym e) ((l t).used s (rw e at i) (found_for q))
 
   in_turn : {f : State → Answer} {first : State → Asking} (h : Simplifier) {next : Tree → State → Asking} → Marks f first → MarksAll h next
       → Marks (λ s. and_then (f s) h) (λ s. Then (f s) (first s) next)
@@ -157,13 +157,13 @@ module _ (more : ℕ → ℕ) (rows : Rows) (j : ℕ) where
   plain : {f : State → Answer} {first : State → Asking} (h : Simplifier) → Marks f first → MarksAll h (λ t s. none) → Marks (λ s. and_then (f s) h) first
   plain {f} {first} h m l = let t = in_turn h m l in record {
     grows = t.grows;
-    uses = λ s x. elim (t.uses s x) [ inl n ↦ inl n | inr u ↦ inr (uses_more u λ o x y q. only-first q) ];
+    uses = λ s x. elim (t.uses s x) [ inl n ↦ inl n | inr u ↦ inr (uses_more u λ o x y q. only_first q) ];
     used = λ s i u. t.used s i (uses_more u λ o x y q. sooner q);
   }
     where
-      only-first : {a : Answer} {first : Asking} {o : Operation} {x y : Complex} → Then a first (λ t s. none) o x y → first o x y
-      only-first (sooner q) = q
-      only-first (later e q) = absurd q
+      only_first : {a : Answer} {first : Asking} {o : Operation} {x y : Complex} → Then a first (λ t s. none) o x y → first o x y
+      only_first (sooner q) = q
+      only_first (later e q) = absurd q
 
   -- ---- storing, keeping and folding
 

@@ -89,9 +89,9 @@ module _ (P : Tree → Type 0) (closed : Closed P P) (numbers : (z : Complex) �
     -- ---- plans
 
     module _ (σ : Simplifier) (f : (t : Tree) (s : State) → P t → KeptAll P s → Gives P (σ t s)) where
-      again-gives : (t : Tree) (s : State) → P t → KeptAll P s → Gives P (again σ t s)
+      again_gives : (t : Tree) (s : State) → P t → KeptAll P s → Gives P (again σ t s)
       unfolding again
-      again-gives t s x k = then_gives (intern t s) σ (stores t s x k) f
+      again_gives t s x k = then_gives (intern t s) σ (stores t s x k) f
 
       pub carries : (p : Plan) (s : State) → Over P P p → KeptAll P s → Gives P (carry_out R σ p s)
       unfolding carry_out Over Gives smaller
@@ -115,10 +115,10 @@ module _ (P : Tree → Type 0) (closed : Closed P P) (numbers : (z : Complex) �
           one_of true u t z y = z
           one_of false u t z y = y
       carries (affine a w b) s x k =
-          then_gives (again σ a s) (λ u s. and_then (again σ b s) λ v s. and_then (again σ (product u w) s) λ z s. again σ (sum z v) s) (again-gives a s x.0 k) λ u s₁ y l.
-          then_gives (again σ b s₁) (λ v s. and_then (again σ (product u w) s) λ z s. again σ (sum z v) s) (again-gives b s₁ x.2 l) λ v s₂ y' l'.
-          then_gives (again σ (product u w) s₂) (λ z s. again σ (sum z v) s) (again-gives (product u w) s₂ (closed.infix_of _ y x.1) l') λ z s₃ y'' l''.
-          again-gives (sum z v) s₃ (closed.infix_of _ y'' y') l''
+          then_gives (again σ a s) (λ u s. and_then (again σ b s) λ v s. and_then (again σ (product u w) s) λ z s. again σ (sum z v) s) (again_gives a s x.0 k) λ u s₁ y l.
+          then_gives (again σ b s₁) (λ v s. and_then (again σ (product u w) s) λ z s. again σ (sum z v) s) (again_gives b s₁ x.2 l) λ v s₂ y' l'.
+          then_gives (again σ (product u w) s₂) (λ z s. again σ (sum z v) s) (again_gives (product u w) s₂ (closed.infix_of _ y x.1) l') λ z s₃ y'' l''.
+          again_gives (sum z v) s₃ (closed.infix_of _ y'' y') l''
 
     -- ---- one call of simplify
 

@@ -1,6 +1,6 @@
 -- The marks have no influence on what simplifying gives, and only grow. Whatever was marked before, it gives the same tree, the same trees stored and the
--- same results kept, or refuses alike, with the same count (`marks-idle`); the marks after it, after a refusal too, are those before it and some more
--- (`marks-grow`), so a mark that was set stays (`mark-remains`). Assumes nothing.
+-- same results kept, or refuses alike, with the same count (`marks_idle`); the marks after it, after a refusal too, are those before it and some more
+-- (`marks_grow`), so a mark that was set stays (`mark_remains`). Assumes nothing.
 use mathlib.Core.Path.{◌≡◌, refl, sym, ap, ◌∙◌}
 use mathlib.Core.List.{List, [], ◌++◌}
 use Prim.Native.Nat.{ℕ}

@@ -1,5 +1,5 @@
 -- When no pi is left: simplifying an expression whose depth is at most one above the limit gives one without pi, in any place. (Deeper ones can
--- keep a pi, and can become pi: calls/proofs/Examples.antt, `pi-comes-back`.) Assumes nothing.
+-- keep a pi, and can become pi: calls/proofs/Examples.antt, `pi_comes_back`.) Assumes nothing.
 use Prim.Native.Nat.{ℕ, zero, suc, ◌≤◌}
 use native.Mathlib.Omega.{arith}
 use Rattle.complex.specs.declared.Complex.{Complex}

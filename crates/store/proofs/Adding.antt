@@ -106,17 +106,17 @@ module _ {m : Memory} {desk : List ℕ} {n : ℕ} (en : n ≡ count desk) {e : E
       abbrev l' : Lent
       l' = record { rows = m'; desk = with_count desk (n + 1) }
 
-      count-new : count (with_count desk (n + 1)) ≡ n + 1
+      count_new : count (with_count desk (n + 1)) ≡ n + 1
       unfolding count with_count
-      count-new = get_or-set_same desk 0 (n + 1) 0 (omega (arith, hl.long))
+      count_new = get_or-set_same desk 0 (n + 1) 0 (omega (arith, hl.long))
 
       calls_same : calls_on (with_count desk (n + 1)) ≡ calls_on desk
       unfolding calls_on with_count
       calls_same = get_or-set_other desk 0 1 (n + 1) 0 λ q. absurd (omega arith)
 
-      marks-same : marks_on (with_count desk (n + 1)) ≡ marks_on desk
+      marks_same : marks_on (with_count desk (n + 1)) ≡ marks_on desk
       unfolding with_count
-      marks-same = marks_below desk 0 (n + 1) (omega arith)
+      marks_same = marks_below desk 0 (n + 1) (omega arith)
 
       not_big : size (tree_of m e) ≤ largest
       not_big = ltb-false largest (size (tree_of m e)) (limits x).not_big
@@ -127,37 +127,37 @@ module _ {m : Memory} {desk : List ℕ} {n : ℕ} (en : n ≡ count desk) {e : E
       has_room : n < room m
       has_room = ltb-true n (room m) (limits x).has_room
 
-      bucket-is-e : bucket ≡ bucket_of (room m) (key_of (class_at m) (fields_of e))
-      bucket-is-e = bucket_among ∙ ap (bucket_of (room m)) key_of_e
+      bucket_is_e : bucket ≡ bucket_of (room m) (key_of (class_at m) (fields_of e))
+      bucket_is_e = bucket_among ∙ ap (bucket_of (room m)) key_of_e
 
-      sound-new : Held.Sound l'
+      sound_new : Held.Sound l'
       unfolding with_count
-      sound-new = record {
-        holds = rw count-new (holds_new h e k.sound w walked (tally_on desk) o not_big not_deep has_room bucket bucket-is-e z y size_is depth_is);
+      sound_new = record {
+        holds = rw count_new (holds_new h e k.sound w walked (tally_on desk) o not_big not_deep has_room bucket bucket_is_e z y size_is depth_is);
         long = length-set desk 0 (n + 1) ∙ hl.long;
       }
 
-      state-new : state_in l' ≡ state_of m' (n + 1) (tally_on desk)
+      state_new : state_in l' ≡ state_of m' (n + 1) (tally_on desk)
       unfolding state_in
-      state-new = rw (count-new, calls_same, marks-same) refl
+      state_new = rw (count_new, calls_same, marks_same) refl
 
-      built-new : Built (intern (tree_of m e) (state_in l)) n l l'
-      built-new =
-          let more : n < count (with_count desk (n + 1)) = rw count-new (omega arith) in
+      built_new : Built (intern (tree_of m e) (state_in l)) n l l'
+      built_new =
+          let more : n < count (with_count desk (n + 1)) = rw count_new (omega arith) in
           record {
-            answer = seen_node n l' (small {l = l'} sound-new more) ∙ rw (state-new, state_is) (new_answer h e k.sound w walked (tally_on desk) o not_big not_deep has_room bucket bucket-is-e z y size_is depth_is);
+            answer = seen_node n l' (small {l = l'} sound_new more) ∙ rw (state_new, state_is) (new_answer h e k.sound w walked (tally_on desk) o not_big not_deep has_room bucket bucket_is_e z y size_is depth_is);
             inside = λ _. more;
             step = record {
-              sound = sound-new;
-              grew = rw (count-new, ← en) (omega arith);
-              stays = λ i q. tree_old h e k.sound w walked (tally_on desk) o not_big not_deep has_room bucket bucket-is-e z y size_is depth_is i (rw en q);
-              traced = λ i q. origin_old h e k.sound w walked (tally_on desk) o not_big not_deep has_room bucket bucket-is-e z y size_is depth_is i (rw en q);
+              sound = sound_new;
+              grew = rw (count_new, ← en) (omega arith);
+              stays = λ i q. tree_old h e k.sound w walked (tally_on desk) o not_big not_deep has_room bucket bucket_is_e z y size_is depth_is i (rw en q);
+              traced = λ i q. origin_old h e k.sound w walked (tally_on desk) o not_big not_deep has_room bucket bucket_is_e z y size_is depth_is i (rw en q);
               untraced = λ i a q.
-                  let only : i ≡ n = omega (arith, en, a, q, count-new) in
-                  ap (origin_at m') only ∙ origin_new h e k.sound w walked (tally_on desk) o not_big not_deep has_room bucket bucket-is-e z y size_is depth_is;
+                  let only : i ≡ n = omega (arith, en, a, q, count_new) in
+                  ap (origin_at m') only ∙ origin_new h e k.sound w walked (tally_on desk) o not_big not_deep has_room bucket bucket_is_e z y size_is depth_is;
             };
           }
 
       pub adds_new : {t : ℕ} {m₁ : Memory} {desk₁ : List ℕ} → t ≡ tag_of f.code z y bucket → m₁ ≡ entered m n t f.first f.second class head bucket
           → desk₁ ≡ with_count desk (n + 1) → Built (intern (tree_of m e) (state_in l)) n l (record { rows = m₁; desk = desk₁ })
-      adds_new et em ed = rw (ed, em, et, k.f_is, k.head_is) built-new
+      adds_new et em ed = rw (ed, em, et, k.f_is, k.head_is) built_new

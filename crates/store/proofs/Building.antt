@@ -1,5 +1,5 @@
--- The laws of building in steps. `stays`: nothing is built. `then-node`: a step that gave a node, and what was done after it.
--- `then-refused`: a step that was refused; its state stands. `on-desk`: something was done to the desk first; `after-noting`: rows were
+-- The laws of building in steps. `stays`: nothing is built. `then_node`: a step that gave a node, and what was done after it.
+-- `then_refused`: a step that was refused; its state stands. `on_desk`: something was done to the desk first; `after_noting`: rows were
 -- noted first. `named`: what is built by another name. Assumes nothing.
 use mathlib.Core.Path.{◌≡◌, refl, sym, ap, ◌∙◌, subst}
 use mathlib.Core.List.{List, ◌++◌}

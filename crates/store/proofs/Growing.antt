@@ -132,27 +132,27 @@ module _ {m : Memory} {n : ℕ} (h : Holds m n) (e : Expression) (s : Sound e) (
         bucket_is : bucket ≡ bucket_of (room m) (key_of (class_at m) f)
         bucket_is = eb
 
-        bucket-inside : bucket < 2 * room m
-        bucket-inside = rw bucket_is (bucket_below (room m) (key_of (class_at m) f) (omega arith) (omega (arith, (room_each m (room m) (omega arith)).most)))
+        bucket_inside : bucket < 2 * room m
+        bucket_inside = rw bucket_is (bucket_below (room m) (key_of (class_at m) f) (omega arith) (omega (arith, (room_each m (room m) (omega arith)).most)))
 
-        class-is : class ≡ place (equal t) ts
-        class-is = found_class h e s w q o-node
+        class_is : class ≡ place (equal t) ts
+        class_is = found_class h e s w q o-node
 
-        class-within : class ≤ n
-        class-within = omega (arith, class-is, place_within (equal t) ts, length_trees m n)
+        class_within : class ≤ n
+        class_within = omega (arith, class_is, place_within (equal t) ts, length_trees m n)
 
         -- the links' laws, at these links
         ln : n < length m.link
         ln = omega (arith, there.links)
 
         lb : bucket / 2 < length m.link
-        lb = omega (arith, bucket-inside, (room_each m (room m) (omega arith)).links)
+        lb = omega (arith, bucket_inside, (room_each m (room m) (omega arith)).links)
 
         sn : n < 4096
         sn = omega (arith, there.most)
 
         sc : class < 4096
-        sc = omega (arith, class-within, there.most)
+        sc = omega (arith, class_within, there.most)
 
         sh : head < 8192
         sh = omega (arith, head_within m n bucket, there.most)
@@ -162,11 +162,11 @@ module _ {m : Memory} {n : ℕ} (h : Holds m n) (e : Expression) (s : Sound e) (
 
         -- the tag's fields
         word : Tagged (tag_of f.code z y bucket) f.code z y bucket
-        word = tagged f.code z y bucket (code_small e) (omega (arith, ez)) (omega (arith, ey)) (omega (arith, bucket-inside, (room_each m (room m) (omega arith)).most))
+        word = tagged f.code z y bucket (code_small e) (omega (arith, ez)) (omega (arith, ey)) (omega (arith, bucket_inside, (room_each m (room m) (omega arith)).most))
 
-        fields-old : (k : ℕ) → k < n → fields_at m' k ≡ fields_at m k
+        fields_old : (k : ℕ) → k < n → fields_at m' k ≡ fields_at m k
         unfolding fields_on
-        fields-old k l =
+        fields_old k l =
             let d : k ≡ n → ⊥ = λ x. omega arith in
             rw (get_or-set_other m.tag n k (tag_of f.code z y bucket) 0 d, get_or-set_other m.first n k f.first 0 d, get_or-set_other m.second n k f.second 0 d) refl
 
@@ -178,29 +178,29 @@ module _ {m : Memory} {n : ℕ} (h : Holds m n) (e : Expression) (s : Sound e) (
             let c = get_or-set_same m.second n f.second 0 (omega (arith, there.seconds)) in
             λ i. fields (a i) (b i) (c i)
 
-        size-old : (k : ℕ) → k < n → size_at m' k ≡ size_at m k
+        size_old : (k : ℕ) → k < n → size_at m' k ≡ size_at m k
         unfolding size_on
-        size-old k l = ap size_in (get_or-set_other m.tag n k (tag_of f.code z y bucket) 0 λ x. omega arith)
+        size_old k l = ap size_in (get_or-set_other m.tag n k (tag_of f.code z y bucket) 0 λ x. omega arith)
 
-        size-new : size_at m' n ≡ z
+        size_new : size_at m' n ≡ z
         unfolding size_on
-        size-new = ap size_in (get_or-set_same m.tag n (tag_of f.code z y bucket) 0 (omega (arith, there.tags))) ∙ word.size
+        size_new = ap size_in (get_or-set_same m.tag n (tag_of f.code z y bucket) 0 (omega (arith, there.tags))) ∙ word.size
 
-        depth-old : (k : ℕ) → k < n → depth_at m' k ≡ depth_at m k
+        depth_old : (k : ℕ) → k < n → depth_at m' k ≡ depth_at m k
         unfolding depth_on
-        depth-old k l = ap depth_in (get_or-set_other m.tag n k (tag_of f.code z y bucket) 0 λ x. omega arith)
+        depth_old k l = ap depth_in (get_or-set_other m.tag n k (tag_of f.code z y bucket) 0 λ x. omega arith)
 
-        depth-new : depth_at m' n ≡ y
+        depth_new : depth_at m' n ≡ y
         unfolding depth_on
-        depth-new = ap depth_in (get_or-set_same m.tag n (tag_of f.code z y bucket) 0 (omega (arith, there.tags))) ∙ word.depth
+        depth_new = ap depth_in (get_or-set_same m.tag n (tag_of f.code z y bucket) 0 (omega (arith, there.tags))) ∙ word.depth
 
-        home-old : (k : ℕ) → k < n → home_at m' k ≡ home_at m k
+        home_old : (k : ℕ) → k < n → home_at m' k ≡ home_at m k
         unfolding home_on
-        home-old k l = ap home_in (get_or-set_other m.tag n k (tag_of f.code z y bucket) 0 λ x. omega arith)
+        home_old k l = ap home_in (get_or-set_other m.tag n k (tag_of f.code z y bucket) 0 λ x. omega arith)
 
-        home-new : home_at m' n ≡ bucket
+        home_new : home_at m' n ≡ bucket
         unfolding home_on
-        home-new = ap home_in (get_or-set_same m.tag n (tag_of f.code z y bucket) 0 (omega (arith, there.tags))) ∙ word.home
+        home_new = ap home_in (get_or-set_same m.tag n (tag_of f.code z y bucket) 0 (omega (arith, there.tags))) ∙ word.home
 
         -- the origins
         pub origin_old : (k : ℕ) → k < n → origin_at m' k ≡ origin_at m k
@@ -212,102 +212,102 @@ module _ {m : Memory} {n : ℕ} (h : Holds m n) (e : Expression) (s : Sound e) (
         origin_new = ap origin_in (get_or-set_same m.tag n (tag_of f.code z y bucket) 0 (omega (arith, there.tags))) ∙ no_origin f.code z y bucket
 
         -- the trees
-        expression-old : (k : ℕ) → k < n → expression_at m' k ≡ expression_at m k
+        expression_old : (k : ℕ) → k < n → expression_at m' k ≡ expression_at m k
         unfolding expression_at
-        expression-old k l = ap expression_of (fields-old k l)
+        expression_old k l = ap expression_of (fields_old k l)
 
-        expression-new : expression_at m' n ≡ e
+        expression_new : expression_at m' n ≡ e
         unfolding expression_at
-        expression-new = ap expression_of fields_new ∙ back e s
+        expression_new = ap expression_of fields_new ∙ back e s
 
-        trees-old : trees m' n ≡ ts
-        trees-old = trees_alike m m' n fields-old
+        trees_old : trees m' n ≡ ts
+        trees_old = trees_alike m m' n fields_old
 
         pub tree_old : (k : ℕ) → k < n → tree_at m' k ≡ tree_at m k
-        tree_old = tree_alike m m' n fields-old
+        tree_old = tree_alike m m' n fields_old
 
-        tree-new : tree_at m' n ≡ t
-        tree-new = tree_own m' n (rw expression-new w) ∙ ap (tree_of m') expression-new ∙ grown_alike (tree_at m') (tree_at m) n e w tree_old
+        tree_new : tree_at m' n ≡ t
+        tree_new = tree_own m' n (rw expression_new w) ∙ ap (tree_of m') expression_new ∙ grown_alike (tree_at m') (tree_at m) n e w tree_old
 
-        trees-new : trees m' (n + 1) ≡ ts ++ (t ∷ [])
+        trees_new : trees m' (n + 1) ≡ ts ++ (t ∷ [])
         unfolding trees tree_at
-        trees-new = rw add-one (rw (tree-new, trees-old) refl)
+        trees_new = rw add-one (rw (tree_new, trees_old) refl)
 
-        room-new : room m' ≡ room m
+        room_new : room m' ≡ room m
         unfolding room
-        room-new =
+        room_new =
             rw (length-set m.tag n (tag_of f.code z y bucket), length-set m.first n f.first, length-set m.second n f.second, length_joined m.link n class head bucket ln lb sn sc sh) refl
 
         -- the classes
         place_same : (u : Tree) → place (equal u) ts < n → place (equal u) (trees m' (n + 1)) ≡ place (equal u) ts
-        place_same u l = rw trees-new (place_old (equal u) ts (t ∷ []) (rw (length_trees m n) l))
+        place_same u l = rw trees_new (place_old (equal u) ts (t ∷ []) (rw (length_trees m n) l))
 
-        place-fresh : (u : Tree) → place (equal u) ts ≡ n → place (equal u) (trees m' (n + 1)) ≡ cond (equal u t) n (suc n)
-        place-fresh u l = rw trees-new (place_new (equal u) ts t (l ∙ sym (length_trees m n)) ∙ rw (length_trees m n) refl)
+        place_fresh : (u : Tree) → place (equal u) ts ≡ n → place (equal u) (trees m' (n + 1)) ≡ cond (equal u t) n (suc n)
+        place_fresh u l = rw trees_new (place_new (equal u) ts t (l ∙ sym (length_trees m n)) ∙ rw (length_trees m n) refl)
 
-        class-here : class_at m' n ≡ place (equal t) (trees m' (n + 1))
-        class-here =
+        class_here : class_at m' n ≡ place (equal t) (trees m' (n + 1))
+        class_here =
             class_new m.link n class head bucket ln lb sn sc sh
             ∙ ⊎_elim
-            (λ x. x ∙ sym (place-fresh t (sym class-is ∙ x) ∙ rw (truth (equal t t) (equal_refl t)) refl))
-            (λ l. class-is ∙ sym (place_same t (omega (arith, l, class-is))))
-            (eq-or-lt_of_le {n = class} {m = n} class-within)
+            (λ x. x ∙ sym (place_fresh t (sym class_is ∙ x) ∙ rw (truth (equal t t) (equal_refl t)) refl))
+            (λ l. class_is ∙ sym (place_same t (omega (arith, l, class_is))))
+            (eq-or-lt_of_le {n = class} {m = n} class_within)
 
         -- the buckets
-        bucket-old : (k : ℕ) → k < n → bucket_at m' k ≡ bucket_at m k
+        bucket_old : (k : ℕ) → k < n → bucket_at m' k ≡ bucket_at m k
         unfolding bucket_at key_at
-        bucket-old k l =
+        bucket_old k l =
             let a = key_alike (class_at m') (class_at m) k (expression_at m k) (h.each k l).within λ i o. (rest i (omega arith)).class in
-            rw (room-new, fields-old k l, (h.each k l).formed, a) refl
+            rw (room_new, fields_old k l, (h.each k l).formed, a) refl
 
-        bucket-new : bucket_at m' n ≡ bucket
+        bucket_new : bucket_at m' n ≡ bucket
         unfolding bucket_at key_at
-        bucket-new = rw (room-new, fields_new, key_alike (class_at m') (class_at m) n e w λ i o. (rest i o).class) (sym bucket_is)
+        bucket_new = rw (room_new, fields_new, key_alike (class_at m') (class_at m) n e w λ i o. (rest i o).class) (sym bucket_is)
 
-        right-old : (k : ℕ) → k < n → Right m' (n + 1) k
-        right-old k l =
+        right_old : (k : ℕ) → k < n → Right m' (n + 1) k
+        right_old k l =
             let g = h.each k l in
             let x = rest k l in
             let p : place (equal (tree_at m k)) ts < n = omega (arith, sym g.classed, class_inside h k l) in
             record {
-              formed = rw (expression-old k l) (fields-old k l ∙ g.formed);
-              within = rw (expression-old k l) g.within;
-              sized = rw (tree_old k l) (size-old k l ∙ g.sized);
-              deep = rw (tree_old k l) (depth-old k l ∙ g.deep);
+              formed = rw (expression_old k l) (fields_old k l ∙ g.formed);
+              within = rw (expression_old k l) g.within;
+              sized = rw (tree_old k l) (size_old k l ∙ g.sized);
+              deep = rw (tree_old k l) (depth_old k l ∙ g.deep);
               limited = rw (tree_old k l) g.limited;
-              home = home-old k l ∙ g.home ∙ sym (bucket-old k l);
+              home = home_old k l ∙ g.home ∙ sym (bucket_old k l);
               classed = rw (tree_old k l) (x.class ∙ g.classed ∙ sym (place_same (tree_at m k) p));
               kept = omega (arith, x.kept, g.kept);
-              next = x.next ∙ g.next ∙ ap (λ b. latest (bucket_at m) b k) (sym (bucket-old k l)) ∙ latest_alike (bucket_at m) (bucket_at m') _ k λ i o. sym (bucket-old i (omega arith));
+              next = x.next ∙ g.next ∙ ap (λ b. latest (bucket_at m) b k) (sym (bucket_old k l)) ∙ latest_alike (bucket_at m) (bucket_at m') _ k λ i o. sym (bucket_old i (omega arith));
             }
 
         right_new : Right m' (n + 1) n
         right_new = record {
-          formed = rw expression-new fields_new;
-          within = rw expression-new w;
-          sized = rw tree-new (size-new ∙ ez);
-          deep = rw tree-new (depth-new ∙ ey);
-          limited = rw tree-new (record { sized = b; shallow = d });
-          home = home-new ∙ sym bucket-new;
-          classed = rw tree-new class-here;
+          formed = rw expression_new fields_new;
+          within = rw expression_new w;
+          sized = rw tree_new (size_new ∙ ez);
+          deep = rw tree_new (depth_new ∙ ey);
+          limited = rw tree_new (record { sized = b; shallow = d });
+          home = home_new ∙ sym bucket_new;
+          classed = rw tree_new class_here;
           kept = omega (arith, kept_new m.link n class head bucket ln lb sn sc sh);
           next =
-              next_new m.link n class head bucket ln lb sn sc sh ∙ h.heads bucket bucket-inside
-              ∙ ap (λ b. latest (bucket_at m) b n) (sym bucket-new) ∙ latest_alike (bucket_at m) (bucket_at m') _ n λ i o. sym (bucket-old i o);
+              next_new m.link n class head bucket ln lb sn sc sh ∙ h.heads bucket bucket_inside
+              ∙ ap (λ b. latest (bucket_at m) b n) (sym bucket_new) ∙ latest_alike (bucket_at m) (bucket_at m') _ n λ i o. sym (bucket_old i o);
         }
 
         -- each node is an old one or the new one
         each : (P : ℕ → Type 0) → ((j : ℕ) → j < n → P j) → P n → (j : ℕ) → j < n + 1 → P j
         each P g x j l = ⊎_elim (λ d. rw d x) (λ o. g j o) (eq-or-lt_of_le {n = j} {m = n} (omega arith))
 
-        apart-new : (i j : ℕ) → i < n + 1 → j < n + 1 → tree_at m' i ≡ tree_at m' j → i ≡ j
-        apart-new i j l =
+        apart_new : (i j : ℕ) → i < n + 1 → j < n + 1 → tree_at m' i ≡ tree_at m' j → i ≡ j
+        apart_new i j l =
             each (λ i. (j : ℕ) → j < n + 1 → tree_at m' i ≡ tree_at m' j → i ≡ j)
             (λ i o. each (λ j. tree_at m' i ≡ tree_at m' j → i ≡ j)
             (λ j p x. h.apart i j o p (sym (tree_old i o) ∙ x ∙ tree_old j p))
-            (λ x. absurd (nowhere h e s w q o-node i o (sym (tree_old i o) ∙ x ∙ tree-new))))
+            (λ x. absurd (nowhere h e s w q o-node i o (sym (tree_old i o) ∙ x ∙ tree_new))))
             (each (λ j. tree_at m' n ≡ tree_at m' j → n ≡ j)
-            (λ j p x. absurd (nowhere h e s w q o-node j p (sym (tree_old j p) ∙ sym x ∙ tree-new)))
+            (λ j p x. absurd (nowhere h e s w q o-node j p (sym (tree_old j p) ∙ sym x ∙ tree_new)))
             (λ x. refl))
             i l j
 
@@ -320,41 +320,41 @@ module _ {m : Memory} {n : ℕ} (h : Holds m n) (e : Expression) (s : Sound e) (
             here = sym (head_old m.link n class head bucket ln lb sn sc sh b x)
 
             go : (h : ℕ) → h ≡ head_at m b → Dec (n < head_at m b) → Dec (head_at m b ≡ n + 1) → head_for m' (n + 1) b ≡ head_for m n b
-            go h e (yes l) (yes p) = sym (head_elsewhere m' (n + 1) b here (omega (arith, p)) (λ y. x (sym y ∙ ap (λ k. home_at m' (k - 1)) p ∙ ap (home_at m') (omega arith) ∙ home-new))) ∙ past_head m n b refl l
+            go h e (yes l) (yes p) = sym (head_elsewhere m' (n + 1) b here (omega (arith, p)) (λ y. x (sym y ∙ ap (λ k. home_at m' (k - 1)) p ∙ ap (home_at m') (omega arith) ∙ home_new))) ∙ past_head m n b refl l
             go h e (yes l) (no p) = sym (past_head m' (n + 1) b here (omega (arith, l, p))) ∙ past_head m n b refl l
             go h e (no l) d = low (head_at m b) refl (ℕ_discrete (home_at m (head_at m b - 1)) b)
               where
                 low : (k : ℕ) → k ≡ head_at m b → Dec (home_at m (head_at m b - 1) ≡ b) → head_for m' (n + 1) b ≡ head_for m n b
                 low zero q r = sym (no_head m' (n + 1) b here (sym q)) ∙ no_head m n b refl (sym q)
-                low (suc k) q (yes r) = sym (head_home m' (n + 1) b here (omega (arith, l)) (home-old (head_at m b - 1) (omega (arith, l, q)) ∙ r)) ∙ head_home m n b refl (omega (arith, l)) r
-                low (suc k) q (no r) = sym (head_elsewhere m' (n + 1) b here (omega (arith, l)) (λ y. r (sym (home-old (head_at m b - 1) (omega (arith, l, q))) ∙ y))) ∙ head_elsewhere m n b refl (omega (arith, l)) r
+                low (suc k) q (yes r) = sym (head_home m' (n + 1) b here (omega (arith, l)) (home_old (head_at m b - 1) (omega (arith, l, q)) ∙ r)) ∙ head_home m n b refl (omega (arith, l)) r
+                low (suc k) q (no r) = sym (head_elsewhere m' (n + 1) b here (omega (arith, l)) (λ y. r (sym (home_old (head_at m b - 1) (omega (arith, l, q))) ∙ y))) ∙ head_elsewhere m n b refl (omega (arith, l)) r
 
-        heads-new : (b : ℕ) → b < 2 * room m' → head_for m' (n + 1) b ≡ latest (bucket_at m') b (n + 1)
-        heads-new b l = go (ℕ_discrete b bucket)
+        heads_new : (b : ℕ) → b < 2 * room m' → head_for m' (n + 1) b ≡ latest (bucket_at m') b (n + 1)
+        heads_new b l = go (ℕ_discrete b bucket)
           where
             go : Dec (b ≡ bucket) → head_for m' (n + 1) b ≡ latest (bucket_at m') b (n + 1)
             go (yes x) =
                 rw x
-                (sym (head_home m' (n + 1) bucket (sym (head_new m.link n class head bucket ln lb sn sc sh)) (omega arith) (ap (home_at m') (omega arith) ∙ home-new))
-                ∙ sym (latest_here (bucket_at m') bucket n bucket-new))
+                (sym (head_home m' (n + 1) bucket (sym (head_new m.link n class head bucket ln lb sn sc sh)) (omega arith) (ap (home_at m') (omega arith) ∙ home_new))
+                ∙ sym (latest_here (bucket_at m') bucket n bucket_new))
             go (no x) =
                 head_same b x
-                ∙ h.heads b (rw (sym room-new) l)
-                ∙ latest_alike (bucket_at m) (bucket_at m') b n (λ i o. sym (bucket-old i o))
-                ∙ sym (latest_past (bucket_at m') b n λ v. x (sym v ∙ bucket-new))
+                ∙ h.heads b (rw (sym room_new) l)
+                ∙ latest_alike (bucket_at m) (bucket_at m') b n (λ i o. sym (bucket_old i o))
+                ∙ sym (latest_past (bucket_at m') b n λ v. x (sym v ∙ bucket_new))
 
         pub holds_new : Holds m' (n + 1)
         holds_new = record {
-          fits = rw room-new (omega arith);
-          each = each (Right m' (n + 1)) right-old right_new;
-          apart = apart-new;
-          heads = heads-new;
+          fits = rw room_new (omega arith);
+          each = each (Right m' (n + 1)) right_old right_new;
+          apart = apart_new;
+          heads = heads_new;
         }
 
         -- what is kept
-        kept-old : (u : Tree) → place (equal u) ts < n → kept_for m' (n + 1) u ≡ kept_for m n u
+        kept_old : (u : Tree) → place (equal u) ts < n → kept_for m' (n + 1) u ≡ kept_for m n u
         unfolding kept_for
-        kept-old u l =
+        kept_old u l =
             let p = place (equal u) ts in
             rw (place_same u l, lt-ltb p (n + 1) (omega arith), lt-ltb p n l, (rest p l).kept)
             (linked_alike m m' n (kept_at m p) tree_old (h.each p l).kept)
@@ -362,16 +362,16 @@ module _ {m : Memory} {n : ℕ} (h : Holds m n) (e : Expression) (s : Sound e) (
         kept_fresh : (u : Tree) → place (equal u) ts ≡ n → (c : Bool) → equal u t ≡ c → kept_for m' (n + 1) u ≡ kept_for m n u
         unfolding kept_for linked
         kept_fresh u x true y =
-            rw (place-fresh u x, y, x, lt-ltb n (n + 1) (omega arith), le-ltb n n (omega arith), kept_new m.link n class head bucket ln lb sn sc sh) refl
-        kept_fresh u x false y = rw (place-fresh u x, y, x, le-ltb (suc n) (n + 1) (omega arith), le-ltb n n (omega arith)) refl
+            rw (place_fresh u x, y, x, lt-ltb n (n + 1) (omega arith), le-ltb n n (omega arith), kept_new m.link n class head bucket ln lb sn sc sh) refl
+        kept_fresh u x false y = rw (place_fresh u x, y, x, le-ltb (suc n) (n + 1) (omega arith), le-ltb n n (omega arith)) refl
 
         kept_same : kept_for m' (n + 1) ≡ kept_for m n
         kept_same = fun_ext λ u. go u (dec_lt (place (equal u) ts) n)
           where
             go : (u : Tree) → Dec (place (equal u) ts < n) → kept_for m' (n + 1) u ≡ kept_for m n u
-            go u (yes l) = kept-old u l
+            go u (yes l) = kept_old u l
             go u (no x) = kept_fresh u (omega (arith, x, place_within (equal u) ts, length_trees m n)) (equal u t) refl
 
         pub new_answer : gives (tree_at m' n) (state_of m' (n + 1) tally) ≡ intern t (state_of m n tally)
         unfolding intern
-        new_answer = rw (tree-new, room-new, trees-new, kept_same, absent, le-ltb largest (size t) b, le-ltb deepest (depth t) d, length_trees m n, lt-ltb n (room m) r) refl
+        new_answer = rw (tree_new, room_new, trees_new, kept_same, absent, le-ltb largest (size t) b, le-ltb deepest (depth t) d, length_trees m n, lt-ltb n (room m) r) refl

@@ -1,4 +1,4 @@
--- The lent rows, read as four lists: with these laws all that is stated over `Memory` holds of them. Besides, only `one-memory` of OneAnswer opens `memory`.
+-- The lent rows, read as four lists: with these laws all that is stated over `Memory` holds of them. Besides, only `one_memory` of OneAnswer opens `memory`.
 -- Assumes nothing.
 use mathlib.Core.Path.{◌≡◌, refl, sym, ap, ◌∙◌}
 use mathlib.Core.List.{List, [], ◌∷◌, map}

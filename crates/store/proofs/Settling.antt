@@ -141,23 +141,23 @@ module _ {A : Type 0} {F : Tree → A} (c : Compositional F) where
     still_ordered = record { fits = rw (length-set m.tag node 1, length-set m.first node (bits_of z.re), length-set m.second node (bits_of z.im), length-set m.link node 0) o.fits; within = still_within }
 
     module _ (p : F (leaf (number z)) ≡ F (tree_at m node)) where
-      at-node : F (tree_at (with_number m node z) node) ≡ F (tree_at m node)
+      at_node : F (tree_at (with_number m node z) node) ≡ F (tree_at m node)
       unfolding grown
-      at-node = ap F (tree_own (with_number m node z) node (still_within node l) ∙ ap (tree_of (with_number m node z)) number_there) ∙ p
+      at_node = ap F (tree_own (with_number m node z) node (still_within node l) ∙ ap (tree_of (with_number m node z)) number_there) ∙ p
 
-      still-same : (b k : ℕ) → k < b → k < n → F (tree_at (with_number m node z) k) ≡ F (tree_at m k)
-      still-same zero k h i = absurd (omega arith)
-      still-same (suc b) k h i = go (λ j x. still-same b j (omega (arith, x, h)) (omega (arith, x, i))) (ℕ_discrete k node)
+      still_same : (b k : ℕ) → k < b → k < n → F (tree_at (with_number m node z) k) ≡ F (tree_at m k)
+      still_same zero k h i = absurd (omega arith)
+      still_same (suc b) k h i = go (λ j x. still_same b j (omega (arith, x, h)) (omega (arith, x, i))) (ℕ_discrete k node)
         where
           go : ((j : ℕ) → j < k → F (tree_at (with_number m node z) j) ≡ F (tree_at m j)) → Dec (k ≡ node) → F (tree_at (with_number m node z) k) ≡ F (tree_at m k)
-          go below (yes e) = rw e at-node
+          go below (yes e) = rw e at_node
           go below (no d) =
               ap F (tree_own (with_number m node z) k (still_within k i) ∙ ap (tree_of (with_number m node z)) (other_there k d))
               ∙ grown_same (tree_at (with_number m node z)) (tree_at m) k (expression_at m k) (o.within k i) below
               ∙ ap F (sym (tree_own m k (o.within k i)))
 
       pub settles : Settling F n m (with_number m node z)
-      settles = record { ordered = still_ordered; same = λ k i. still-same n k i i; rows = rows }
+      settles = record { ordered = still_ordered; same = λ k i. still_same n k i i; rows = rows }
         where
           rows : (k : ℕ) → IsNumber (with_number m node z) k ⊎ (fields_at (with_number m node z) k ≡ fields_at m k)
           rows k = go (ℕ_discrete k node)

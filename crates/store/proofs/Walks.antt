@@ -227,12 +227,12 @@ module _ (m : Memory) (q : ℕ) (f key : Fields) (k : key ≡ key_of (class_at m
     meets_own x y = all_same (fields_at m q) f code_is (sym ea ∙ x) (sym eb ∙ y)
 
     module _ {a' : ℕ} (ea' : a' ≡ word_key (class_at m) 5 (f.code % 8) a) where
-      first-is : a' ≡ (key_at m q).first
+      first_is_lem : a' ≡ (key_at m q).first
       unfolding key_at key_of fields_on
-      first-is = ea' ∙ rw (code_is, ea) refl
+      first_is_lem = ea' ∙ rw (code_is, ea) refl
 
       pub meets_first : (a' ≡ key.first → ⊥) → Meets m q f key Meeting.Stranger
-      meets_first x p = x (first-is ∙ ap (λ g. g.first) p)
+      meets_first x p = x (first_is_lem ∙ ap (λ g. g.first) p)
 
       module _ {b' : ℕ} (eb' : b' ≡ word_key (class_at m) 7 (f.code % 8) b) where
         second_is : b' ≡ (key_at m q).second
@@ -244,4 +244,4 @@ module _ (m : Memory) (q : ℕ) (f key : Fields) (k : key ≡ key_of (class_at m
 
         pub meets_kin : a' ≡ key.first → b' ≡ key.second → (fields_at m q ≡ f → ⊥) → Meets m q f key Meeting.Kin
         unfolding key_at key_of fields_on
-        meets_kin x y z = (all_same (key_at m q) key (code_is ∙ sym (ap (λ g. g.code) k)) (sym first-is ∙ x) (sym second_is ∙ y), z)
+        meets_kin x y z = (all_same (key_at m q) key (code_is ∙ sym (ap (λ g. g.code) k)) (sym first_is_lem ∙ x) (sym second_is ∙ y), z)

@@ -1,5 +1,5 @@
 -- The hash by which the index spreads keys over its buckets. Only connecting, and any function of a key would do: all that is known of this one is
--- `hash-below` (proofs/Hashing), and only that law and the proof of `hash_of` open it.
+-- `hash_below` (proofs/Hashing), and only that law and the proof of `hash_of` open it.
 use Rattle.std.specs.Prelude.{ℕ, ◌+◌, ◌*◌, ◌%◌, ◌/◌}
 use Rattle.store.specs.declared.node.Fields.{Fields}
 

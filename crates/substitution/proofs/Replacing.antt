@@ -271,28 +271,28 @@ module _ {given : List Listings.Swap} {nodes swaps node : ℕ} {l : Lent} {table
       p : Got l left l₁
       p = got first.built h
 
-      right-stays : tree_in l₁ b ≡ tree_in l b
-      right-stays = p.stays b (omega (arith, (two_inside told).1, stands))
+      right_stays : tree_in l₁ b ≡ tree_in l b
+      right_stays = p.stays b (omega (arith, (two_inside told).1, stands))
 
-      left-stands : Got l₁ y l₂ → LeftIn e l₂.rows (count l₂.desk) left (tree_in l₁ left)
-      left-stands p₂ = left_in e l₂.rows (count l₂.desk) left (tree_in l₁ left) (older p₂ p.inside) (p₂.stays left p.inside)
+      left_stands : Got l₁ y l₂ → LeftIn e l₂.rows (count l₂.desk) left (tree_in l₁ left)
+      left_stands p₂ = left_in e l₂.rows (count l₂.desk) left (tree_in l₁ left) (older p₂ p.inside) (p₂.stays left p.inside)
 
-      two-known : r < refused_from → Settled given l₃ (tree_in l node) (tree_in l₃ r) × Knows given nodes swaps l₃ table₃
+      two_known : r < refused_from → Settled given l₃ (tree_in l node) (tree_in l₃ r) × Knows given nodes swaps l₃ table₃
       unfolding from_left from_one_lem and_then
-      two-known z =
+      two_known z =
           let i = last_node q z in
           let p₂ = got second.built i in
           let tree : tree_in l₂ node ≡ tree_in l node = p₂.stays node (older p stands) ∙ p.stays node stands in
-          rebuilt_known q (wrap e (tree_in l₁ left) (tree_in l₂ y)) (second.knows i) o tree z (rebuilt_added q (tree_in l₁ left) i p₂ (left-stands p₂)) λ l'' step.
+          rebuilt_known q (wrap e (tree_in l₁ left) (tree_in l₂ y)) (second.knows i) o tree z (rebuilt_added q (tree_in l₁ left) i p₂ (left_stands p₂)) λ l'' step.
           sym (as_two (state_in l'')) ∙ ap (λ w. and_then w (from_left given l.rows (state_in l'') e b)) ((first.settled h).again l'' (both second.built.step step))
-          ∙ ap (λ t. and_then (substitute given t (state_in l'')) (from_one_lem given l.rows (state_in l'') e (tree_in l₁ left))) (sym right-stays)
+          ∙ ap (λ t. and_then (substitute given t (state_in l'')) (from_one_lem given l.rows (state_in l'') e (tree_in l₁ left))) (sym right_stays)
           ∙ ap (λ w. and_then w (from_one_lem given l.rows (state_in l'') e (tree_in l₁ left))) ((second.settled i).again l'' step)
 
       pub two_replaced : Replaced given nodes swaps node r l l₃ table₃
       unfolding from_left from_one_lem
       two_replaced = record {
         built = named (as_two (state_in l)) (then_node (from_left given l.rows (state_in l) e b) first.built h λ p.
-            rebuilt_built q (tree_in l₁ left) (named (ap (λ t. substitute given t (state_in l₁)) right-stays) second.built) left-stands);
-        settled = λ z. (two-known z).0;
-        knows = λ z. (two-known z).1;
+            rebuilt_built q (tree_in l₁ left) (named (ap (λ t. substitute given t (state_in l₁)) right_stays) second.built) left_stands);
+        settled = λ z. (two_known z).0;
+        knows = λ z. (two_known z).1;
       }

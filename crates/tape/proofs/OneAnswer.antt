@@ -35,7 +35,7 @@ one_slice Picked.First some p q = p.0 refl ∙ sym (q.0 refl)
 one_slice Picked.Second some p q = p.1 refl ∙ sym (q.1 refl)
 one_slice Picked.Nothing some p q = absurd (some refl)
 
--- and where it begins is one always; with its bytes (Checking, `one-picked`) this is all that a program sees of a slice
+-- and where it begins is one always; with its bytes (Checking, `one_picked`) this is all that a program sees of a slice
 pub one_pointer : (which : Picked) {a b r r' : Bor (List ℕ)} → Own which a b r → Own which a b r' → r.ref_ptr ≡ r'.ref_ptr
 one_pointer Picked.First p q = ap (λ x. x.ref_ptr) (p.0 refl ∙ sym (q.0 refl))
 one_pointer Picked.Second p q = ap (λ x. x.ref_ptr) (p.1 refl ∙ sym (q.1 refl))

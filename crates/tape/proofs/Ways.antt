@@ -244,9 +244,9 @@ module _ (f : Fields) where
       unfolding value_of calculate_infix numbered
       value_over {r} n a b c t = go (eqb f.sub 4) refl
         where
-          is-four : f.sub ≡ 4 → Evaluation.Value r ≡ value_of rows (step_of f) x y
-          is-four e = rw (as_operator l p q, e) (ap Evaluation.Value t)
+          is_four : f.sub ≡ 4 → Evaluation.Value r ≡ value_of rows (step_of f) x y
+          is_four e = rw (as_operator l p q, e) (ap Evaluation.Value t)
 
           go : (s : Bool) → eqb f.sub 4 ≡ s → Evaluation.Value r ≡ value_of rows (step_of f) x y
-          go true e = is-four (eqb-true f.sub 4 e)
+          go true e = is_four (eqb-true f.sub 4 e)
           go false e = never (sym (asks_caret a b c (λ g. never (sym e ∙ eq-eqb f.sub 4 g)) ∙ n))

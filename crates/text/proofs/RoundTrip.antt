@@ -1,4 +1,4 @@
--- What is written reads back: `decimal-reads`, `hex-reads`, and as fields `decimal-field`, `hex-field`. Assumes nothing.
+-- What is written reads back: `decimal_reads`, `hex_reads`, and as fields `decimal_field_lem`, `hex_field_lem`. Assumes nothing.
 use Rattle.std.proofs.Common.{◌≡◌, ℕ, zero, suc, ◌+◌, ◌-◌, ◌*◌, ◌/◌, ◌%◌, ◌^◌, ◌<◌, ◌≤◌, List, [], ◌∷◌, ◌++◌, map, length, get_or, sym, refl, ap, ◌∙◌, append_assoc, append-nil, pow-suc, arith, length-append, le-ltb, lt-ltb, eq-eqb, ne_eqb}
 use native.Mathlib.Decide.{dec_lt}
 use lib.ListN.{length-map, get_or-append}

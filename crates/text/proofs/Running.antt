@@ -229,19 +229,19 @@ module _ {s : List ℕ} {at limit f d v i : ℕ} (g : Going s at limit f d v i) 
           let e = sym (digit_low (get_or s at 0) first l) in
           rw e at (run_more s at (omega (arith, e, l)))
 
-      tail-long : length tail ≡ i - at - 1
-      tail-long = omega (arith, rw leads at long)
+      tail_long : length tail ≡ i - at - 1
+      tail_long = omega (arith, rw leads at long)
 
       pub zeros : f ≡ 0 → 1 < i - at → bad ≡ decimal limit (drop at s)
       unfolding decimal spelt
-      zeros z h = sym (rw (leads, eq-eqb f 0 z, lt-ltb 0 (length tail) (omega (arith, tail-long, h))))
+      zeros z h = sym (rw (leads, eq-eqb f 0 z, lt-ltb 0 (length tail) (omega (arith, tail_long, h))))
 
       pub zero_alone : f ≡ 0 → i - at ≤ 1 → is v (drop i s) ≡ decimal limit (drop at s)
       unfolding decimal spelt
       zero_alone z h =
           let r = rw leads at rest_is in
           let q = rw leads at spells in
-          sym (rw (leads, eq-eqb f 0 z, le-ltb 0 (length tail) (omega (arith, tail-long, h)), r, q, lt-ltb v limit (g.below (omega (arith, g.from, some)))))
+          sym (rw (leads, eq-eqb f 0 z, le-ltb 0 (length tail) (omega (arith, tail_long, h)), r, q, lt-ltb v limit (g.below (omega (arith, g.from, some)))))
 
       pub no_zero : (f ≡ 0 → ⊥) → is v (drop i s) ≡ decimal limit (drop at s)
       unfolding decimal spelt

@@ -1,5 +1,5 @@
 -- The decimal digits of a number. Only connecting: the fuel never runs out, and `digits` is the one function of which this holds: n has the one
--- digit n below 10, and else the digits of n / 10 and then n % 10 (proofs/Putting.antt: `digits-one`, `digits_more`, `digits-only`).
+-- digit n below 10, and else the digits of n / 10 and then n % 10 (proofs/Putting.antt: `digits_one`, `digits_more`, `digits_only`).
 use Rattle.std.specs.Prelude.{ℕ, zero, suc, ◌/◌, ◌%◌, Bool, true, false, List, [], ◌∷◌, ◌++◌, nat_lt}
 
 -- the digits of n, where `small` tells whether n is below 10; `fuel` is at least n

@@ -21,7 +21,7 @@ at_line s [] next = read s
 at_line s (b ∷ bs) next = next b bs
 
 -- The lines that are left, each by its first byte and the bytes after that. `fuel` is the number of bytes that are left: a line has at least
--- one, so that it never runs out, and more of it changes nothing (proofs/Lining.antt, `more-changes-nothing`, `next-line`).
+-- one, so that it never runs out, and more of it changes nothing (proofs/Lining.antt, `more_changes_nothing`, `next_line_lem`).
 unfoldable pub lines_by : {S R : Type 0} → (fuel : ℕ) → (line : S → ℕ → List ℕ → Line S R) → S → List ℕ → Whole S R
 lines_by zero line s bs = read s
 lines_by (suc fuel) line s bs = at_line s bs (λ b bs. after_line (line s b bs) (λ s bs. lines_by fuel line s bs))

@@ -20,7 +20,7 @@ pub record Reads (want : Read ℕ) (text : List ℕ) (r : Number) : Type 0 where
   pub inside : Inside text r
 
 -- how far a byte is above that of 0, and above that of A, in the circle of the 256 bytes: below 10 for 0-9, below 6 for A-F (proofs/Running.antt,
--- `digit_low`, `digit-high`, `digit-none`)
+-- `digit_low`, `digit_high`, `digit_none`)
 unfoldable pub low_digit : ℕ → ℕ
 low_digit b = cond (nat_lt b 48) (b + 208) (b - 48)
 

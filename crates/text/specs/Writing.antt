@@ -9,7 +9,7 @@ unfoldable pub byte_of : ℕ → ℕ
 byte_of d = cond (nat_lt d 10) (letter "0" + d) (letter "A" + (d - 10))
 
 -- n in decimal, without leading zeros. `digits n` is n alone below 10, and else the digits of n / 10 and then n % 10 (proofs/Putting.antt,
--- `digits-one`, `digits_more`)
+-- `digits_one`, `digits_more`)
 unfoldable pub in_decimal : ℕ → List ℕ
 in_decimal n = map byte_of (digits n)
 

@@ -1,5 +1,5 @@
--- A stored tree's written listing fits into the store it was in: `order-room`; so what the code wrote reads back with as much work memory,
--- `written-reads-back`, and with origins `traced-reads-back`. Assumes nothing.
+-- A stored tree's written listing fits into the store it was in: `order_room`; so what the code wrote reads back with as much work memory,
+-- `written_reads_back`, and with origins `traced_reads_back`. Assumes nothing.
 use mathlib.Core.Path.{◌≡◌, refl, sym, ◌∙◌, subst}
 use mathlib.Core.List.{List, [], ◌∷◌, ◌++◌}
 use mathlib.Core.Logic.{⊎_elim}

@@ -1,4 +1,4 @@
--- What is written reads back, without origins and with them: `reads-back`, `reads-back-traced`; and writing again gives the same bytes,
+-- What is written reads back, without origins and with them: `reads_back`, `reads_back_traced`; and writing again gives the same bytes,
 -- `writes_again`. Assumes nothing.
 use mathlib.Core.Path.{◌≡◌, refl, sym, ap, ◌∙◌}
 use mathlib.Core.List.{List, [], ◌∷◌, ◌++◌, append_assoc, append-nil}
@@ -171,8 +171,8 @@ stores room done t n h =
 takes : (substituting : Bool) (room : ℕ) (done later : List Tree) (t : Tree) {after rest : List ℕ} → Closes after rest → Propers done → Next done t → length done < 1024 → length done < room
     → listing_line substituting (known_of room done) (head_of t) (tail_of (done ++ later) t after) ≡ goes (known_of room (done ++ (t ∷ []))) rest
 unfolding listing_line node_line none formed stored
-takes substituting room done later t e p n few room-left =
-    rw (head_no_s t, lt-ltb (length done) 1024 few, line_reads done later p t e n.kids n.is_proper, stores room done t n room-left)
+takes substituting room done later t e p n few room_left =
+    rw (head_no_s t, lt-ltb (length done) 1024 few, line_reads done later p t e n.kids n.is_proper, stores room done t n room_left)
 
 -- ---- all lines
 

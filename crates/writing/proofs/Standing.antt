@@ -1,4 +1,4 @@
--- What is said of a listing with origins, by its trees: of each line in order exactly its origin, `standing-says`. Assumes nothing.
+-- What is said of a listing with origins, by its trees: of each line in order exactly its origin, `standing_says`. Assumes nothing.
 use mathlib.Core.Path.{◌≡◌, refl, ap, ◌∙◌}
 use mathlib.Core.List.{List, [], ◌∷◌, ◌++◌}
 use mathlib.Core.Bool.{Bool, true, false}

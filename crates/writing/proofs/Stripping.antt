@@ -1,5 +1,5 @@
 -- A listing with origins, its fields of origins taken out, is the listing without: `strips`; and so are the bytes that are written,
--- `written-stripped`. Assumes nothing.
+-- `written_stripped`. Assumes nothing.
 use mathlib.Core.Path.{◌≡◌, refl, ap, ◌∙◌, subst}
 use mathlib.Core.List.{List, [], ◌∷◌, ◌++◌, map}
 use mathlib.Core.Bool.{not}

@@ -216,57 +216,57 @@ module _ {m : Memory} {n : ℕ} (h : Holds m n) {rows : Memory} {table : List �
         l₂ : Listed m n rows₂ table₂ right
         l₂ = v₂.listed
 
-        room-left : right < most_rows
-        room-left = omega (arith, room_small h, pigeon n (right + 1) f below-n apart)
+        room_left : right < most_rows
+        room_left = omega (arith, room_small h, pigeon n (right + 1) f below_n apart)
           where
             f : ℕ → ℕ
             f k = cond (ltb k right) (get_or table₂ k 0) node
 
-            f-old : (k : ℕ) → k < right → f k ≡ get_or table₂ k 0
-            f-old k p = rw (lt-ltb k right p)
+            f_old : (k : ℕ) → k < right → f k ≡ get_or table₂ k 0
+            f_old k p = rw (lt-ltb k right p)
 
-            f-new : (k : ℕ) → right ≤ k → f k ≡ node
-            f-new k p = rw (le-ltb k right p)
+            f_new : (k : ℕ) → right ≤ k → f k ≡ node
+            f_new k p = rw (le-ltb k right p)
 
-            below-n : (k : ℕ) → k < right + 1 → f k < n
-            below-n k p = go (dec_lt k right)
+            below_n : (k : ℕ) → k < right + 1 → f k < n
+            below_n k p = go (dec_lt k right)
               where
                 go : Dec (k < right) → f k < n
-                go (yes y) = rw (f-old k y) (l₂.nodes k y)
-                go (no y) = rw (f-new k (omega arith)) inside
+                go (yes y) = rw (f_old k y) (l₂.nodes k y)
+                go (no y) = rw (f_new k (omega arith)) inside
 
             apart : (i j : ℕ) → i < right + 1 → j < right + 1 → f i ≡ f j → i ≡ j
             apart i j p q z = go (dec_lt i right) (dec_lt j right)
               where
                 go : Dec (i < right) → Dec (j < right) → i ≡ j
                 go (yes x) (yes y) =
-                    let w : get_or table₂ i 0 ≡ get_or table₂ j 0 = sym (f-old i x) ∙ z ∙ f-old j y in
+                    let w : get_or table₂ i 0 ≡ get_or table₂ j 0 = sym (f_old i x) ∙ z ∙ f_old j y in
                     sym (l₂.marks i x) ∙ ap (λ a. get_or rows₂.link a 0) w ∙ l₂.marks j y
-                go (yes x) (no y) = absurd (unlisted₂ i x (sym (f-old i x) ∙ z ∙ f-new j (omega arith)))
-                go (no x) (yes y) = absurd (unlisted₂ j y (sym (f-old j y) ∙ sym z ∙ f-new i (omega arith)))
+                go (yes x) (no y) = absurd (unlisted₂ i x (sym (f_old i x) ∙ z ∙ f_new j (omega arith)))
+                go (no x) (yes y) = absurd (unlisted₂ j y (sym (f_old j y) ∙ sym z ∙ f_new i (omega arith)))
                 go (no x) (no y) = omega arith
 
         entered : Entered rows₂ table₂ node right r' rows₃ table₃
-        entered = enters room-left
+        entered = enters room_left
 
-        links-are : rows₃.link ≡ set rows₂.link node right
-        links-are = ap (λ (q : Memory). q.link) entered.marked
+        links_are : rows₃.link ≡ set rows₂.link node right
+        links_are = ap (λ (q : Memory). q.link) entered.marked
 
         kept_line : (k : ℕ) → k < right → get_or table₃ k 0 ≡ get_or table₂ k 0
         kept_line k p = rw entered.put (get_or-set_other table₂ right k node 0 (λ z. omega (arith, z, p)))
 
-        at-end : get_or table₃ right 0 ≡ node
-        at-end = rw entered.put (get_or-set_same table₂ right node 0 (omega (arith, l₂.long, room-left)))
+        at_end_law : get_or table₃ right 0 ≡ node
+        at_end_law = rw entered.put (get_or-set_same table₂ right node 0 (omega (arith, l₂.long, room_left)))
 
-        kept-mark : (k : ℕ) → (k ≡ node → ⊥) → get_or rows₃.link k 0 ≡ get_or rows₂.link k 0
-        kept-mark k p = rw links-are (get_or-set_other rows₂.link node k right 0 p)
+        kept_mark : (k : ℕ) → (k ≡ node → ⊥) → get_or rows₃.link k 0 ≡ get_or rows₂.link k 0
+        kept_mark k p = rw links_are (get_or-set_other rows₂.link node k right 0 p)
 
         at_mark : get_or rows₃.link node 0 ≡ right
-        at_mark = rw links-are (get_or-set_same rows₂.link node right 0 (omega (arith, l₂.links, inside)))
+        at_mark = rw links_are (get_or-set_same rows₂.link node right 0 (omega (arith, l₂.links, inside)))
 
         lines_are : line_trees m table₃ (right + 1) ≡ finished (tree_at m node) (line_trees m table count)
         lines_are =
-            up_to_grown right (λ k. tree_at m (get_or table₃ k 0)) (λ k. tree_at m (get_or table₂ k 0)) (tree_at m node) (λ k p. ap (tree_at m) (kept_line k p)) (ap (tree_at m) at-end)
+            up_to_grown right (λ k. tree_at m (get_or table₃ k 0)) (λ k. tree_at m (get_or table₂ k 0)) (tree_at m node) (λ k p. ap (tree_at m) (kept_line k p)) (ap (tree_at m) at_end_law)
             ∙ sym (once_new (tree_at m node) (line_trees m table₂ right) new₂)
             ∙ ap (once (tree_at m node)) done₂
             ∙ subst (λ t. once t (visited m (children_of e).right node (visited m (children_of e).left node (line_trees m table count))) ≡ finished t (line_trees m table count)) parts.1
@@ -277,19 +277,19 @@ module _ {m : Memory} {n : ℕ} (h : Holds m n) {rows : Memory} {table : List �
         visit_entered = rw entered.next (record {
           listed = record {
             same = link_put m rows₂ l₂.same node right entered.marked;
-            links = rw links-are (omega (arith, l₂.links, length-set rows₂.link node right));
+            links = rw links_are (omega (arith, l₂.links, length-set rows₂.link node right));
             long = rw entered.put (omega (arith, l₂.long, length-set table₂ right node));
             nodes = λ k p. node_at k p (dec_lt k right);
             laid = rw lines_are (finished_laid (tree_at m node) (line_trees m table count) l.laid (proper h node) (limited h node inside)).0;
-            marks = λ k p. mark-at k p (dec_lt k right);
+            marks = λ k p. mark_at k p (dec_lt k right);
           };
           done = rw (lt-ltb node below o) lines_are;
         })
           where
             node_at : (k : ℕ) → k < right + 1 → Dec (k < right) → get_or table₃ k 0 < n
             node_at k p (yes y) = rw (kept_line k y) (l₂.nodes k y)
-            node_at k p (no y) = let z : k ≡ right = omega arith in rw (z, at-end) inside
+            node_at k p (no y) = let z : k ≡ right = omega arith in rw (z, at_end_law) inside
 
-            mark-at : (k : ℕ) → k < right + 1 → Dec (k < right) → get_or rows₃.link (get_or table₃ k 0) 0 ≡ k
-            mark-at k p (yes y) = rw (kept_line k y) (kept-mark (get_or table₂ k 0) (unlisted₂ k y) ∙ l₂.marks k y)
-            mark-at k p (no y) = let z : k ≡ right = omega arith in rw (z, at-end) at_mark
+            mark_at : (k : ℕ) → k < right + 1 → Dec (k < right) → get_or rows₃.link (get_or table₃ k 0) 0 ≡ k
+            mark_at k p (yes y) = rw (kept_line k y) (kept_mark (get_or table₂ k 0) (unlisted₂ k y) ∙ l₂.marks k y)
+            mark_at k p (no y) = let z : k ≡ right = omega arith in rw (z, at_end_law) at_mark

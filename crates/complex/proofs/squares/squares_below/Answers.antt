@@ -1,4 +1,4 @@
--- `complex::squares::squares_below` meets its contract: the squares cut off at T's last place decide (`Decide`, `by-cut-squares`).
+-- `complex::squares::squares_below` meets its contract: the squares cut off at T's last place decide (`Decide`, `by_cut_squares`).
 -- Assumes nothing.
 use Rattle.std.proofs.Common.{◌%◌, ◌^◌, ltb, sym, ◌∙◌}
 use Rattle.complex.specs.Parts.{magnitude_of_bits, cut_square}

@@ -1,4 +1,4 @@
--- `decimal_length` meets its contract, by the equations of `inDecimal`. The measure is the number. Assumes nothing.
+-- `decimal_length` meets its contract, by the equations of `in_decimal`. The measure is the number. Assumes nothing.
 use Rattle.std.proofs.Common.{sym, arith}
 use Rattle.text.proofs.Putting.{one_length, two_length, three_length, more_length, few_digits}
 use Rattle.text.proofs.writing.+decimal_length.Goals as goal
