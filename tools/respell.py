@@ -3,7 +3,7 @@
 
 usage: respell.py [--check] FOLDER      (FOLDER has crates/ and tests/strength/)
 
-It was run once, after port.py, for the move to another kit. `isZero` becomes `is_zero`, `set-swap` becomes `set_swap`.
+It was run after port.py, for the move to another kit, and twice more for names that it had passed over. `isZero` becomes `is_zero`, `set-swap` becomes `set_swap`.
 A name that a library of the kit declares too is turned only in the files that declare it or import it from a crate of this repository.
 Where a definition and a lemma would fall together, the definition has the name and the lemma gets `_lem` at its end.
 What stands behind a dot in a function's proof files is turned only if it is a field that the repository declares.
