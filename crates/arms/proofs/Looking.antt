@@ -1,11 +1,11 @@
 -- What a test of a node or of its operands shows. Assumes nothing.
 use mathlib.Core.Path.{◌≡◌, refl, sym, ◌∙◌, subst}
-use mathlib.Core.Bool.{Bool, true, false, not}
+use mathlib.Core.Bool.{Bool, true, false}
 use Prim.Native.Nat.{ℕ, ◌<◌}
 use native.Mathlib.Omega.{arith}
 use lib.Dec.{T}
 use Rattle.complex.specs.declared.Complex.{Complex}
-use Rattle.expression.specs.Trees.{Tree, number, pi, variable, cell, leaf, function_call, prefixed, infixed}
+use Rattle.expression.specs.Trees.{Tree}
 use Rattle.expression.specs.Alike.{equal}
 use Rattle.expression.specs.declared.InfixOperator.{InfixOperator}
 use Rattle.expression.specs.declared.node.Expression.{Expression}
@@ -13,9 +13,10 @@ use Rattle.expression.specs.Nodes.{grown, Within}
 use Rattle.store.specs.Memory.{Memory, expression_at, tree_at, tree_of}
 use Rattle.store.specs.Held.{Holds, Compares}
 use Rattle.store.proofs.Stored.{read_node}
-use Rattle.arms.specs.Looks.{is_number_of, is_number, number_in, is_negation, under, is_infix, left, right}
+use Rattle.arms.specs.Looks.{is_number_of, is_number, is_infix, left, right}
 use Rattle.arms.specs.Tables.{both_hold, either_holds}
-use Rattle.arms.specs.Choosing.{At, operand_in, left_in, right_in, Parts, Sits}
+use Rattle.std.specs.Prelude.{Option, Some, None}
+use Rattle.arms.specs.Choosing.{At, Finds, Sits}
 
 pub never : {A : Type 0} → false ≡ true → A
 never e = absurd (subst T (sym e) tt)
@@ -26,25 +27,15 @@ so p q = sym p ∙ q
 
 -- ---- numbers
 
-pub number_of : (test : Complex → Bool) (t : Tree) → is_number t ≡ true → test (number_in t) ≡ is_number_of test t
-unfolding is_number_of number_in
-number_of test (leaf (number z)) e = refl
-number_of test (leaf pi) e = never e
-number_of test (leaf (variable v)) e = never e
-number_of test (leaf (cell region index)) e = never e
-number_of test (function_call f t) e = never e
-number_of test (prefixed o t) e = never e
-number_of test (infixed o l r) e = never e
-
-pub not_number : (test : Complex → Bool) (t : Tree) → is_number t ≡ false → false ≡ is_number_of test t
-unfolding is_number_of
-not_number test (leaf (number z)) e = never (sym e)
-not_number test (leaf pi) e = refl
-not_number test (leaf (variable v)) e = refl
-not_number test (leaf (cell region index)) e = refl
-not_number test (function_call f t) e = refl
-not_number test (prefixed o t) e = refl
-not_number test (infixed o l r) e = refl
+pub other_than_number : (e : Expression) → ((z : Complex) → e ≡ Expression.Number z → ⊥) → (m : Memory) → is_number (tree_of m e) ≡ false
+unfolding is_number_of grown
+other_than_number (Expression.Number z) f m = absurd (f z refl)
+other_than_number Expression.PiConstant f m = refl
+other_than_number (Expression.Variable v) f m = refl
+other_than_number (Expression.Address region index) f m = refl
+other_than_number (Expression.FunctionCall g a) f m = refl
+other_than_number (Expression.Prefix o a) f m = refl
+other_than_number (Expression.Infix o a b) f m = refl
 
 -- ---- of two tests
 
@@ -52,23 +43,6 @@ pub first_of_both : (a b : Bool) → both_hold a b ≡ true → a ≡ true
 unfolding both_hold
 first_of_both true b e = refl
 first_of_both false b e = e
-
-pub second_of_both : (a b : Bool) → both_hold a b ≡ true → b ≡ true
-unfolding both_hold
-second_of_both true b e = e
-second_of_both false b e = never e
-
--- the same of a callee that was told two answers
-pub first_told : {a p r : Bool} (b : Bool) → r ≡ both_hold a b → a ≡ p → r ≡ true → p ≡ true
-first_told b e f g = sym f ∙ first_of_both _ b (so e g)
-
-pub second_told : {b p r : Bool} (a : Bool) → r ≡ both_hold a b → b ≡ p → r ≡ true → p ≡ true
-second_told a e f g = sym f ∙ second_of_both a _ (so e g)
-
-pub other_of_either : (a b : Bool) → either_holds a b ≡ true → b ≡ false → a ≡ true
-unfolding either_holds
-other_of_either true b e f = refl
-other_of_either false b e f = never (sym f ∙ e)
 
 -- by the first of them
 pub both_yes : {a b c r : Bool} → a ≡ c → c ≡ true → r ≡ b → r ≡ both_hold a b
@@ -79,27 +53,31 @@ pub both_not : {a c : Bool} (b : Bool) → a ≡ c → c ≡ false → false ≡
 unfolding both_hold
 both_not b e f = rw (e ∙ f) refl
 
-pub both_of : {a b p q r : Bool} → r ≡ both_hold a b → a ≡ p → b ≡ q → r ≡ both_hold p q
-both_of e f g = e ∙ (λ i. both_hold (f i) (g i))
+pub both_true : {a b : Bool} → a ≡ true → b ≡ true → both_hold a b ≡ true
+unfolding both_hold
+both_true e f = rw e f
 
-pub either_of : {a b p q r : Bool} → r ≡ either_holds a b → a ≡ p → b ≡ q → r ≡ either_holds p q
-either_of e f g = e ∙ (λ i. either_holds (f i) (g i))
+pub not_first : {a : Bool} (b : Bool) → a ≡ false → both_hold a b ≡ false
+unfolding both_hold
+not_first b e = rw e refl
 
-pub either_yes : {a c : Bool} (b : Bool) → a ≡ c → c ≡ true → true ≡ either_holds a b
+pub not_second : (a : Bool) {b : Bool} → b ≡ false → both_hold a b ≡ false
+unfolding both_hold
+not_second true e = e
+not_second false e = refl
+
+pub either_first : {a : Bool} (b : Bool) → a ≡ true → either_holds a b ≡ true
 unfolding either_holds
-either_yes b e f = rw (e ∙ f) refl
+either_first b e = rw e refl
 
-pub either_not : {a b c r : Bool} → a ≡ c → c ≡ false → r ≡ b → r ≡ either_holds a b
+pub either_second : (a : Bool) {b : Bool} → b ≡ true → either_holds a b ≡ true
 unfolding either_holds
-either_not e f g = rw (e ∙ f) g
+either_second true e = refl
+either_second false e = e
 
-pub not_true : (b : Bool) → not b ≡ true → b ≡ false
-not_true true e = never e
-not_true false e = refl
-
-pub not_false : (b : Bool) → not b ≡ false → b ≡ true
-not_false true e = refl
-not_false false e = sym e
+pub neither : {a b : Bool} → a ≡ false → b ≡ false → either_holds a b ≡ false
+unfolding either_holds
+neither e f = rw e f
 
 -- ---- nodes and their trees
 
@@ -116,9 +94,6 @@ module _ {m : Memory} {n : ℕ} where
   pub here : {k : ℕ} → k < n → At m n k (tree_at m k)
   here l = record { inside = l; tree = refl }
 
-  pub at_named : {k : ℕ} {t u : Tree} → t ≡ u → At m n k t → At m n k u
-  at_named e a = record { inside = a.inside; tree = a.tree ∙ e }
-
   -- a node that was read
   pub tree_of_lem : Holds m n → {k : ℕ} {e : Expression} → k < n → e ≡ expression_at m k → tree_of m e ≡ tree_at m k
   tree_of_lem h {k} l p = (read_node h k l p).1
@@ -129,43 +104,18 @@ module _ {m : Memory} {n : ℕ} where
   pub sits : Holds m n → {k : ℕ} {e : Expression} → k < n → e ≡ expression_at m k → Sits m n k e
   sits h l p = record { at = record { inside = l; tree = sym (tree_of_lem h l p) }; within = within_of h l p }
 
--- ---- operands, where the node has passed a test
+-- ---- what was found, and compared
 
-pub operand_parts : (e : Expression) {r : ℕ} → r ≡ operand_in e → Parts is_negation under e r
-unfolding operand_in is_negation under grown
-operand_parts (Expression.Number z) p = λ m n w e. never e
-operand_parts Expression.PiConstant p = λ m n w e. never e
-operand_parts (Expression.Variable v) p = λ m n w e. never e
-operand_parts (Expression.Address region index) p = λ m n w e. never e
-operand_parts (Expression.FunctionCall f a) p = λ m n w e. never e
-operand_parts (Expression.Prefix o a) p = rw p λ m n w e. record { inside = w; tree = refl }
-operand_parts (Expression.Infix o a b) p = λ m n w e. never e
+-- what was found is more than that
+pub finds_on : {A : Type 0} (b : Bool) {P Q : A → Type 0} (r : Option A) → ((x : A) → P x → Q x) → Finds b P r → Finds b Q r
+finds_on b None f p = p
+finds_on b (Some x) f p = (p.0, f x p.1)
 
-pub left_parts : (e : Expression) {r : ℕ} → r ≡ left_in e → (op : InfixOperator) → Parts (is_infix op) left e r
-unfolding left_in is_infix left grown
-left_parts (Expression.Number z) p = λ op m n w e. never e
-left_parts Expression.PiConstant p = λ op m n w e. never e
-left_parts (Expression.Variable v) p = λ op m n w e. never e
-left_parts (Expression.Address region index) p = λ op m n w e. never e
-left_parts (Expression.FunctionCall f a) p = λ op m n w e. never e
-left_parts (Expression.Prefix o a) p = λ op m n w e. never e
-left_parts (Expression.Infix o a b) p = rw p λ op m n w e. record { inside = w.0; tree = refl }
-
-pub right_parts : (e : Expression) {r : ℕ} → r ≡ right_in e → (op : InfixOperator) → Parts (is_infix op) right e r
-unfolding right_in is_infix right grown
-right_parts (Expression.Number z) p = λ op m n w e. never e
-right_parts Expression.PiConstant p = λ op m n w e. never e
-right_parts (Expression.Variable v) p = λ op m n w e. never e
-right_parts (Expression.Address region index) p = λ op m n w e. never e
-right_parts (Expression.FunctionCall f a) p = λ op m n w e. never e
-right_parts (Expression.Prefix o a) p = λ op m n w e. never e
-right_parts (Expression.Infix o a b) p = rw p λ op m n w e. record { inside = w.1; tree = refl }
+-- b and c of b op c, of an equal tree
+pub found_along : (m : Memory) (n : ℕ) (op : InfixOperator) {t u : Tree} (r : Option (ℕ × ℕ)) → t ≡ u
+    → Finds (is_infix op t) (λ p. At m n p.0 (left t) × At m n p.1 (right t)) r → Finds (is_infix op u) (λ p. At m n p.0 (left u) × At m n p.1 (right u)) r
+found_along m n op r e f = subst (λ t. Finds (is_infix op t) (λ p. At m n p.0 (left t) × At m n p.1 (right t)) r) e f
 
 -- two nodes that were compared
 pub compared : {m : Memory} {n a b : ℕ} {r : Bool} {t u : Tree} → Compares m a b r → Holds m n → At m n a t → At m n b u → r ≡ equal t u
 compared {n = n} c h a b = c n h a.inside b.inside ∙ (λ i. equal (a.tree i) (b.tree i))
-
--- a test of two nodes by their numbers, as one of their trees
-pub likened : (test : Tree → Tree → Bool) {m : Memory} {n a b : ℕ} {r : Bool} {t u : Tree} → (a < n → b < n → r ≡ test (tree_at m a) (tree_at m b))
-    → At m n a t → At m n b u → r ≡ test t u
-likened test c a b = c a.inside b.inside ∙ (λ i. test (a.tree i) (b.tree i))

@@ -1,6 +1,8 @@
 -- Two answers that a contract of `arms` allows are equal: an arm is determined by its plan, since a store has each tree once. Assumes nothing.
 use mathlib.Core.Path.{◌≡◌, refl, sym, ap, ◌∙◌}
 use mathlib.Core.Bool.{Bool, cond}
+use Rattle.std.specs.Prelude.{Option, Some, None}
+use Rattle.complex.specs.declared.Complex.{Complex}
 use mathlib.Core.List.{List, [], ◌∷◌, ◌++◌}
 use Prim.Native.Nat.{ℕ, ◌+◌, ◌*◌, ◌<◌}
 use lib.Dec.{eqb}
@@ -16,8 +18,9 @@ use Rattle.store.proofs.OneAnswer.{tells}
 use Rattle.arms.specs.declared.Arm.{Arm}
 use Rattle.arms.specs.declared.Outer.{Outer}
 use Rattle.arms.specs.Looks.{left, right}
+use Rattle.arms.proofs.Looking.{never}
 use Rattle.arms.specs.Arms.{Plan, the, new, folded, called, negation, combined, S, lesser, affine}
-use Rattle.arms.specs.Choosing.{At, plan_of, ArmIn, Chosen, Tells, TellsBoth, LikensTo, ChoosesAt, ChoosesOne, Selects}
+use Rattle.arms.specs.Choosing.{At, plan_of, ArmIn, Chosen, Tells, LikensTo, Finds, FindsOperand, FindsParts, FindsNumbers, FindsBeside, ChoosesAt, ChoosesOne, Selects}
 
 -- ---- the arm of a plan
 
@@ -110,6 +113,13 @@ module _ (m : Memory) {n : ℕ} {of : Tree → ℕ} (t : ByTree n (tree_at m) of
   arm_back (Arm.Double x a b) w = λ i. Arm.Double (t.number x w.0 i) (t.number a w.1 i) (t.number b w.2 i)
   arm_back (Arm.Affine a x b) w = λ i. Arm.Affine (node_back t a w.0 i) (t.number x w.1 i) (node_back t b w.2 i)
 
+-- what is found exactly where a test holds
+one_found : {A : Type 0} (b : Bool) (P : A → Type 0) → ((x y : A) → P x → P y → x ≡ y) → (r r' : Option A) → Finds b P r → Finds b P r' → r ≡ r'
+one_found b P f None None p q = refl
+one_found b P f None (Some y) p q = never (sym p ∙ q.0)
+one_found b P f (Some x) None p q = never (sym q ∙ p.0)
+one_found b P f (Some x) (Some y) p q = ap Some (f x y p.1 q.1)
+
 -- ---- `choose_infix`, `choose_function`, `choose_prefix` and what they call; `smaller`
 
 module _ {m : Memory} {n : ℕ} (h : Holds m n) where
@@ -128,18 +138,25 @@ module _ {m : Memory} {n : ℕ} (h : Holds m n) where
   pub one_selected : (select : Tree → Tree → Tree) (a b : ℕ) {r r' : ℕ} → a < n → b < n → Selects select m a b r → Selects select m a b r' → r ≡ r'
   one_selected select a b i j p q = one_at (p n h i j) (q n h i j)
 
-  -- ---- a test of a node's operands against another node: `begins_with`, `ends_with`
+  -- ---- a test of a node's operands against another node: `negates`
 
   pub one_likened : (test : Tree → Tree → Bool) (e : Expression) (k : ℕ) (t : Tree) {r r' : Bool} → Within n e → At m n k t
       → LikensTo test m e k r → LikensTo test m e k r' → r ≡ r'
   one_likened test e k t w a p q = p n t h w a ∙ sym (q n t h w a)
 
--- ---- an operand, which the node alone determines: `operand_in`, `left_in`, `right_in`
+  -- ---- what is found exactly where a test holds: `negated`, `parts_of`, `beside_last` and `beside_first`
 
-pub one_part : (part : Expression → ℕ) (e : Expression) {r r' : ℕ} → r ≡ part e → r' ≡ part e → r ≡ r'
-one_part part e p q = p ∙ sym q
+  pub one_operand : (e : Expression) {r r' : Option ℕ} → Within n e → FindsOperand e r → FindsOperand e r' → r ≡ r'
+  one_operand e w p q = one_found _ _ (λ x y a b. one_at a b) _ _ (p m n w) (q m n w)
 
--- ---- what is said in every memory needs no store: `is_number`, `number_in` and the other looks at a node alone, of one node or of two
+  pub one_pair : (op : InfixOperator) (e : Expression) {r r' : Option (ℕ × ℕ)} → Within n e → FindsParts op e r → FindsParts op e r' → r ≡ r'
+  one_pair op e w p q = one_found _ _ (λ x y a b i. (one_at a.0 b.0 i, one_at a.1 b.1 i)) _ _ (p m n w) (q m n w)
+
+  pub one_beside : (test : Tree → Tree → Bool) (part : Tree → Tree) (e : Expression) (k : ℕ) (t : Tree) {r r' : Option ℕ} → Within n e → At m n k t
+      → FindsBeside test part m e k r → FindsBeside test part m e k r' → r ≡ r'
+  one_beside test part e k t w a p q = one_found _ _ (λ x y c d. one_at c d) _ _ (p n t h w a) (q n t h w a)
+
+-- ---- what is said in every memory needs no store: `is_zero_number`, `is_one_number` and `numbers_of`
 
 pub one_look : {A : Type 0} (want : Memory → A) {r r' : A} → ((m : Memory) → r ≡ want m) → ((m : Memory) → r' ≡ want m) → r ≡ r'
 one_look want p q = p (columns [] [] [] []) ∙ sym (q (columns [] [] [] []))
@@ -147,5 +164,5 @@ one_look want p q = p (columns [] [] [] []) ∙ sym (q (columns [] [] [] []))
 pub one_told : (test : Tree → Bool) (e : Expression) {r r' : Bool} → Tells test e r → Tells test e r' → r ≡ r'
 one_told test e = one_look (λ m. test (tree_of m e))
 
-pub one_told_of_both : (test : Tree → Tree → Bool) (a b : Expression) {r r' : Bool} → TellsBoth test a b r → TellsBoth test a b r' → r ≡ r'
-one_told_of_both test a b = one_look (λ m. test (tree_of m a) (tree_of m b))
+pub one_of_numbers : (a b : Expression) {r r' : Option (Complex × Complex)} → FindsNumbers a b r → FindsNumbers a b r' → r ≡ r'
+one_of_numbers a b p q = let m = columns [] [] [] [] in one_found _ _ (λ x y c d i. ((c.0 ∙ sym d.0) i, (c.1 ∙ sym d.1) i)) _ _ (p m) (q m)

@@ -4,7 +4,7 @@ ghost use Rattle.arms.specs.Tables.{signed_difference, difference_plan};
 ghost use Rattle.arms.specs.Choosing.{ChoosesWhere, Chooses, always};
 
 use super::groups::choose_grouped;
-use super::looks::{are_numbers, has_infix, is_negation, is_zero_number, number_in, operand_in};
+use super::looks::{is_zero_number, negated, numbers_of};
 use super::{Arm, Outer};
 use complex::constants::zero;
 use expression::node::Expression;
@@ -16,21 +16,21 @@ fn choose_signed_difference(l: usize, r: usize, left: Expression, right: Express
     ensures { ChoosesWhere always signed_difference l r left right result }
 {
     // 20. l-(-e): S(l+e)
-    if is_negation(right) {
-        return Arm::Again(Expression::Infix(InfixOperator::Plus, l, operand_in(right)));
+    if let Some(e) = negated(right) {
+        return Arm::Again(Expression::Infix(InfixOperator::Plus, l, e));
     }
     // 21. (-e)-r: min(l-r, S(-S(e+r)))
-    if is_negation(left) {
+    if let Some(e) = negated(left) {
         return Arm::Smaller(
             Expression::Infix(InfixOperator::Minus, l, r),
-            Expression::Infix(InfixOperator::Plus, operand_in(left), r),
+            Expression::Infix(InfixOperator::Plus, e, r),
             Outer::Negated,
         );
     }
     // 31. l-(b-c): min(l-r, S(S(l+c)-b))
     // 32. (a-b)-r: min(l-r, S(a+S(b-r)))
-    if has_infix(left, right, InfixOperator::Minus) {
-        return choose_grouped(InfixOperator::Minus, l, r, left, right);
+    if let Some(arm) = choose_grouped(InfixOperator::Minus, l, r, left, right) {
+        return arm;
     }
     // 41. Rebuild
     Arm::Build(Expression::Infix(InfixOperator::Minus, l, r))
@@ -58,8 +58,8 @@ pub fn choose_difference(
         return Arm::Build(Expression::Number(zero()));
     }
     // 17. Two numbers: fold
-    if are_numbers(left, right) {
-        return Arm::Fold(InfixOperator::Minus, number_in(left), number_in(right));
+    if let Some((x, y)) = numbers_of(left, right) {
+        return Arm::Fold(InfixOperator::Minus, x, y);
     }
     choose_signed_difference(l, r, left, right)
 }

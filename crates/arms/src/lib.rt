@@ -9,11 +9,11 @@ ghost use Rattle.arms.specs.Arms.{smaller as smallerTree, function_plan, prefix_
 ghost use Rattle.arms.specs.Ordered.{infix_plan};
 ghost use Rattle.arms.specs.Choosing.{applied_to, ChoosesAt, ChoosesOne, Selects};
 
-use complex::{Complex, neg};
+use complex::Complex;
 use differences::choose_difference;
 use expression::node::Expression;
 use expression::{ExpressionFunction, InfixOperator, PrefixOperator};
-use looks::{is_negation, is_number, number_in, operand_in};
+use looks::negated;
 use powers::choose_power;
 use products::choose_product;
 use quotients::choose_quotient;
@@ -107,9 +107,8 @@ pub fn choose_infix(store: &[[u64; 4]], l: usize, operator: InfixOperator, r: us
 pub fn choose_function(store: &[[u64; 4]], function: ExpressionFunction, x: usize) -> Arm
     ensures { ChoosesOne (function_plan function) (memory store.now) x result }
 {
-    let child = expression_at(store, x);
-    if is_number(child) {
-        return Arm::Call(function, number_in(child));
+    if let Expression::Number(z) = expression_at(store, x) {
+        return Arm::Call(function, z);
     }
     Arm::Build(Expression::FunctionCall(function, x))
 }
@@ -119,11 +118,11 @@ fn choose_minus(store: &[[u64; 4]], x: usize) -> Arm
     ensures { ChoosesOne (prefix_plan PrefixOperator.Minus) (memory store.now) x result }
 {
     let child = expression_at(store, x);
-    if is_number(child) {
-        return Arm::Build(Expression::Number(neg(number_in(child))));
+    if let Expression::Number(z) = child {
+        return Arm::Build(Expression::Number(-z));
     }
-    if is_negation(child) {
-        return Arm::Use(operand_in(child));
+    if let Some(e) = negated(child) {
+        return Arm::Use(e);
     }
     Arm::Build(Expression::Prefix(PrefixOperator::Minus, x))
 }

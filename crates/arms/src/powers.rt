@@ -3,7 +3,7 @@ ghost use Rattle.arms.specs.Tables.{power_plan};
 ghost use Rattle.arms.specs.Choosing.{ChoosesWhere, always};
 
 use super::Arm;
-use super::looks::{are_numbers, is_one_number, is_zero_number, number_in};
+use super::looks::{is_one_number, is_zero_number, numbers_of};
 use complex::constants::{one, zero};
 use expression::InfixOperator;
 use expression::node::Expression;
@@ -28,8 +28,8 @@ pub fn choose_power(l: usize, r: usize, left: Expression, right: Expression) -> 
         return Arm::Use(l);
     }
     // 17. Two numbers: fold
-    if are_numbers(left, right) {
-        return Arm::Fold(InfixOperator::Caret, number_in(left), number_in(right));
+    if let Some((x, y)) = numbers_of(left, right) {
+        return Arm::Fold(InfixOperator::Caret, x, y);
     }
     // 41. Rebuild
     Arm::Build(Expression::Infix(InfixOperator::Caret, l, r))

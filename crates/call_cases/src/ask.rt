@@ -11,7 +11,7 @@ use exports::{
 use memory::layout::{DESK_WORDS, MARKS, TABLE_WORDS};
 use replay::lent::{BLANK, is_clear};
 use replay::say;
-use replay::slices::{is_zero, part, part_of_bytes};
+use replay::slices::{is_zero, part};
 
 // An answer's six words, the paper of the output, the marks, which a call without marks leaves blank, and whether all the
 // memory that was lent is zero.
@@ -55,7 +55,7 @@ pub fn ask(kind: u8, case: Case, text: &[u8], sheet: &[u8], room: usize) -> Told
     let mut paper = [BLANK; 32768];
     let mut words = [junk; 6];
     let m = part(&store, rows);
-    let n = part_of_bytes(&paper, room);
+    let n = part(&paper, room);
     call(
         kind,
         text,

@@ -25,7 +25,7 @@ pub struct Case {
 }
 
 impl Case {
-    // What stands at the end of a list has no kind.
+    // What stands at the end of a list has no kind. No Option: a case is made of whatever was read, of a list that is cut short too.
     pub fn is_none(self) -> bool
         ensures { result ≡ eqb self.kind 0 }
     {

@@ -3,14 +3,10 @@ ghost use Rattle.io.specs.Counts.{IsPrefixLen};
 
 use replay::line::{digit, read_text};
 use replay::lists::List;
-use replay::slices::part_of_bytes;
+use replay::slices::part;
 
 fn digit_at(digits: &[u8], i: usize) -> u8 {
-    if i < digits.len() {
-        digit(digits[i])
-    } else {
-        0
-    }
+    digits.get(i).map_or(0, |c| digit(*c))
 }
 
 // The byte whose digits begin here.
@@ -37,10 +33,8 @@ fn digits_of(length: usize) -> usize {
 }
 
 fn decode(digits: &[u8], tape: &mut [u8]) {
-    let mut i = 0;
-    while i < tape.len() {
-        tape[i] = byte_at(digits, place_of(i));
-        i += 1;
+    for (i, byte) in tape.iter_mut().enumerate() {
+        *byte = byte_at(digits, place_of(i));
     }
 }
 
@@ -50,7 +44,7 @@ pub fn read_tape(list: &mut List, tape: &mut [u8], length: usize) -> usize
 {
     let mut digits = [0u8; 40960];
     let n = read_text(list, &mut digits, digits_of(length));
-    let most = part_of_bytes(tape, length);
+    let most = part(tape, length);
     decode(&digits[..n], &mut tape[..most]);
-    part_of_bytes(tape, length)
+    part(tape, length)
 }

@@ -7,7 +7,7 @@ use super::outcome::Outcome;
 use super::{mark_lines, marked};
 use complex::bits::class_of_bits;
 use replay::lists::List;
-use replay::slices::part_of_bytes;
+use replay::slices::part;
 
 // As long as the longest tape.
 const TAPE: usize = 12288;
@@ -83,7 +83,7 @@ fn compile(
         return Outcome::Wrong;
     }
     let tape = compiled.paper;
-    let n = part_of_bytes(&tape, words[1] as usize);
+    let n = part(&tape, words[1] as usize);
     Outcome::Played.if_right(is_played(rt, case, evaluated, line, &tape[..n], sheet))
 }
 

@@ -24,25 +24,22 @@ fn read_wanted(list: &mut List, case: Case, wanted: &mut [u8]) -> usize
     read_text(list, wanted, case.written)
 }
 
-fn both(x: bool, y: bool) -> bool {
-    if x { y } else { false }
-}
-
-// Both: what is written, and the answer.
+// Both: what is written, and the answer. The answer is looked at, and printed if it is wrong, whatever was written.
 fn is_told(rt: &impl Print, list: &mut List, case: Case, told: Told) -> bool {
     let paper = told.paper;
     let mut wanted = [0u8; 32768];
     let n = read_wanted(list, case, &mut wanted);
     let is_there = is_written(rt, &wanted[..n], &paper);
-    let words = case.wanted;
-    both(is_there, is_right(rt, b"wanted", words, told))
+    let is_answered = is_right(rt, b"wanted", case.wanted, told);
+    is_there && is_answered
 }
 
 // The line of marks follows what has to be written.
 fn is_simplified(rt: &impl Print, list: &mut List, case: Case, text: &[u8], sheet: &[u8]) -> bool {
     let told = marked::simplify(case, text, sheet);
     let is_there = is_told(rt, list, case, told);
-    both(is_there, is_marked(rt, next_marks(list), told))
+    let is_marked = is_marked(rt, next_marks(list), told);
+    is_there && is_marked
 }
 
 fn ask_and_look(

@@ -37,6 +37,7 @@ fn run_list(rt: &HostRuntime, k: usize) {
     let mut count = 0;
     let mut wrong = 0;
     let mut tapes = Tapes::none();
+    // No `for`: how many there were is said after the loop, which ends where the list does.
     while count < MOST {
         let case = next_case(&mut list);
         if case.is_none() {

@@ -38,12 +38,10 @@ fn is_same(line: &[u8; LINE], marks: &[u8; MARKS]) -> bool
     if line[64] != b'\n' {
         return false;
     }
-    let mut row = 0;
-    while row < MARKS {
-        if marks[row] != mark_in(digit(line[row / 4]), row) {
+    for (row, mark) in marks.iter().enumerate() {
+        if *mark != mark_in(digit(line[row / 4]), row) {
             return false;
         }
-        row += 1;
     }
     true
 }

@@ -8,7 +8,7 @@ use exports::{
 };
 use memory::layout::{DESK_WORDS, MARKS, TABLE_WORDS};
 use replay::lent::{BLANK, is_clear};
-use replay::slices::{part, part_of_bytes};
+use replay::slices::part;
 
 pub fn evaluate(case: Case, text: &[u8], sheet: &[u8]) -> Told {
     let junk = case.junk;
@@ -67,7 +67,7 @@ pub fn simplify(case: Case, text: &[u8], sheet: &[u8]) -> Told {
     let mut words = [junk; 6];
     let mut marks = [BLANK; MARKS];
     let m = part(&store, rows);
-    let n = part_of_bytes(&paper, case.room);
+    let n = part(&paper, case.room);
     call_simplify(
         case.kind,
         text,

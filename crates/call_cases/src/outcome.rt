@@ -21,13 +21,7 @@ impl Outcome {
     pub fn is_right(self) -> bool
         ensures { result ≡ rightly self }
     {
-        match self {
-            Outcome::Wrong => false,
-            Outcome::Right => true,
-            Outcome::Played => true,
-            Outcome::Long => true,
-            Outcome::Refused => true,
-        }
+        !matches!(self, Outcome::Wrong)
     }
 
     // This one if all is right.
@@ -47,7 +41,7 @@ pub struct Tapes {
 
 // One more, up to more cases than any list has.
 fn more(n: u64) -> u64 {
-    if n < MOST { n + 1 } else { n }
+    n.saturating_add(1).min(MOST)
 }
 
 impl Tapes {

@@ -6,6 +6,8 @@ use Prim.Native.Nat.{ℕ, suc, ◌≤◌}
 use native.Mathlib.Omega.{arith}
 use lib.Dec.{ltb}
 use lib.ListN.{length}
+use Rattle.std.specs.Prelude.{Result, Ok, Err, Float}
+use Rattle.complex.specs.declared.Complex.{Complex}
 use Rattle.expression.specs.declared.refusal.Refusal.{Refusal}
 use Rattle.expression.specs.Refusals.{number_of}
 use Rattle.expression.specs.Trees.{Tree, number, pi, variable, cell, leaf, function_call, prefixed, infixed, size, depth}
@@ -16,11 +18,9 @@ use Rattle.text.specs.Lines as Lines
 use Rattle.text.specs.Lines.{Whole}
 use Rattle.listing.specs.Listings as Listings
 use Rattle.listing.specs.Listings.{Listing, Swap, accepted, listing}
-use Rattle.writing.specs.declared.Written.{Written}
 use Rattle.writing.specs.Order.{order, text_of, written}
 use Rattle.sheet.specs.Rows.{Rows, sheet}
 use Rattle.evaluation.specs.declared.Evaluation.{Evaluation}
-use Rattle.evaluation.specs.declared.real.Real.{Real}
 use Rattle.evaluation.specs.Evaluating.{evaluate}
 use Rattle.evaluation.specs.Reals.{small, real_part, to_real}
 use Rattle.substitution.specs.Substituting.{substitute}
@@ -28,7 +28,6 @@ use Rattle.tasks.specs.Tasks.{is_allowed}
 use Rattle.simplification.specs.Simplifying.{simplify}
 use Rattle.simplification.proofs.Inherited.{SixToNine, six_to_nine}
 use Rattle.tape.specs.Tapes.{most_steps, tape, compiled}
-use Rattle.calls.specs.declared.Evaluated.{Evaluated}
 use Rattle.calls.specs.declared.Simplified.{Simplified}
 use Rattle.calls.specs.Calls as Calls
 use Rattle.calls.specs.Calls.{Job, ready, after_listing, job, written_answer, with_calls, calls_in, evaluated, evaluate_job, evaluate_call, substitute_call, to_real_call, simplify_job, simplify_call, compile_call, play_call}
@@ -41,31 +40,31 @@ abbrev pub Numbered : Refusal → Type 0
 Numbered why = (1 ≤ number_of why) × (number_of why ≤ 15)
 
 -- a value, or a numbered refusal
-abbrev pub EvaluatedSo : Evaluated → Type 0
-EvaluatedSo (Evaluated.Value z) = Unit {0}
-EvaluatedSo (Evaluated.Refused why) = Numbered why
+abbrev pub EvaluatedSo : Result Complex Refusal → Type 0
+EvaluatedSo (Ok z) = Unit {0}
+EvaluatedSo (Err why) = Numbered why
 
-abbrev pub RealSo : Real → Type 0
-RealSo (Real.Number x) = Unit {0}
-RealSo (Real.Refused why) = Numbered why
+abbrev pub RealSo : Result Float Refusal → Type 0
+RealSo (Ok x) = Unit {0}
+RealSo (Err why) = Numbered why
 
 -- bytes that were written, or a numbered refusal that leaves the output as it was
-abbrev pub WrittenSo : (out out' : List ℕ) → Written → Type 0
-WrittenSo out out' (Written.Bytes bytes) = Unit {0}
-WrittenSo out out' (Written.Refused why) = Numbered why × (out' ≡ out)
+abbrev pub WrittenSo : (out out' : List ℕ) → Result ℕ Refusal → Type 0
+WrittenSo out out' (Ok bytes) = Unit {0}
+WrittenSo out out' (Err why) = Numbered why × (out' ≡ out)
 
-abbrev pub SimplifiedSo : (out out' : List ℕ) → Simplified → Type 0
-SimplifiedSo out out' (Simplified.Bytes bytes calls) = Unit {0}
-SimplifiedSo out out' (Simplified.Refused why) = Numbered why × (out' ≡ out)
+abbrev pub SimplifiedSo : (out out' : List ℕ) → Result Simplified Refusal → Type 0
+SimplifiedSo out out' (Ok a) = Unit {0}
+SimplifiedSo out out' (Err why) = Numbered why × (out' ≡ out)
 
 -- the least number is 1 for each, and the most is that of the part that refuses
 by_most : (why : Refusal) → number_of why ≤ 15 → Numbered why
 by_most why h = ((refusal_some why).0, h)
 
-abbrev So : (out : List ℕ) → Written × List ℕ → Type 0
+abbrev So : (out : List ℕ) → Result ℕ Refusal × List ℕ → Type 0
 So out x = WrittenSo out x.1 x.0
 
-if_so : (out : List ℕ) (b : Bool) (x y : Written × List ℕ) → So out x → So out y → So out (cond b x y)
+if_so : (out : List ℕ) (b : Bool) (x y : Result ℕ Refusal × List ℕ) → So out x → So out y → So out (cond b x y)
 if_so out true x y p q = p
 if_so out false x y p q = q
 
@@ -107,7 +106,7 @@ job_so (Calls.refused why) h = by_most why (omega (arith, job_most h))
 pub evaluate_call_so : (room : ℕ) (list values : List ℕ) → EvaluatedSo (evaluate_call room list values)
 evaluate_call_so room list values = job_so (job room list values) (job_numbers room list values)
 
-real_if : (b : Bool) (x y : Real) → RealSo x → RealSo y → RealSo (cond b x y)
+real_if : (b : Bool) (x y : Result Float Refusal) → RealSo x → RealSo y → RealSo (cond b x y)
 real_if true x y p q = p
 real_if false x y p q = q
 
@@ -125,7 +124,7 @@ pub real_call_so : (room : ℕ) (list : List ℕ) → RealSo (to_real_call room 
 unfolding to_real_call after_listing ListingBy
 real_call_so room list = go (listing false list (fresh room 0)) (listing_numbers false list (fresh room 0))
   where
-    go : (l : Listing) → ListingBy l → RealSo (after_listing Real.Refused l λ root swaps store. to_real root)
+    go : (l : Listing) → ListingBy l → RealSo (after_listing Err l λ root swaps store. to_real root)
     go (accepted root swaps store) h = real_so root
     go (Listings.refused why) h = by_most why (omega (arith, listing_most h))
 
@@ -157,8 +156,8 @@ substitutes swaps (infixed o l r) s =
     then_at_most (substitute swaps l s) _ (substitutes swaps l s) λ l s. then_at_most (substitute swaps r s) _ (substitutes swaps r s) λ r s. stores (infixed o l r) s
 
 -- a call that takes no sheet
-listing_so : (out : List ℕ) (l : Listing) (next : Tree → List Swap → State → Written × List ℕ) → ListingBy l
-    → ((root : Tree) (swaps : List Swap) (store : State) → So out (next root swaps store)) → So out (after_listing (λ why. (Written.Refused why, out)) l next)
+listing_so : (out : List ℕ) (l : Listing) (next : Tree → List Swap → State → Result ℕ Refusal × List ℕ) → ListingBy l
+    → ((root : Tree) (swaps : List Swap) (store : State) → So out (next root swaps store)) → So out (after_listing (λ why. (Err why, out)) l next)
 unfolding after_listing ListingBy
 listing_so out (accepted root swaps store) next h f = f root swaps store
 listing_so out (Listings.refused why) next h f = (by_most why (omega (arith, listing_most h)), refl)
@@ -175,10 +174,10 @@ compile_call_so room list out =
 
 -- ---- simplifying
 
-with_calls_so : (out out' : List ℕ) (calls : ℕ) (r : Written) → WrittenSo out out' r → SimplifiedSo out out' (with_calls calls r)
+with_calls_so : (out out' : List ℕ) (calls : ℕ) (r : Result ℕ Refusal) → WrittenSo out out' r → SimplifiedSo out out' (with_calls calls r)
 unfolding with_calls
-with_calls_so out out' calls (Written.Bytes bytes) h = tt
-with_calls_so out out' calls (Written.Refused why) h = h
+with_calls_so out out' calls (Ok bytes) h = tt
+with_calls_so out out' calls (Err why) h = h
 
 pub six_to_nine_so : (a : Answer) → SixToNine a → AtMost9 a
 six_to_nine_so (gives t s) h = tt
@@ -195,7 +194,7 @@ pub simplify_call_so : (room limit : ℕ) (list values out : List ℕ) → Simpl
 unfolding simplify_call
 simplify_call_so room limit list values out = go (is_allowed limit)
   where
-    go : (b : Bool) → SimplifiedSo out (cond b (simplify_job limit out (job room list values)) (Simplified.Refused Refusal.BadLimit, out)).1 (cond b (simplify_job limit out (job room list values)) (Simplified.Refused Refusal.BadLimit, out)).0
+    go : (b : Bool) → SimplifiedSo out (cond b (simplify_job limit out (job room list values)) (Err Refusal.BadLimit, out)).1 (cond b (simplify_job limit out (job room list values)) (Err Refusal.BadLimit, out)).0
     go true = simplify_job_so limit out (job room list values) (job_numbers room list values)
     go false = (by_most Refusal.BadLimit (omega arith), refl)
 

@@ -10,6 +10,7 @@ use borrow.Author.Tests.{ltb-false, le-ltb}
 use lib.Dec.{ltb}
 use lib.ListN.{length, get_or, take, drop}
 use lib.Seq.{take-append_seam}
+use Rattle.std.specs.Prelude.{Result, Ok, Err}
 use Rattle.expression.specs.declared.refusal.Refusal.{Refusal}
 use Rattle.expression.specs.Trees.{Tree, leaf, pi}
 use Rattle.expression.specs.Alike.{identical}
@@ -19,7 +20,6 @@ use Rattle.node_lines.specs.Without.{without_origins}
 use Rattle.listing.specs.Listings as Listings
 use Rattle.listing.specs.Listings.{Listing, Swap, accepted, listing, given}
 use Rattle.listing.proofs.Ignoring.{ignored}
-use Rattle.writing.specs.declared.Written.{Written}
 use Rattle.writing.specs.Order.{order, text_of, written}
 use Rattle.writing.specs.Origins.{traced_text_of, written_traced}
 use Rattle.store.specs.Origins.{origin_of}
@@ -38,13 +38,13 @@ use Rattle.calls.proofs.ReadBack.{ReadsBack, SubstitutedBack, SimplifiedBack, su
 use Rattle.calls.proofs.Answering.{WrittenSo, SimplifiedSo, substitute_call_so, simplify_call_so}
 
 -- what is written of a tree, and the rest of the output
-abbrev leaving : (text out : List ℕ) → Written × List ℕ
-leaving text out = (Written.Bytes (length text), text ++ drop (length text) out)
+abbrev leaving : (text out : List ℕ) → Result ℕ Refusal × List ℕ
+leaving text out = (Ok (length text), text ++ drop (length text) out)
 
 -- the answer and output with origins, and those without
-pub data Beside (lines : List Tree) (out : List ℕ) : Written × List ℕ → Written × List ℕ → Type 0 where
-  refused : (why : Refusal) → Beside lines out (Written.Refused why, out) (Written.Refused why, out)
-  short : (plain : Written × List ℕ) → Beside lines out (Written.Refused Refusal.OutRoom, out) plain
+pub data Beside (lines : List Tree) (out : List ℕ) : Result ℕ Refusal × List ℕ → Result ℕ Refusal × List ℕ → Type 0 where
+  refused : (why : Refusal) → Beside lines out (Err why, out) (Err why, out)
+  short : (plain : Result ℕ Refusal × List ℕ) → Beside lines out (Err Refusal.OutRoom, out) plain
   both : (t : Tree) → without_origins (traced_text_of lines t) ≡ text_of t → Beside lines out (leaving (traced_text_of lines t) out) (leaving (text_of t) out)
 
 module _ (lines : List Tree) (few : length lines ≤ 1024) (out : List ℕ) where
@@ -53,8 +53,8 @@ module _ (lines : List Tree) (few : length lines ≤ 1024) (out : List ℕ) wher
   written_beside t = go (ltb 1024 (length (order t))) (ltb (length out) (length (traced_text_of lines t))) refl
     where
       go : (b c : Bool) → ltb (length out) (length (traced_text_of lines t)) ≡ c
-          → Beside lines out (cond b (Written.Refused (Refusal.LongList 0), out) (cond c (Written.Refused Refusal.OutRoom, out) (leaving (traced_text_of lines t) out)))
-          (cond b (Written.Refused (Refusal.LongList 0), out) (cond (ltb (length out) (length (text_of t))) (Written.Refused Refusal.OutRoom, out) (leaving (text_of t) out)))
+          → Beside lines out (cond b (Err (Refusal.LongList 0), out) (cond c (Err Refusal.OutRoom, out) (leaving (traced_text_of lines t) out)))
+          (cond b (Err (Refusal.LongList 0), out) (cond (ltb (length out) (length (text_of t))) (Err Refusal.OutRoom, out) (leaving (text_of t) out)))
       go true c e = refused (Refusal.LongList 0)
       go false true e = short _
       go false false e =
@@ -73,17 +73,17 @@ unfolding substitute_origins substitute_call after_listing
 substitute_beside room list out = go (listing true list (fresh room 0))
   where
     go : (l : Listing)
-        → Beside (given true list (fresh room 0)) out (after_listing (λ why. (Written.Refused why, out)) l (λ root swaps store. traced_answer (given true list (fresh room 0)) out (substitute swaps root store)))
-        (after_listing (λ why. (Written.Refused why, out)) l (λ root swaps store. written_answer out (substitute swaps root store)))
+        → Beside (given true list (fresh room 0)) out (after_listing (λ why. (Err why, out)) l (λ root swaps store. traced_answer (given true list (fresh room 0)) out (substitute swaps root store)))
+        (after_listing (λ why. (Err why, out)) l (λ root swaps store. written_answer out (substitute swaps root store)))
     go (accepted root swaps store) = answer_beside _ (given_few true list (fresh room 0)) out (substitute swaps root store)
     go (Listings.refused why) = refused why
 
 -- ---- simplifying: the number of calls is the same
 
-pub record SimplifiedBeside (lines : List Tree) (out : List ℕ) (a b : Simplified × List ℕ) : Type 0 where
+pub record SimplifiedBeside (lines : List Tree) (out : List ℕ) (a b : Result Simplified Refusal × List ℕ) : Type 0 where
   pub calls : ℕ
-  pub traced : Written × List ℕ
-  pub plain : Written × List ℕ
+  pub traced : Result ℕ Refusal × List ℕ
+  pub plain : Result ℕ Refusal × List ℕ
   pub is_traced : a ≡ (with_calls calls traced.0, traced.1)
   pub is_plain : b ≡ (with_calls calls plain.0, plain.1)
   pub beside : Beside lines out traced plain
@@ -96,11 +96,11 @@ simplify_beside room limit list values out = go (is_allowed limit) (job room lis
     lines : List Tree
     lines = given false list (fresh room 0)
 
-    alike : (why : Refusal) → SimplifiedBeside lines out (Simplified.Refused why, out) (Simplified.Refused why, out)
-    alike why = record { calls = 0; traced = (Written.Refused why, out); plain = (Written.Refused why, out); is_traced = refl; is_plain = refl; beside = refused why }
+    alike : (why : Refusal) → SimplifiedBeside lines out (Err why, out) (Err why, out)
+    alike why = record { calls = 0; traced = (Err why, out); plain = (Err why, out); is_traced = refl; is_plain = refl; beside = refused why }
 
     go : (b : Bool) (j : Job)
-        → SimplifiedBeside lines out (cond b (traced_job lines limit out j) (Simplified.Refused Refusal.BadLimit, out)) (cond b (simplify_job limit out j) (Simplified.Refused Refusal.BadLimit, out))
+        → SimplifiedBeside lines out (cond b (traced_job lines limit out j) (Err Refusal.BadLimit, out)) (cond b (simplify_job limit out j) (Err Refusal.BadLimit, out))
     go false j = alike Refusal.BadLimit
     go true (Calls.refused why) = alike why
     go true (ready root store rows) =
@@ -116,7 +116,7 @@ simplify_beside room limit list values out = go (is_allowed limit) (job room lis
 
 -- ---- demand 1, of the calls with origins: bytes, or a numbered refusal that leaves the output as it was
 
-beside_so : {lines : List Tree} {out : List ℕ} {a b : Written × List ℕ} → Beside lines out a b → WrittenSo out b.1 b.0 → WrittenSo out a.1 a.0
+beside_so : {lines : List Tree} {out : List ℕ} {a b : Result ℕ Refusal × List ℕ} → Beside lines out a b → WrittenSo out b.1 b.0 → WrittenSo out a.1 a.0
 beside_so (refused why) h = h
 beside_so (short plain) h = ((omega arith, omega arith), refl)
 beside_so (both t e) h = tt
@@ -124,15 +124,15 @@ beside_so (both t e) h = tt
 pub substitute_origins_so : (room : ℕ) (list out : List ℕ) → WrittenSo out (substitute_origins room list out).1 (substitute_origins room list out).0
 substitute_origins_so room list out = beside_so (substitute_beside room list out) (substitute_call_so room list out)
 
-counted_so : (out : List ℕ) (calls : ℕ) (x : Written × List ℕ) → SimplifiedSo out x.1 (with_calls calls x.0) → WrittenSo out x.1 x.0
+counted_so : (out : List ℕ) (calls : ℕ) (x : Result ℕ Refusal × List ℕ) → SimplifiedSo out x.1 (with_calls calls x.0) → WrittenSo out x.1 x.0
 unfolding with_calls
-counted_so out calls (Written.Bytes bytes, out') h = tt
-counted_so out calls (Written.Refused why, out') h = h
+counted_so out calls (Ok bytes, out') h = tt
+counted_so out calls (Err why, out') h = h
 
-so_counted : (out : List ℕ) (calls : ℕ) (x : Written × List ℕ) → WrittenSo out x.1 x.0 → SimplifiedSo out x.1 (with_calls calls x.0)
+so_counted : (out : List ℕ) (calls : ℕ) (x : Result ℕ Refusal × List ℕ) → WrittenSo out x.1 x.0 → SimplifiedSo out x.1 (with_calls calls x.0)
 unfolding with_calls
-so_counted out calls (Written.Bytes bytes, out') h = tt
-so_counted out calls (Written.Refused why, out') h = h
+so_counted out calls (Ok bytes, out') h = tt
+so_counted out calls (Err why, out') h = h
 
 pub simplify_origins_so : (room limit : ℕ) (list values out : List ℕ) → SimplifiedSo out (simplify_origins room limit list values out).1 (simplify_origins room limit list values out).0
 simplify_origins_so room limit list values out =
@@ -144,25 +144,25 @@ simplify_origins_so room limit list values out =
 
 -- bytes that were written, with their tree: in its listing the line of each part u ends in `origin_text (origin_of lines u)`. Such an origin is a line of the
 -- input that gives that very tree, and no earlier line does; where there is none, no line gives it. And what the call without origins writes
-pub record WithOrigins (lines : List Tree) (plain : Written × List ℕ) (bytes : ℕ) (out' : List ℕ) : Type 0 where
+pub record WithOrigins (lines : List Tree) (plain : Result ℕ Refusal × List ℕ) (bytes : ℕ) (out' : List ℕ) : Type 0 where
   pub tree : Tree
   pub is_text : take bytes out' ≡ traced_text_of lines tree
   pub first : (u : Tree) (i : ℕ) → origin_of lines u ≡ suc i → First lines u i
   pub none : (u : Tree) → origin_of lines u ≡ 0 → (j : ℕ) → j < length lines → identical u (get_or lines j (leaf pi)) ≡ false
   pub fewer : ℕ
   pub beside : List ℕ
-  pub is_plain : plain ≡ (Written.Bytes fewer, beside)
+  pub is_plain : plain ≡ (Ok fewer, beside)
   pub bare : without_origins (take bytes out') ≡ take fewer beside
 
-not_bytes : {A : Type 0} {why : Refusal} {out : List ℕ} {bytes : ℕ} {out' : List ℕ} → ◌≡◌ {A = Written × List ℕ} (Written.Refused why, out) (Written.Bytes bytes, out') → A
+not_bytes : {A : Type 0} {why : Refusal} {out : List ℕ} {bytes : ℕ} {out' : List ℕ} → ◌≡◌ {A = Result ℕ Refusal × List ℕ} (Err why, out) (Ok bytes, out') → A
 not_bytes e = let z : ◌≡◌ {A = ℕ} 0 1 = cc (ap (λ w. w.0) e) in absurd (omega arith)
 
-left_text : (text out : List ℕ) {bytes : ℕ} {out' : List ℕ} → leaving text out ≡ (Written.Bytes bytes, out') → take bytes out' ≡ text
+left_text : (text out : List ℕ) {bytes : ℕ} {out' : List ℕ} → leaving text out ≡ (Ok bytes, out') → take bytes out' ≡ text
 left_text text out {bytes} {out'} e =
     let m : bytes ≡ length text = cc (ap (λ w. w.0) e) in
     (λ j. take (m j) (ap (λ w. w.1) (sym e) j)) ∙ take-append_seam text (drop (length text) out)
 
-with_origins : {lines : List Tree} {out : List ℕ} {a b : Written × List ℕ} → Beside lines out a b → {bytes : ℕ} {out' : List ℕ} → a ≡ (Written.Bytes bytes, out') → WithOrigins lines b bytes out'
+with_origins : {lines : List Tree} {out : List ℕ} {a b : Result ℕ Refusal × List ℕ} → Beside lines out a b → {bytes : ℕ} {out' : List ℕ} → a ≡ (Ok bytes, out') → WithOrigins lines b bytes out'
 with_origins (refused why) e = not_bytes e
 with_origins (short plain) e = not_bytes e
 with_origins {lines} {out} (both t x) e = record {
@@ -185,7 +185,7 @@ pub record SubstitutedWith (room : ℕ) (list out : List ℕ) (bytes : ℕ) (out
   pub written : WithOrigins (given true list (fresh room 0)) (substitute_call room list out) bytes out'
   pub back : SubstitutedBack room list bytes out'
 
-pub substituted_with_origins : (room : ℕ) (list out : List ℕ) {bytes : ℕ} {out' : List ℕ} → substitute_origins room list out ≡ (Written.Bytes bytes, out') → SubstitutedWith room list out bytes out'
+pub substituted_with_origins : (room : ℕ) (list out : List ℕ) {bytes : ℕ} {out' : List ℕ} → substitute_origins room list out ≡ (Ok bytes, out') → SubstitutedWith room list out bytes out'
 substituted_with_origins room list out {bytes} {out'} e =
     let w = with_origins (substitute_beside room list out) e in
     let s = substituted_reads_back room list out w.is_plain in
@@ -201,17 +201,19 @@ substituted_with_origins room list out {bytes} {out'} e =
     }
 
 pub record SimplifiedWith (room limit : ℕ) (list values out : List ℕ) (bytes calls : ℕ) (out' : List ℕ) : Type 0 where
-  pub plain : Written × List ℕ
+  pub plain : Result ℕ Refusal × List ℕ
   pub is_call : simplify_call room limit list values out ≡ (with_calls calls plain.0, plain.1)
   pub written : WithOrigins (given false list (fresh room 0)) plain bytes out'
   pub back : SimplifiedBack room limit list values bytes out'
 
-uncounted : (n : ℕ) (w : Written) {bytes calls : ℕ} → with_calls n w ≡ Simplified.Bytes bytes calls → (w ≡ Written.Bytes bytes) × (n ≡ calls)
+uncounted : (n : ℕ) (w : Result ℕ Refusal) {bytes calls : ℕ} → with_calls n w ≡ Ok (record { bytes = bytes; calls = calls }) → (w ≡ Ok bytes) × (n ≡ calls)
 unfolding with_calls
-uncounted n (Written.Bytes b) e = (cc, cc)
-uncounted n (Written.Refused why) e = let z : ◌≡◌ {A = ℕ} 0 1 = cc in absurd (omega arith)
+uncounted n (Ok b) {bytes} {calls} e =
+    let z : ◌≡◌ {A = Simplified} (record { bytes = b; calls = n }) (record { bytes = bytes; calls = calls }) = cc in
+    (ap (λ (a : Simplified). Ok a.bytes) z, ap (λ (a : Simplified). a.calls) z)
+uncounted n (Err why) e = let z : ◌≡◌ {A = ℕ} 0 1 = cc in absurd (omega arith)
 
-pub simplified_with_origins : (room limit : ℕ) (list values out : List ℕ) {bytes calls : ℕ} {out' : List ℕ} → simplify_origins room limit list values out ≡ (Simplified.Bytes bytes calls, out')
+pub simplified_with_origins : (room limit : ℕ) (list values out : List ℕ) {bytes calls : ℕ} {out' : List ℕ} → simplify_origins room limit list values out ≡ (Ok (record { bytes = bytes; calls = calls }), out')
     → SimplifiedWith room limit list values out bytes calls out'
 unfolding with_calls
 simplified_with_origins room limit list values out {bytes} {calls} {out'} e =

@@ -8,6 +8,7 @@ use native.Mathlib.Omega.{arith}
 use borrow.Author.Tests.{ltb-false, ltb-true}
 use lib.Dec.{ltb, eqb}
 use lib.ListN.{length, length-append}
+use Rattle.std.specs.Prelude.{Err}
 use Rattle.expression.specs.declared.refusal.Refusal.{Refusal}
 use Rattle.expression.specs.Trees.{Tree, size, depth}
 use Rattle.expression.specs.Limits.{largest, deepest}
@@ -17,12 +18,10 @@ use Rattle.text.specs.Lines as Lines
 use Rattle.text.specs.Lines.{Line, Whole, lines, none, above_last}
 use Rattle.store.specs.Storing as Storing
 use Rattle.store.specs.Storing.{State, state, Answer, gives, among, intern, fresh}
-use Rattle.writing.specs.declared.Written.{Written}
 use Rattle.listing.specs.Listings as Listings
 use Rattle.listing.specs.Listings.{Listing, Swap, accepted, Known, known, stored, formed, most_nodes, most_swaps, node_line, above_variable, swap_fields, swapped, swap_line, listing_line, rooted, whole, listing}
 use Rattle.node_lines.specs.NodeLines.{node_fields}
 use Rattle.sheet.specs.Rows.{Rows, sheet}
-use Rattle.evaluation.specs.declared.real.Real.{Real}
 use Rattle.evaluation.specs.Reals.{to_real}
 use Rattle.tape.specs.Tapes.{compiled}
 use Rattle.calls.specs.Calls as Calls
@@ -142,11 +141,11 @@ module _ (room room' : ℕ) (ample : 1024 ≤ room) (ample' : 1024 ≤ room') (l
 
   pub to_real_alike : to_real_call room list ≡ to_real_call room' list
   unfolding to_real_call after_listing
-  to_real_alike = alike (λ l. after_listing Real.Refused l λ root swaps store. to_real root) (λ root swaps s s'. refl) list room room' ample ample'
+  to_real_alike = alike (λ l. after_listing Err l λ root swaps store. to_real root) (λ root swaps s s'. refl) list room room' ample ample'
 
   pub compile_alike : (out : List ℕ) → compile_call room list out ≡ compile_call room' list out
   unfolding compile_call after_listing
-  compile_alike out = alike (λ l. after_listing (λ why. (Written.Refused why, out)) l λ root swaps store. compiled root out) (λ root swaps s s'. refl) list room room' ample ample'
+  compile_alike out = alike (λ l. after_listing (λ why. (Err why, out)) l λ root swaps store. compiled root out) (λ root swaps s s'. refl) list room room' ample ample'
 
   -- and the rows that evaluating uses
   pub evaluate_marks_alike : (values : List ℕ) → evaluate_marks room list values ≡ evaluate_marks room' list values

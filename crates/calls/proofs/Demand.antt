@@ -8,15 +8,14 @@ use native.Mathlib.Omega.{arith}
 use lib.ListN.{length, take, drop}
 use lib.Seq.{take-append_seam}
 use borrow.Author.Tests.{le-ltb}
+use Rattle.std.specs.Prelude.{Ok, Err}
 use Rattle.expression.specs.declared.refusal.Refusal.{Refusal}
 use Rattle.expression.specs.Trees.{Tree, size}
 use Rattle.store.specs.Storing.{State, fresh}
 use Rattle.text.specs.Lines as Lines
 use Rattle.text.specs.Lines.{Whole}
-use Rattle.writing.specs.declared.Written.{Written}
 use Rattle.listing.specs.Listings.{Swap, accepted, listing}
 use Rattle.sheet.specs.Rows.{Rows, sheet}
-use Rattle.tape.specs.declared.Checked.{Checked}
 use Rattle.tape.specs.Tapes.{tape, compiled, check}
 use Rattle.tape.proofs.Emitting.{tape_length}
 use Rattle.tape.proofs.Demand.{tape_sound, tape_plays}
@@ -32,10 +31,10 @@ module _ (room : ℕ) (list out : List ℕ) {root : Tree} {swaps : List Swap} {s
   good = accepted_good false list room read
 
   -- "It compiles": its tape is at the start of the output, and the rest is kept
-  pub compiles : compile_call room list out ≡ (Written.Bytes (24 * size root), tape root ++ drop (24 * size root) out)
+  pub compiles : compile_call room list out ≡ (Ok (24 * size root), tape root ++ drop (24 * size root) out)
   unfolding compile_call after_listing compiled
   compiles =
-      ap (λ x. after_listing (λ why. (Written.Refused why, out)) x λ root swaps store. compiled root out) read
+      ap (λ x. after_listing (λ why. (Err why, out)) x λ root swaps store. compiled root out) read
       ∙ rw (le-ltb 512 (size root) small, le-ltb (length out) (length (tape root)) (omega (arith, ample, tape_length root)), tape_length root) refl
 
   -- the bytes that it wrote
@@ -46,7 +45,7 @@ module _ (room : ℕ) (list out : List ℕ) {root : Tree} {swaps : List Swap} {s
   bytes_are = ap (λ x. take (24 * size root) x.1) compiles ∙ rw (← tape_length root) (take-append_seam (tape root) _)
 
   -- are sound
-  pub compiled_sound : check compiled_bytes ≡ Checked.Sound
+  pub compiled_sound : check compiled_bytes ≡ Ok tt
   compiled_sound = ap check bytes_are ∙ tape_sound root good.proper good.limited.shallow small
 
   -- "and for every accepted sheet, playing that tape gives what evaluating the expression gives, bit for bit: the value, INCOMPLETE, or the same

@@ -11,15 +11,15 @@ use Prim.Native.Nat.{ℕ, suc, ◌-◌, ◌*◌, ◌≤◌}
 use lib.Ieee as Ieee
 use lib.Ieee.{Float, binary64}
 use lib.ListN.{length, take, drop, replicate}
+use Rattle.std.specs.Prelude.{Result, Ok}
 use Rattle.complex.specs.declared.Complex.{Complex}
 use Rattle.complex.specs.Arithmetic.{plus, minus, times, over, negated}
+use Rattle.expression.specs.declared.refusal.Refusal.{Refusal}
 use Rattle.expression.specs.declared.InfixOperator.{InfixOperator}
 use Rattle.expression.specs.Trees.{Tree, infixed, size, depth}
 use Rattle.store.specs.Storing.{nothing, State, and_then, recall, fresh}
 use Rattle.listing.specs.Listings.{Swap, accepted, listing}
-use Rattle.writing.specs.declared.Written.{Written}
 use Rattle.sheet.specs.Rows.{Rows}
-use Rattle.evaluation.specs.declared.real.Real.{Real}
 use Rattle.arms.specs.Arms.{Plan}
 use Rattle.arms.specs.Ordered.{arms, first_match}
 use Rattle.simplification.specs.Simplifying.{counted, keeping, carry_out, simplify}
@@ -27,7 +27,6 @@ use Rattle.simplification.proofs.Ordered.{ordered}
 use Rattle.tape.specs.Tapes.{tape, steps_in}
 use Rattle.tape.specs.Playing.{run}
 use Rattle.tape.proofs.Prefixes.{AtMost}
-use Rattle.calls.specs.declared.Evaluated.{Evaluated}
 use Rattle.calls.specs.declared.Simplified.{Simplified}
 use Rattle.calls.specs.Lent.{Work, capacity, zeroed}
 use Rattle.calls.specs.Calls.{evaluate_call, substitute_call, to_real_call, simplify_call, compile_call, play_call}
@@ -47,20 +46,20 @@ use Rattle.calls.proofs.Answering.{EvaluatedSo, RealSo, WrittenSo, SimplifiedSo,
 -- of each call, for all inputs: the answer is the definition's; it is a value or a numbered refusal, with which the output is as it was; the
 -- work memory is zero
 pub record Demand1 : Type 0 where
-  pub evaluating : (list values : List ℕ) (w w' : Work) (r : Evaluated) → Evaluates list values w r w'
+  pub evaluating : (list values : List ℕ) (w w' : Work) (r : Result Complex Refusal) → Evaluates list values w r w'
       → (r ≡ evaluate_call (capacity w) list values) × EvaluatedSo r × (w' ≡ zeroed w)
-  pub simplifying : (limit : ℕ) (list values out out' : List ℕ) (w w' : Work) (r : Simplified) → Simplifies limit list values out w r out' w'
+  pub simplifying : (limit : ℕ) (list values out out' : List ℕ) (w w' : Work) (r : Result Simplified Refusal) → Simplifies limit list values out w r out' w'
       → ((r, out') ≡ simplify_call (capacity w) limit list values out) × SimplifiedSo out out' r × (w' ≡ zeroed w)
-  pub substituting : (list out out' : List ℕ) (w w' : Work) (r : Written) → Substitutes list out w r out' w'
+  pub substituting : (list out out' : List ℕ) (w w' : Work) (r : Result ℕ Refusal) → Substitutes list out w r out' w'
       → ((r, out') ≡ substitute_call (capacity w) list out) × WrittenSo out out' r × (w' ≡ zeroed w)
-  pub reading_real : (list : List ℕ) (w w' : Work) (r : Real) → ReadsReal list w r w' → (r ≡ to_real_call (capacity w) list) × RealSo r × (w' ≡ zeroed w)
-  pub compiling : (list out out' : List ℕ) (w w' : Work) (r : Written) → Compiles list out w r out' w'
+  pub reading_real : (list : List ℕ) (w w' : Work) (r : Result Float Refusal) → ReadsReal list w r w' → (r ≡ to_real_call (capacity w) list) × RealSo r × (w' ≡ zeroed w)
+  pub compiling : (list out out' : List ℕ) (w w' : Work) (r : Result ℕ Refusal) → Compiles list out w r out' w'
       → ((r, out') ≡ compile_call (capacity w) list out) × WrittenSo out out' r × (w' ≡ zeroed w)
-  pub simplifying_origins : (limit : ℕ) (list values out marks out' : List ℕ) (w w' : Work) (r : Simplified) → SimplifiesOrigins limit list values out w r marks out' w'
+  pub simplifying_origins : (limit : ℕ) (list values out marks out' : List ℕ) (w w' : Work) (r : Result Simplified Refusal) → SimplifiesOrigins limit list values out w r marks out' w'
       → ((r, out') ≡ simplify_origins (capacity w) limit list values out) × SimplifiedSo out out' r × (w' ≡ zeroed w)
-  pub substituting_origins : (list out out' : List ℕ) (w w' : Work) (r : Written) → SubstitutesOrigins list out w r out' w'
+  pub substituting_origins : (list out out' : List ℕ) (w w' : Work) (r : Result ℕ Refusal) → SubstitutesOrigins list out w r out' w'
       → ((r, out') ≡ substitute_origins (capacity w) list out) × WrittenSo out out' r × (w' ≡ zeroed w)
-  pub playing : (tape values table table' : List ℕ) (r : Evaluated) → Plays tape values table r table'
+  pub playing : (tape values table table' : List ℕ) (r : Result Complex Refusal) → Plays tape values table r table'
       → (r ≡ play_call tape values) × EvaluatedSo r × (table' ≡ replicate (length table) 0)
 
 pub demand_1 : Demand1
@@ -109,14 +108,14 @@ pub record Demand2 : Type 0 where
   pub negations : (x : Complex) → negated x ≡ record { re = Ieee.neg x.re; im = Ieee.neg x.im }
   -- the bytes that a call wrote read back to the tree that it gives, in a store of as much room or more
   pub simplified_back : (room limit : ℕ) (list values out : List ℕ) (bytes calls : ℕ) (out' : List ℕ)
-      → simplify_call room limit list values out ≡ (Simplified.Bytes bytes calls, out') → SimplifiedBack room limit list values bytes out'
+      → simplify_call room limit list values out ≡ (Ok (record { bytes = bytes; calls = calls }), out') → SimplifiedBack room limit list values bytes out'
   pub substituted_back : (room : ℕ) (list out : List ℕ) (bytes : ℕ) (out' : List ℕ)
-      → substitute_call room list out ≡ (Written.Bytes bytes, out') → SubstitutedBack room list bytes out'
+      → substitute_call room list out ≡ (Ok bytes, out') → SubstitutedBack room list bytes out'
   -- Ticket 3: and so do those with origins
   pub simplified_origins_back : (room limit : ℕ) (list values out : List ℕ) (bytes calls : ℕ) (out' : List ℕ)
-      → simplify_origins room limit list values out ≡ (Simplified.Bytes bytes calls, out') → SimplifiedWith room limit list values out bytes calls out'
+      → simplify_origins room limit list values out ≡ (Ok (record { bytes = bytes; calls = calls }), out') → SimplifiedWith room limit list values out bytes calls out'
   pub substituted_origins_back : (room : ℕ) (list out : List ℕ) (bytes : ℕ) (out' : List ℕ)
-      → substitute_origins room list out ≡ (Written.Bytes bytes, out') → SubstitutedWith room list out bytes out'
+      → substitute_origins room list out ≡ (Ok bytes, out') → SubstitutedWith room list out bytes out'
 
 pub demand_2 : Demand2
 unfolding plus minus times over negated
@@ -140,17 +139,17 @@ demand_2 = record {
 
 pub record Demand3 : Type 0 where
   pub it_compiles : (room : ℕ) (list out : List ℕ) (root : Tree) (swaps : List Swap) (store : State) → listing false list (fresh room 0) ≡ accepted root swaps store
-      → size root ≤ 512 → 24 * size root ≤ length out → compile_call room list out ≡ (Written.Bytes (24 * size root), tape root ++ drop (24 * size root) out)
+      → size root ≤ 512 → 24 * size root ≤ length out → compile_call room list out ≡ (Ok (24 * size root), tape root ++ drop (24 * size root) out)
   -- the bytes that compiling wrote, for every sheet, accepted or not, and evaluating in a store of any room that accepts the listing
-  pub plays_the_same : (room : ℕ) (list out : List ℕ) (bytes : ℕ) (out' : List ℕ) → compile_call room list out ≡ (Written.Bytes bytes, out')
+  pub plays_the_same : (room : ℕ) (list out : List ℕ) (bytes : ℕ) (out' : List ℕ) → compile_call room list out ≡ (Ok bytes, out')
       → (room' : ℕ) (root : Tree) (swaps : List Swap) (store : State) → listing false list (fresh room' 0) ≡ accepted root swaps store
       → (values : List ℕ) → play_call (take bytes out') values ≡ evaluate_call room' list values
   -- "Playing a compiled tape and evaluating report the same marks; that joins demand 3": the same t rows were used
-  pub marks_the_same : (room : ℕ) (list out : List ℕ) (bytes : ℕ) (out' : List ℕ) → compile_call room list out ≡ (Written.Bytes bytes, out')
+  pub marks_the_same : (room : ℕ) (list out : List ℕ) (bytes : ℕ) (out' : List ℕ) → compile_call room list out ≡ (Ok bytes, out')
       → (room' : ℕ) (root : Tree) (swaps : List Swap) (store : State) → listing false list (fresh room' 0) ≡ accepted root swaps store
       → (values : List ℕ) → play_marks (take bytes out') values ≡ evaluate_marks room' list values
   -- after each step of them
-  pub no_deeper : (room : ℕ) (list out : List ℕ) (bytes : ℕ) (out' : List ℕ) → compile_call room list out ≡ (Written.Bytes bytes, out')
+  pub no_deeper : (room : ℕ) (list out : List ℕ) (bytes : ℕ) (out' : List ℕ) → compile_call room list out ≡ (Ok bytes, out')
       → (root : Tree) (swaps : List Swap) (store : State) → listing false list (fresh room 0) ≡ accepted root swaps store
       → (rows : Rows) (k : ℕ) → AtMost (depth root) (run rows (take k (steps_in (take bytes out'))) [])
   pub any_tape : (tape values : List ℕ) → FromAnywhere tape values

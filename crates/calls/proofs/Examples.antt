@@ -9,6 +9,7 @@ use borrow.Author.Tests.{le-ltb}
 use lib.Dec.{ltb}
 use lib.ListN.{length, drop, get_or}
 use lib.Ieee.{binary64, round, of_bits}
+use Rattle.std.specs.Prelude.{Result, Ok, Err}
 use Rattle.complex.specs.Bits.{double_of}
 use Rattle.expression.specs.declared.refusal.Refusal.{Refusal}
 use Rattle.expression.specs.Codes.{numbered}
@@ -25,7 +26,6 @@ use Rattle.sheet.specs.Rows.{sheet}
 use Rattle.substitution.specs.Substituting.{put_in, put_in_leaf, substitute}
 use Rattle.tasks.specs.Tasks.{is_allowed}
 use Rattle.simplification.proofs.Computing.{computed}
-use Rattle.writing.specs.declared.Written.{Written}
 use Rattle.writing.specs.Order.{once, finished, leaf_fields, line_fields, text, written}
 use Rattle.calls.specs.declared.Simplified.{Simplified}
 use Rattle.calls.specs.Calls.{after_listing, with_sheet, job, written_answer, with_calls, calls_in, substitute_call, simplify_job, simplify_call}
@@ -105,7 +105,7 @@ small_nearest = refl
 abbrev pub Shown : Example → Type 0
 Shown e =
     (out : List ℕ) → length e.result ≤ length out
-    → simplify_call 4096 e.limit e.list [] out ≡ (Simplified.Bytes (length e.result) e.calls, e.result ++ drop (length e.result) out)
+    → simplify_call 4096 e.limit e.list [] out ≡ (Ok (record { bytes = length e.result; calls = e.calls }), e.result ++ drop (length e.result) out)
 
 abbrev pub Each : (Example → Type 0) → List Example → Type 0
 Each P [] = Unit {0}
@@ -113,16 +113,16 @@ Each P (e ∷ es) = P e × Each P es
 
 -- ---- computed
 
-asked : Example → List ℕ → Simplified × List ℕ
+asked : Example → List ℕ → Result Simplified Refusal × List ℕ
 asked e out = simplify_call 4096 e.limit e.list [] out
 
 -- 13 where there is no room
-writing : List ℕ → (out : List ℕ) → Written × List ℕ
+writing : List ℕ → (out : List ℕ) → Result ℕ Refusal × List ℕ
 writing result out =
-    cond (ltb (length out) (length result)) (Written.Refused Refusal.OutRoom, out)
-    (Written.Bytes (length result), result ++ drop (length result) out)
+    cond (ltb (length out) (length result)) (Err Refusal.OutRoom, out)
+    (Ok (length result), result ++ drop (length result) out)
 
-wanted : Example → List ℕ → Simplified × List ℕ
+wanted : Example → List ℕ → Result Simplified Refusal × List ℕ
 wanted e out = (with_calls e.calls (writing e.result out).0, (writing e.result out).1)
 
 -- the listing read, simplified from the store that reading leaves, and written
@@ -131,7 +131,7 @@ unfolding asked wanted writing simplify_call is_allowed job after_listing with_s
 computes = refl
 
 with_room : (e : Example) (out : List ℕ) → length e.result ≤ length out
-    → wanted e out ≡ (Simplified.Bytes (length e.result) e.calls, e.result ++ drop (length e.result) out)
+    → wanted e out ≡ (Ok (record { bytes = length e.result; calls = e.calls }), e.result ++ drop (length e.result) out)
 unfolding wanted writing with_calls
 with_room e out room = rw (le-ltb (length out) (length e.result) room)
 
@@ -159,11 +159,11 @@ zeros = bytes "n\t0000000000000000\t0000000000000000\nn\t8000000000000000\t00000
 abbrev pub zeros_kept : List ℕ
 zeros_kept = bytes "n\t0000000000000000\t0000000000000000\nn\t8000000000000000\t0000000000000000\nb\t+\t0\t1\n"
 
-zeros_compute : ◌≡◌ {A = List ℕ → Written × List ℕ} (λ out. substitute_call 4096 zeros out) (λ out. writing zeros_kept out)
+zeros_compute : ◌≡◌ {A = List ℕ → Result ℕ Refusal × List ℕ} (λ out. substitute_call 4096 zeros out) (λ out. writing zeros_kept out)
 unfolding writing substitute_call after_listing written_answer listing whole rooted last listing_line node_line swap_line swap_fields swapped above_last formed stored none lines lines_by at_line after_line line_by pi_line line_end fields_of number_fields variable_fields infix_fields child_by then ended decimal spelt run value digit_of hex hex_from starts name_from numbered computed substitute put_in_leaf put_in swap_for written text line line_fields leaf_fields finished once place in_decimal digits digits_by byte_of in_hex last_hex
 zeros_compute = refl
 
 pub minus_zero_stays : (out : List ℕ) → length zeros_kept ≤ length out
-    → substitute_call 4096 zeros out ≡ (Written.Bytes (length zeros_kept), zeros_kept ++ drop (length zeros_kept) out)
+    → substitute_call 4096 zeros out ≡ (Ok (length zeros_kept), zeros_kept ++ drop (length zeros_kept) out)
 unfolding writing
 minus_zero_stays out room = ap (λ answer. answer out) zeros_compute ∙ (rw (le-ltb (length out) (length zeros_kept) room) refl)

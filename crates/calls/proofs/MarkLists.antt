@@ -6,6 +6,7 @@ use mathlib.Core.Logic.{◌⊎◌, inl, inr}
 use Prim.Native.Nat.{ℕ, zero, suc, ◌≤◌}
 use native.Mathlib.Omega.{arith}
 use lib.ListN.{length, get_or}
+use Rattle.std.specs.Prelude.{Result, Ok, Err}
 use Rattle.memory.specs.Marks.{most_marks, no_marks, noted, marks_of}
 use Rattle.memory.proofs.Marks.{length_marks, mark_small}
 use Rattle.expression.specs.declared.refusal.Refusal.{Refusal}
@@ -21,7 +22,6 @@ use Rattle.tasks.specs.Tasks.{is_allowed}
 use Rattle.simplification.specs.Simplifying.{simplify}
 use Rattle.simplification.proofs.Marking as Marking
 use Rattle.simplification.proofs.Marking.{marks_grow}
-use Rattle.tape.specs.declared.Checked.{Checked}
 use Rattle.tape.specs.Tapes.{check}
 use Rattle.tape.specs.Using.{used_playing}
 use Rattle.calls.specs.declared.Simplified.{Simplified}
@@ -50,23 +50,23 @@ unfolding evaluate_job_marks
 evaluated_left (ready root store rows) = by_rows (used rows root)
 evaluated_left (Calls.refused why) = none_left
 
-played_left : (c : Checked) (tape values : List ℕ) → Left (play_checked_marks c tape values)
+played_left : (c : Result (Unit {0}) Refusal) (tape values : List ℕ) → Left (play_checked_marks c tape values)
 unfolding play_checked_marks play_sheet_marks
-played_left Checked.Sound tape values = go (sheet values)
+played_left (Ok u) tape values = go (sheet values)
   where
     go : (w : Whole Rows Refusal) → Left (play_sheet_marks tape w)
     go (Lines.read rows) = by_rows (used_playing rows tape)
     go (Lines.refused why) = none_left
-played_left (Checked.Bad step) tape values = none_left
+played_left (Err why) tape values = none_left
 
 either_left : (b : Bool) {x y : List ℕ} → Left x → Left y → Left (cond b x y)
 either_left true p q = p
 either_left false p q = q
 
-shown_left : (r : Simplified) {marks : List ℕ} → Left marks → Left (shown r marks)
+shown_left : (r : Result Simplified Refusal) {marks : List ℕ} → Left marks → Left (shown r marks)
 unfolding shown is_shown
-shown_left (Simplified.Bytes bytes calls) p = p
-shown_left (Simplified.Refused why) p = either_left (is_lack why) p none_left
+shown_left (Ok a) p = p
+shown_left (Err why) p = either_left (is_lack why) p none_left
 
 -- what simplifying marks where none was marked before
 simplified_left : (rows : Rows) (limit : ℕ) (root : Tree) (store : State) → Marking.marks_of store ≡ no_marks → Left (marks_in (simplify rows limit root store))

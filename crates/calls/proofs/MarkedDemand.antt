@@ -5,17 +5,17 @@ use mathlib.Core.Bool.{false}
 use mathlib.Core.List.{List}
 use Prim.Native.Nat.{ℕ, ◌*◌, ◌≤◌}
 use lib.ListN.{length, take}
+use Rattle.std.specs.Prelude.{Result, Ok}
+use Rattle.complex.specs.declared.Complex.{Complex}
 use Rattle.expression.specs.declared.refusal.Refusal.{Refusal}
 use Rattle.expression.specs.Trees.{Tree, size}
 use Rattle.store.specs.Storing.{State, fresh}
 use Rattle.text.specs.Lines as Lines
 use Rattle.text.specs.Lines.{Whole}
-use Rattle.writing.specs.declared.Written.{Written}
 use Rattle.listing.specs.Listings.{Swap, accepted, listing}
 use Rattle.sheet.specs.Rows.{Rows, sheet}
 use Rattle.tape.specs.Tapes.{tape}
 use Rattle.tape.proofs.SameRows.{tape_marks}
-use Rattle.calls.specs.declared.Evaluated.{Evaluated}
 use Rattle.calls.specs.Calls as Calls
 use Rattle.calls.specs.Calls.{after_listing, with_sheet, job, evaluate_call, compile_call, play_call}
 use Rattle.calls.specs.Marks.{evaluate_job_marks, evaluate_marks, play_sheet_marks, play_checked_marks, play_marks}
@@ -54,12 +54,12 @@ module _ (room : ℕ) (list out : List ℕ) {root : Tree} {swaps : List Swap} {s
       under (Lines.refused why) = refl
 
   pub compiled_plays_marked : (values : List ℕ)
-      → ◌≡◌ {A = Evaluated × List ℕ} (play_call (compiled_bytes room list out read small ample) values, play_marks (compiled_bytes room list out read small ample) values)
+      → ◌≡◌ {A = Result Complex Refusal × List ℕ} (play_call (compiled_bytes room list out read small ample) values, play_marks (compiled_bytes room list out read small ample) values)
       (evaluate_call room list values, evaluate_marks room list values)
   compiled_plays_marked values = λ i. (compiled_plays room list out read small ample values i, compiled_marks values i)
 
 -- the bytes that compiling wrote, where it answers a length, and evaluating in a store of any room that accepts the listing
-module _ (room : ℕ) (list out : List ℕ) {bytes : ℕ} {out' : List ℕ} (wrote : compile_call room list out ≡ (Written.Bytes bytes, out')) (room' : ℕ) {root : Tree} {swaps : List Swap} {store : State}
+module _ (room : ℕ) (list out : List ℕ) {bytes : ℕ} {out' : List ℕ} (wrote : compile_call room list out ≡ (Ok bytes, out')) (room' : ℕ) {root : Tree} {swaps : List Swap} {store : State}
     (read : listing false list (fresh room' 0) ≡ accepted root swaps store) where
   pub written_marks : (values : List ℕ) → play_marks (take bytes out') values ≡ evaluate_marks room' list values
   written_marks values =
@@ -71,5 +71,5 @@ module _ (room : ℕ) (list out : List ℕ) {bytes : ℕ} {out' : List ℕ} (wro
       ∙ sym (marks_are room' list values read)
 
   pub written_plays_marked : (values : List ℕ)
-      → ◌≡◌ {A = Evaluated × List ℕ} (play_call (take bytes out') values, play_marks (take bytes out') values) (evaluate_call room' list values, evaluate_marks room' list values)
+      → ◌≡◌ {A = Result Complex Refusal × List ℕ} (play_call (take bytes out') values, play_marks (take bytes out') values) (evaluate_call room' list values, evaluate_marks room' list values)
   written_plays_marked values = λ i. (written_plays room list out wrote room' read values i, written_marks values i)

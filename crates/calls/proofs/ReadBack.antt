@@ -8,6 +8,7 @@ use borrow.Author.Tests.{ltb-false}
 use lib.Dec.{ltb}
 use lib.ListN.{length, take, drop}
 use lib.Seq.{take-append_seam}
+use Rattle.std.specs.Prelude.{Result, Ok, Err}
 use Rattle.complex.specs.Bits.{Fitting}
 use Rattle.expression.specs.declared.refusal.Refusal.{Refusal}
 use Rattle.expression.specs.Trees.{Tree}
@@ -20,7 +21,6 @@ use Rattle.tasks.specs.Tasks.{is_allowed}
 use Rattle.simplification.specs.Simplifying.{simplify}
 use Rattle.simplification.proofs.Stored.{Given, simplified_is_in}
 use Rattle.substitution.specs.Substituting.{substitute}
-use Rattle.writing.specs.declared.Written.{Written}
 use Rattle.writing.specs.Order.{order, text_of, written}
 use Rattle.writing.proofs.ReadBack.{store_of, reads_back}
 use Rattle.calls.specs.declared.Simplified.{Simplified}
@@ -42,10 +42,10 @@ pub record GivenBack (room : ℕ) (a : Answer) (bytes : ℕ) (out' : List ℕ) :
   pub back : ReadsBack room bytes out' tree
 
 not_written : {A : Type 0} {why : Refusal} {bytes : ℕ} {out out' : List ℕ}
-    → ◌≡◌ {A = Written × List ℕ} (Written.Refused why, out) (Written.Bytes bytes, out') → A
+    → ◌≡◌ {A = Result ℕ Refusal × List ℕ} (Err why, out) (Ok bytes, out') → A
 not_written e = let z : ◌≡◌ {A = ℕ} 0 1 = cc (ap (λ w. w.0) e) in absurd (omega arith)
 
-is_written : (t : Tree) (out : List ℕ) {bytes : ℕ} {out' : List ℕ} → written t out ≡ (Written.Bytes bytes, out')
+is_written : (t : Tree) (out : List ℕ) {bytes : ℕ} {out' : List ℕ} → written t out ≡ (Ok bytes, out')
     → (length (order t) ≤ 1024) × (take bytes out' ≡ text_of t)
 unfolding written
 is_written t out {bytes} {out'} e = go (ltb 1024 n) refl (ltb (length out) (length (text_of t))) e
@@ -54,8 +54,8 @@ is_written t out {bytes} {out'} e = go (ltb 1024 n) refl (ltb (length out) (leng
     n = length (order t)
 
     go : (b : Bool) → ltb 1024 n ≡ b → (c : Bool)
-        → ◌≡◌ {A = Written × List ℕ} (cond b (Written.Refused (Refusal.LongList 0), out)
-        (cond c (Written.Refused Refusal.OutRoom, out) (Written.Bytes (length (text_of t)), text_of t ++ drop (length (text_of t)) out))) (Written.Bytes bytes, out')
+        → ◌≡◌ {A = Result ℕ Refusal × List ℕ} (cond b (Err (Refusal.LongList 0), out)
+        (cond c (Err Refusal.OutRoom, out) (Ok (length (text_of t)), text_of t ++ drop (length (text_of t)) out))) (Ok bytes, out')
         → (n ≤ 1024) × (take bytes out' ≡ text_of t)
     go true q c e = not_written e
     go false q true e = not_written e
@@ -64,7 +64,7 @@ is_written t out {bytes} {out'} e = go (ltb 1024 n) refl (ltb (length out) (leng
         (ltb-false 1024 n q, (λ j. take (m j) (ap (λ w. w.1) (sym e) j)) ∙ take-append_seam (text_of t) (drop (length (text_of t)) out))
 
 given_back : (room : ℕ) (s : State) (a : Answer) (out : List ℕ) {bytes : ℕ} {out' : List ℕ} → GivenIn room s a
-    → written_answer out a ≡ (Written.Bytes bytes, out') → GivenBack room a bytes out'
+    → written_answer out a ≡ (Ok bytes, out') → GivenBack room a bytes out'
 unfolding written_answer Given
 given_back room s (Storing.refused why s') out x e = not_written e
 given_back room s (gives t s') out x e =
@@ -88,13 +88,13 @@ pub record SubstitutedBack (room : ℕ) (list : List ℕ) (bytes : ℕ) (out' : 
   pub is_listing : listing true list (fresh room 0) ≡ accepted root swaps store
   pub result : GivenBack room (substitute swaps root store) bytes out'
 
-pub substituted_reads_back : (room : ℕ) (list out : List ℕ) {bytes : ℕ} {out' : List ℕ} → substitute_call room list out ≡ (Written.Bytes bytes, out')
+pub substituted_reads_back : (room : ℕ) (list out : List ℕ) {bytes : ℕ} {out' : List ℕ} → substitute_call room list out ≡ (Ok bytes, out')
     → SubstitutedBack room list bytes out'
 unfolding substitute_call after_listing Listed
 substituted_reads_back room list out {bytes} {out'} e = go (listing true list (fresh room 0)) refl (listing_listed room true list) e
   where
     go : (l : Listing) → listing true list (fresh room 0) ≡ l → Listed room l
-        → after_listing (λ why. (Written.Refused why, out)) l (λ root swaps store. written_answer out (substitute swaps root store)) ≡ (Written.Bytes bytes, out')
+        → after_listing (λ why. (Err why, out)) l (λ root swaps store. written_answer out (substitute swaps root store)) ≡ (Ok bytes, out')
         → SubstitutedBack room list bytes out'
     go (Listings.refused why) q x e = not_written e
     go (accepted root swaps store) q x e = record {
@@ -119,18 +119,20 @@ unfolding Jobbed
 simplified_stored room limit root store R x =
     simplified_is_in (Sane room) StoredIn (λ s. New (stored_in s)) Fitting (lasting room) R (fitting_numbers R x.2) suc limit root store x.0 x.1
 
-uncounted : (n : ℕ) (w : Written) {bytes calls : ℕ} → with_calls n w ≡ Simplified.Bytes bytes calls → w ≡ Written.Bytes bytes
+uncounted : (n : ℕ) (w : Result ℕ Refusal) {bytes calls : ℕ} → with_calls n w ≡ Ok (record { bytes = bytes; calls = calls }) → w ≡ Ok bytes
 unfolding with_calls
-uncounted n (Written.Bytes b) e = cc
-uncounted n (Written.Refused why) e = let z : ◌≡◌ {A = ℕ} 0 1 = cc in absurd (omega arith)
+uncounted n (Ok b) {bytes} {calls} e =
+    let z : ◌≡◌ {A = Simplified} (record { bytes = b; calls = n }) (record { bytes = bytes; calls = calls }) = cc in
+    ap (λ (a : Simplified). Ok a.bytes) z
+uncounted n (Err why) e = let z : ◌≡◌ {A = ℕ} 0 1 = cc in absurd (omega arith)
 
 pub simplified_reads_back : (room limit : ℕ) (list values out : List ℕ) {bytes calls : ℕ} {out' : List ℕ}
-    → simplify_call room limit list values out ≡ (Simplified.Bytes bytes calls, out') → SimplifiedBack room limit list values bytes out'
+    → simplify_call room limit list values out ≡ (Ok (record { bytes = bytes; calls = calls }), out') → SimplifiedBack room limit list values bytes out'
 unfolding simplify_call simplify_job Jobbed
 simplified_reads_back room limit list values out {bytes} {calls} {out'} e = go (is_allowed limit) (job room list values) refl (job_in room list values) e
   where
     go : (b : Bool) (j : Job) → job room list values ≡ j → Jobbed room j
-        → cond b (simplify_job limit out j) (Simplified.Refused Refusal.BadLimit, out) ≡ (Simplified.Bytes bytes calls, out')
+        → cond b (simplify_job limit out j) (Err Refusal.BadLimit, out) ≡ (Ok (record { bytes = bytes; calls = calls }), out')
         → SimplifiedBack room limit list values bytes out'
     go false j q x e = let z : ◌≡◌ {A = ℕ} 0 1 = cc (ap (λ w. w.0) e) in absurd (omega arith)
     go true (Calls.refused why) q x e = let z : ◌≡◌ {A = ℕ} 0 1 = cc (ap (λ w. w.0) e) in absurd (omega arith)

@@ -1,11 +1,12 @@
 -- What a call of `simplify` answers: a count within 01's bound, and a result that is stored, within the limits, and reads back. Assumes nothing.
-use mathlib.Core.Path.{◌≡◌, refl, sym, ap, ◌∙◌, subst}
+use mathlib.Core.Path.{◌≡◌, refl, sym, ap, subst}
 use mathlib.Core.Bool.{Bool, true, false, cond, ◌&&◌}
 use mathlib.Core.List.{List, [], ◌∷◌}
-use Prim.Native.Nat.{ℕ, ◌+◌, ◌≤◌, ◌<◌}
+use Prim.Native.Nat.{ℕ, ◌+◌, ◌≤◌}
 use native.Mathlib.Omega.{arith}
 use lib.Dec.{ltb, eqb}
 use lib.ListN.{length}
+use Rattle.std.specs.Prelude.{Ok, Result, Err}
 use Rattle.memory.specs.Marks.{no_marks}
 use Rattle.expression.specs.declared.refusal.Refusal.{Refusal}
 use Rattle.expression.specs.Trees.{Tree, size, depth}
@@ -17,11 +18,8 @@ use Rattle.store.specs.Storing as Storing
 use Rattle.store.specs.Storing.{nothing, State, state, Answer, gives, among, intern, recall, fresh}
 use Rattle.store.specs.Memory.{room, trees}
 use Rattle.store.specs.Desk as Desk
-use Rattle.store.specs.Desk.{refused_from}
-use Rattle.store.specs.Held.{Lent, tree_in, state_in, Built}
-use Rattle.store.proofs.Building.{seen_node}
+use Rattle.store.specs.Held.{Lent, tree_in, state_in, seen, Built}
 use Rattle.store.proofs.Stored.{stored as stored_in_lem, limited, proper}
-use Rattle.writing.specs.declared.Written.{Written}
 use Rattle.listing.specs.Listings as Listings
 use Rattle.listing.specs.Listings.{Listing, Swap, accepted, Known, known, stored, formed, most_nodes, most_swaps, node_line, swap_fields, swapped, swap_line, listing_line, rooted, whole, listing, above_variable}
 use Rattle.node_lines.specs.NodeLines.{node_fields}
@@ -136,16 +134,16 @@ job_fresh room list values = go (listing false list (fresh room 0)) (listing_fre
 
 -- ---- the count
 
-unfoldable pub Within : (most : ℕ) → Simplified → Type 0
-Within most (Simplified.Bytes bytes calls) = calls ≤ most
-Within most (Simplified.Refused why) = Unit {0}
+unfoldable pub Within : (most : ℕ) → Result Simplified Refusal → Type 0
+Within most (Ok a) = a.calls ≤ most
+Within most (Err why) = Unit {0}
 
-answer_within : (n : ℕ) (a : Answer) (w : Written) → Below n a → Within n (with_calls (calls_in a) w)
+answer_within : (n : ℕ) (a : Answer) (w : Result ℕ Refusal) → Below n a → Within n (with_calls (calls_in a) w)
 unfolding with_calls calls_in Below count Within
-answer_within n (gives t (state room ts kept tally)) (Written.Bytes bytes) b = b
-answer_within n (gives t (state room ts kept tally)) (Written.Refused why) b = tt
-answer_within n (Storing.refused why s) (Written.Bytes bytes) b = omega arith
-answer_within n (Storing.refused why s) (Written.Refused why') b = tt
+answer_within n (gives t (state room ts kept tally)) (Ok bytes) b = b
+answer_within n (gives t (state room ts kept tally)) (Err why) b = tt
+answer_within n (Storing.refused why s) (Ok bytes) b = omega arith
+answer_within n (Storing.refused why s) (Err why') b = tt
 
 job_within : (limit : ℕ) (out : List ℕ) (j : Job) → FreshJob j → Within (most_calls limit) (simplify_job limit out j).0
 unfolding simplify_job FreshJob Within
@@ -161,35 +159,36 @@ pub calls_within : (room limit : ℕ) (list values out : List ℕ) → Within (m
 unfolding simplify_call Within
 calls_within room limit list values out = go (is_allowed limit)
   where
-    go : (b : Bool) → Within (most_calls limit) (cond b (simplify_job limit out (job room list values)) (Simplified.Refused Refusal.BadLimit, out)).0
+    go : (b : Bool) → Within (most_calls limit) (cond b (simplify_job limit out (job room list values)) (Err Refusal.BadLimit, out)).0
     go true = job_within limit out (job room list values) (job_fresh room list values)
     go false = tt
 
 pub at_most : (limit : ℕ) (list values out : List ℕ) (w : Work) {bytes calls : ℕ} {out' : List ℕ} {w' : Work}
-    → Simplifies limit list values out w (Simplified.Bytes bytes calls) out' w' → calls ≤ most_calls limit
+    → Simplifies limit list values out w (Ok (record { bytes = bytes; calls = calls })) out' w' → calls ≤ most_calls limit
 unfolding Within
 at_most limit list values out w p = subst (Within (most_calls limit)) (sym (ap (λ x. x.0.0) p)) (calls_within (capacity w) limit list values out)
 
 -- "It is at most 244,531 at limit 10"
 pub at_most_at_ten : (list values out : List ℕ) (w : Work) {bytes calls : ℕ} {out' : List ℕ} {w' : Work}
-    → Simplifies 10 list values out w (Simplified.Bytes bytes calls) out' w' → calls ≤ 244531
+    → Simplifies 10 list values out w (Ok (record { bytes = bytes; calls = calls })) out' w' → calls ≤ 244531
 at_most_at_ten list values out w p = omega (arith, at_most 10 list values out w p, bound_at_ten)
 
 -- ---- the result
 
-module _ {want : Answer} {i : ℕ} {l l' : Lent} (b : Built want i l l') (x : i < refused_from) where
+module _ {want : Answer} {i : ℕ} {l l' : Lent} (b : Built want (Ok i) l l') where
   pub result_is : want ≡ gives (tree_in l' i) (state_in l')
-  result_is = sym b.answer ∙ seen_node i l' x
+  unfolding seen
+  result_is = sym b.answer
 
   pub result_stored : among (trees l'.rows (Desk.count l'.desk)) (tree_in l' i) ≡ true
-  result_stored = stored_in_lem b.step.sound.holds i (b.inside x)
+  result_stored = stored_in_lem b.step.sound.holds i b.inside
 
   pub result_limited : Limited (tree_in l' i)
-  result_limited = limited b.step.sound.holds i (b.inside x)
+  result_limited = limited b.step.sound.holds i b.inside
 
   pub result_proper : Proper (tree_in l' i)
   result_proper = proper b.step.sound.holds i
 
   pub result_reads_back : length (order (tree_in l' i)) ≤ 1024 → (substituting : Bool) (room' : ℕ) → room l'.rows ≤ room'
       → listing substituting (text_of (tree_in l' i)) (fresh room' 0) ≡ accepted (tree_in l' i) [] (store_of room' (order (tree_in l' i)))
-  result_reads_back = written_reads_back b.step.sound.holds (b.inside x)
+  result_reads_back = written_reads_back b.step.sound.holds b.inside

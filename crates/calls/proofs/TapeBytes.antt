@@ -9,6 +9,7 @@ use borrow.Author.Tests.{ltb-false}
 use lib.Dec.{ltb}
 use lib.ListN.{length, take, drop}
 use lib.Seq.{take_at}
+use Rattle.std.specs.Prelude.{Result, Ok, Err}
 use Rattle.complex.specs.declared.Complex.{Complex}
 use Rattle.expression.specs.declared.refusal.Operation.{Operation}
 use Rattle.expression.specs.declared.refusal.Refusal.{Refusal}
@@ -16,17 +17,15 @@ use Rattle.expression.specs.Trees.{Tree, size, depth}
 use Rattle.store.specs.Storing.{State, fresh}
 use Rattle.text.specs.Lines as Lines
 use Rattle.text.specs.Lines.{Whole}
-use Rattle.writing.specs.declared.Written.{Written}
 use Rattle.listing.specs.Listings as Listings
 use Rattle.listing.specs.Listings.{Listing, Swap, accepted, listing}
 use Rattle.sheet.specs.Rows.{Rows, sheet}
 use Rattle.evaluation.specs.declared.Evaluation.{Evaluation}
-use Rattle.tape.specs.declared.Checked.{Checked}
 use Rattle.tape.specs.Tapes.{tape, compiled, steps_in, check}
 use Rattle.tape.specs.Playing.{Outcome, stands, lacks, result, run}
+use Rattle.tape.proofs.Checking.{refused_by}
 use Rattle.tape.proofs.Emitting.{tape_length}
 use Rattle.tape.proofs.Prefixes.{AtMost, Ends, one_value, lacks_function, lacks_binding, sound_prefix, tape_prefix, sound_ends}
-use Rattle.calls.specs.declared.Evaluated.{Evaluated}
 use Rattle.calls.specs.Calls as Calls
 use Rattle.calls.specs.Calls.{after_listing, with_sheet, job, evaluated, evaluate_job, evaluate_call, compile_call, play_sheet, play_call}
 use Rattle.calls.proofs.Accepted.{accepted_good}
@@ -46,27 +45,27 @@ pub record Source (room : ℕ) (list out : List ℕ) (bytes : ℕ) (out' : List 
   pub ample : 24 * size root ≤ length out
   pub bytes_are : take bytes out' ≡ tape root
 
-refused_or_not : {A : Type 0} {why : Refusal} {bytes : ℕ} → Written.Refused why ≡ Written.Bytes bytes → A
+refused_or_not : {A : Type 0} {why : Refusal} {bytes : ℕ} → Err why ≡ Ok bytes → A
 refused_or_not e = absurd (subst Is-refused e tt)
   where
-    Is-refused : Written → Type 0
-    Is-refused (Written.Refused why) = Unit {0}
-    Is-refused (Written.Bytes bytes) = ⊥
+    Is-refused : Result ℕ Refusal → Type 0
+    Is-refused (Err why) = Unit {0}
+    Is-refused (Ok bytes) = ⊥
 
-bytes_in : Written → ℕ
-bytes_in (Written.Bytes bytes) = bytes
-bytes_in (Written.Refused why) = 0
+bytes_in : Result ℕ Refusal → ℕ
+bytes_in (Ok bytes) = bytes
+bytes_in (Err why) = 0
 
 abbrev Answer : Type 0
-Answer = Written × List ℕ
+Answer = Result ℕ Refusal × List ℕ
 
 abbrev fit : (root : Tree) (out : List ℕ) → Answer
-fit root out = (Written.Bytes (length (tape root)), tape root ++ drop (length (tape root)) out)
+fit root out = (Ok (length (tape root)), tape root ++ drop (length (tape root)) out)
 
 module _ (room : ℕ) (list out : List ℕ) {bytes : ℕ} {out' : List ℕ} {root : Tree} {swaps : List Swap} {store : State}
     (read : listing false list (fresh room 0) ≡ accepted root swaps store) where
   fits : size root ≤ 512 → (b : Bool) → ltb (length out) (length (tape root)) ≡ b
-      → ◌≡◌ {A = Answer} (cond b (Written.Refused Refusal.OutRoom, out) (fit root out)) (Written.Bytes bytes, out') → Source room list out bytes out'
+      → ◌≡◌ {A = Answer} (cond b (Err Refusal.OutRoom, out) (fit root out)) (Ok bytes, out') → Source room list out bytes out'
   unfolding bytes_in
   fits small true f w = refused_or_not (ap (λ x. x.0) w)
   fits small false f w = record {
@@ -81,26 +80,26 @@ module _ (room : ℕ) (list out : List ℕ) {bytes : ℕ} {out' : List ℕ} {roo
 
   not_long : (b : Bool) → ltb 512 (size root) ≡ b
       → ◌≡◌ {A = Answer}
-      (cond b (Written.Refused Refusal.LongTape, out) (cond (ltb (length out) (length (tape root))) (Written.Refused Refusal.OutRoom, out) (fit root out)))
-      (Written.Bytes bytes, out')
+      (cond b (Err Refusal.LongTape, out) (cond (ltb (length out) (length (tape root))) (Err Refusal.OutRoom, out) (fit root out)))
+      (Ok bytes, out')
       → Source room list out bytes out'
   not_long true f w = refused_or_not (ap (λ x. x.0) w)
   not_long false f w = fits (ltb-false 512 (size root) f) (ltb (length out) (length (tape root))) refl w
 
 -- where compiling answers a length, this is why
-pub written_from : (room : ℕ) (list out : List ℕ) {bytes : ℕ} {out' : List ℕ} → compile_call room list out ≡ (Written.Bytes bytes, out')
+pub written_from : (room : ℕ) (list out : List ℕ) {bytes : ℕ} {out' : List ℕ} → compile_call room list out ≡ (Ok bytes, out')
     → Source room list out bytes out'
 unfolding compile_call after_listing compiled
 written_from room list out {bytes} {out'} wrote = go (listing false list (fresh room 0)) refl wrote
   where
     go : (l : Listing) → listing false list (fresh room 0) ≡ l
-        → ◌≡◌ {A = Answer} (after_listing (λ why. (Written.Refused why, out)) l (λ root swaps store. compiled root out)) (Written.Bytes bytes, out')
+        → ◌≡◌ {A = Answer} (after_listing (λ why. (Err why, out)) l (λ root swaps store. compiled root out)) (Ok bytes, out')
         → Source room list out bytes out'
     go (Listings.refused why) e w = refused_or_not (ap (λ x. x.0) w)
     go (accepted root swaps store) e w = not_long room list out e (ltb 512 (size root)) refl w
 
 -- evaluating looks at the root and the sheet alone
-evaluated_from : Tree → Whole Rows Refusal → Evaluated
+evaluated_from : Tree → Whole Rows Refusal → Result Complex Refusal
 evaluated_from root w = evaluate_job (with_sheet root (fresh 0 0) w)
 
 evaluates_from : (room : ℕ) (list values : List ℕ) {root : Tree} {swaps : List Swap} {store : State}
@@ -113,7 +112,7 @@ evaluates_from room list values {root} {swaps} {store} e =
     go (Lines.read rows) = refl
     go (Lines.refused why) = refl
 
-module _ (room : ℕ) (list out : List ℕ) {bytes : ℕ} {out' : List ℕ} (wrote : compile_call room list out ≡ (Written.Bytes bytes, out')) where
+module _ (room : ℕ) (list out : List ℕ) {bytes : ℕ} {out' : List ℕ} (wrote : compile_call room list out ≡ (Ok bytes, out')) where
   from : Source room list out bytes out'
   from = written_from room list out wrote
 
@@ -125,7 +124,7 @@ module _ (room : ℕ) (list out : List ℕ) {bytes : ℕ} {out' : List ℕ} (wro
       ∙ sym from.bytes_are
 
   -- the bytes that were written are a sound tape
-  pub written_sound : check (take bytes out') ≡ Checked.Sound
+  pub written_sound : check (take bytes out') ≡ Ok tt
   written_sound = ap check (sym as_compiled) ∙ compiled_sound room list out from.read from.small from.ample
 
   -- "The stack never holds more than the expression's depth": after each step of these bytes, under any rows
@@ -153,7 +152,7 @@ module _ (room : ℕ) (list out : List ℕ) {bytes : ℕ} {out' : List ℕ} (wro
 
   -- and with any other, unless evaluating is refused by 8
   pub written_plays_unless_full : (room' : ℕ) (values : List ℕ)
-      → (evaluate_call room' list values ≡ Evaluated.Refused Refusal.Room) ⊎ (play_call (take bytes out') values ≡ evaluate_call room' list values)
+      → (evaluate_call room' list values ≡ Err Refusal.Room) ⊎ (play_call (take bytes out') values ≡ evaluate_call room' list values)
   unfolding evaluate_job after_listing job
   written_plays_unless_full room' values = elim (accepted_unless_full false list room room' from.read) [
     | inl e ↦ inl (ap (λ x. evaluate_job (after_listing Calls.refused x λ root swaps store. with_sheet root store (sheet values))) e)
@@ -164,21 +163,21 @@ module _ (room : ℕ) (list out : List ℕ) {bytes : ℕ} {out' : List ℕ} (wro
 
 -- what a sound tape is answered: the sheet's refusal; the one value that it leaves; 9 or 10 where a value is lacking
 pub data Answered (tape values : List ℕ) : Type 0 where
-  sheet_refused : (why : Refusal) → sheet values ≡ Lines.refused why → play_call tape values ≡ Evaluated.Refused why → Answered tape values
+  sheet_refused : (why : Refusal) → sheet values ≡ Lines.refused why → play_call tape values ≡ Err why → Answered tape values
   value : (rows : Rows) (z : Complex) → sheet values ≡ Lines.read rows → run rows (steps_in tape) [] ≡ stands (z ∷ [])
-      → play_call tape values ≡ Evaluated.Value z → Answered tape values
+      → play_call tape values ≡ Ok z → Answered tape values
   need : (rows : Rows) (operation : Operation) (x y : Complex) → sheet values ≡ Lines.read rows
-      → run rows (steps_in tape) [] ≡ lacks (Evaluation.Need operation x y) → play_call tape values ≡ Evaluated.Refused (Refusal.Need operation x y)
+      → run rows (steps_in tape) [] ≡ lacks (Evaluation.Need operation x y) → play_call tape values ≡ Err (Refusal.Need operation x y)
       → Answered tape values
   incomplete : (rows : Rows) → sheet values ≡ Lines.read rows → run rows (steps_in tape) [] ≡ lacks Evaluation.Incomplete
-      → play_call tape values ≡ Evaluated.Refused Refusal.Incomplete → Answered tape values
+      → play_call tape values ≡ Err Refusal.Incomplete → Answered tape values
 
 pub data FromAnywhere (tape values : List ℕ) : Type 0 where
-  refused_first : (step : ℕ) → check tape ≡ Checked.Bad step → play_call tape values ≡ Evaluated.Refused (Refusal.BadTape step) → FromAnywhere tape values
-  plays : check tape ≡ Checked.Sound → ((rows : Rows) (k : ℕ) → AtMost 64 (run rows (take k (steps_in tape)) [])) → Answered tape values
+  refused_first : (step : ℕ) → check tape ≡ Err (Refusal.BadTape step) → play_call tape values ≡ Err (Refusal.BadTape step) → FromAnywhere tape values
+  plays : check tape ≡ Ok tt → ((rows : Rows) (k : ℕ) → AtMost 64 (run rows (take k (steps_in tape)) [])) → Answered tape values
       → FromAnywhere tape values
 
-module _ (tape values : List ℕ) (sound : check tape ≡ Checked.Sound) where
+module _ (tape values : List ℕ) (sound : check tape ≡ Ok tt) where
   answered_by_lem : (w : Whole Rows Refusal) → sheet values ≡ w → Answered tape values
   unfolding play_sheet evaluated result
   answered_by_lem (Lines.refused why) e = sheet_refused why e (sym (ap (λ x. x.0) (plays_sound tape values sound refl)) ∙ ap (play_sheet tape) e)
@@ -195,6 +194,9 @@ module _ (tape values : List ℕ) (sound : check tape ≡ Checked.Sound) where
 pub from_anywhere : (tape values : List ℕ) → FromAnywhere tape values
 from_anywhere tape values = go (check tape) refl
   where
-    go : (c : Checked) → check tape ≡ c → FromAnywhere tape values
-    go Checked.Sound e = plays e (λ rows k. sound_prefix rows tape e k) (answered_by_lem tape values e (sheet values) refl)
-    go (Checked.Bad step) e = refused_first step e (sym (ap (λ x. x.0) (plays_bad tape values e refl)))
+    go : (c : Result (Unit {0}) Refusal) → check tape ≡ c → FromAnywhere tape values
+    go (Ok u) e = plays e (λ rows k. sound_prefix rows tape e k) (answered_by_lem tape values e (sheet values) refl)
+    go (Err why) e =
+        let by = refused_by tape e in
+        let b = rw by.1 at e in
+        refused_first by.0 b (sym (ap (λ x. x.0) (plays_bad tape values b refl)))

@@ -6,6 +6,7 @@ use mathlib.Core.List.{List, []}
 use mathlib.Core.Logic.{◌≢◌}
 use Prim.Native.Nat.{ℕ, suc, ◌<◌}
 use lib.ListN.{get_or}
+use Rattle.std.specs.Prelude.{Result, Ok, Err}
 use Rattle.memory.specs.Marks.{most_marks, no_marks, noted}
 use Rattle.memory.proofs.Marks.{among, unmarked, marked}
 use Rattle.expression.specs.declared.refusal.Refusal.{Refusal}
@@ -29,7 +30,6 @@ use Rattle.simplification.proofs.Tallying.{Both, both_give, both_refuse, beside}
 use Rattle.simplification.proofs.Marking as Marking
 use Rattle.simplification.proofs.Asking as Simplification
 use Rattle.simplification.proofs.Unused.{Renumbered, simplifies_unmarked, marks_without}
-use Rattle.tape.specs.declared.Checked.{Checked}
 use Rattle.tape.specs.Tapes.{check, steps_in}
 use Rattle.tape.specs.Using.{used_playing}
 use Rattle.tape.proofs.Asking as Tape
@@ -78,7 +78,7 @@ evaluate_marked room list values j m = go (listing false list (fresh room 0)) re
 -- playing: the tape is sound and the sheet read, and the tape's steps ask for what the row was found for
 pub record PlayUses (tape values : List ℕ) (j : ℕ) : Type 0 where
   pub rows : Rows
-  pub sound : check tape ≡ Checked.Sound
+  pub sound : check tape ≡ Ok tt
   pub bound : sheet values ≡ Lines.read rows
   pub uses : Uses rows (Tape.Asks rows (steps_in tape) []) j
   pub first : (other : Row) → Foremost uses.operation uses.left uses.right other rows.functions j uses.value
@@ -87,10 +87,10 @@ pub play_marked : (tape values : List ℕ) (j : ℕ) → get_or (play_marks tape
 unfolding play_checked_marks play_sheet_marks
 play_marked tape values j m = go (check tape) refl (sheet values) refl m
   where
-    go : (c : Checked) → check tape ≡ c → (w : Whole Rows Refusal) → sheet values ≡ w → get_or (play_checked_marks c tape values) j 0 ≡ 1 → PlayUses tape values j
-    go (Checked.Bad step) e w f m = no_mark j m
-    go Checked.Sound e (Lines.refused why) f m = no_mark j (rw f at m)
-    go Checked.Sound e (Lines.read rows) f m =
+    go : (c : Result (Unit {0}) Refusal) → check tape ≡ c → (w : Whole Rows Refusal) → sheet values ≡ w → get_or (play_checked_marks c tape values) j 0 ≡ 1 → PlayUses tape values j
+    go (Err why) e w f m = no_mark j m
+    go (Ok u) e (Lines.refused why) f m = no_mark j (rw f at m)
+    go (Ok u) e (Lines.read rows) f m =
         let u = Tape.marked_uses rows j tape (rw f at m) in
         record { rows = rows; sound = e; bound = f; uses = u; first = λ other. uses_foremost u other }
 
@@ -105,10 +105,10 @@ pub record SimplifyUses (room limit : ℕ) (list values : List ℕ) (j : ℕ) : 
   pub uses : Uses rows (Simplification.Asks suc rows limit root store) j
   pub first : (other : Row) → Foremost uses.operation uses.left uses.right other rows.functions j uses.value
 
-shown_marked : (r : Simplified) (marks : List ℕ) (j : ℕ) → get_or (shown r marks) j 0 ≡ 1 → get_or marks j 0 ≡ 1
+shown_marked : (r : Result Simplified Refusal) (marks : List ℕ) (j : ℕ) → get_or (shown r marks) j 0 ≡ 1 → get_or marks j 0 ≡ 1
 unfolding shown is_shown
-shown_marked (Simplified.Bytes bytes calls) marks j m = m
-shown_marked (Simplified.Refused why) marks j m = go (is_lack why) m
+shown_marked (Ok a) marks j m = m
+shown_marked (Err why) marks j m = go (is_lack why) m
   where
     go : (b : Bool) → get_or (cond b marks no_marks) j 0 ≡ 1 → get_or marks j 0 ≡ 1
     go true m = m
@@ -182,20 +182,20 @@ module _ (j : ℕ) (rows : Rows) (values values⁻ : List ℕ) (all : sheet valu
   unfolding play_checked play_sheet play_checked_marks play_sheet_marks
   play_without tape m = go (check tape) m
     where
-      go : (c : Checked) → get_or (play_checked_marks c tape values) j 0 ≡ 0 → play_checked c tape values⁻ ≡ play_checked c tape values
-      go Checked.Sound m = rw (all, less) (ap evaluated (Playing.plays_unmarked rows j tape few (rw all at m)))
-      go (Checked.Bad step) m = refl
+      go : (c : Result (Unit {0}) Refusal) → get_or (play_checked_marks c tape values) j 0 ≡ 0 → play_checked c tape values⁻ ≡ play_checked c tape values
+      go (Ok u) m = rw (all, less) (ap evaluated (Playing.plays_unmarked rows j tape few (rw all at m)))
+      go (Err why) m = refl
 
   pub play_marks_without : (tape : List ℕ) → get_or (play_marks tape values) j 0 ≡ 0 → (i : ℕ) → i ≢ j → i < most_marks
       → get_or (play_marks tape values⁻) (renumbered j i) 0 ≡ get_or (play_marks tape values) i 0
   unfolding play_checked_marks play_sheet_marks
   play_marks_without tape m i n l = go (check tape) m
     where
-      go : (c : Checked) → get_or (play_checked_marks c tape values) j 0 ≡ 0 → get_or (play_checked_marks c tape values⁻) (renumbered j i) 0 ≡ get_or (play_checked_marks c tape values) i 0
-      go Checked.Sound m =
+      go : (c : Result (Unit {0}) Refusal) → get_or (play_checked_marks c tape values) j 0 ≡ 0 → get_or (play_checked_marks c tape values⁻) (renumbered j i) 0 ≡ get_or (play_checked_marks c tape values) i 0
+      go (Ok u) m =
           let other = unmarked (used_playing rows tape) j few (rw all at m) in
           rw (all, less, Playing.uses_without rows j tape other) (marks_renumbered j i (used_playing rows tape) n other l)
-      go (Checked.Bad step) m = none_renumbered j i n l
+      go (Err why) m = none_renumbered j i n l
 
   -- ---- simplifying: where the answer is one at which the marks are shown, which is a success, 9 or 10. After another refusal they are zero though
   -- rows may have been used: without such a row it could be another answer
@@ -207,8 +207,8 @@ module _ (j : ℕ) (rows : Rows) (values values⁻ : List ℕ) (all : sheet valu
 
   module _ (limit : ℕ) (out : List ℕ) where
     -- the answer at a limit that is not allowed
-    abbrev beyond : Simplified × List ℕ
-    beyond = (Simplified.Refused Refusal.BadLimit, out)
+    abbrev beyond : Result Simplified Refusal × List ℕ
+    beyond = (Err Refusal.BadLimit, out)
 
     simplifies : (root : Tree) (store : State) → Fresh store → is_shown (simplified_answer out (simplify rows limit root store)).0 ≡ true
         → get_or (shown (simplified_answer out (simplify rows limit root store)).0 (marks_in (simplify rows limit root store))) j 0 ≡ 0

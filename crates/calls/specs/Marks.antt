@@ -1,6 +1,6 @@
 -- The marks of each call that takes a sheet: which t rows were used, for all texts. "zero after any refusal but NEED and INCOMPLETE, where they
 -- show the rows used up to there". Definitions only; the answers stand on the page Calls, and nothing here bears on them.
-use Rattle.std.specs.Prelude.{ℕ, List, Bool, true, cond}
+use Rattle.std.specs.Prelude.{ℕ, List, Bool, true, cond, Result, Ok, Err}
 use Rattle.memory.specs.Marks.{no_marks, marks_of}
 use Rattle.expression.specs.declared.refusal.Refusal.{Refusal}
 use Rattle.expression.specs.Refusals.{is_lack}
@@ -12,7 +12,6 @@ use Rattle.sheet.specs.Rows.{Rows, sheet}
 use Rattle.evaluation.specs.Using.{used}
 use Rattle.tasks.specs.Tasks.{is_allowed}
 use Rattle.simplification.specs.Simplifying.{simplify}
-use Rattle.tape.specs.declared.Checked.{Checked}
 use Rattle.tape.specs.Tapes.{check}
 use Rattle.tape.specs.Using.{used_playing}
 use Rattle.calls.specs.declared.Simplified.{Simplified}
@@ -31,9 +30,9 @@ unfoldable pub play_sheet_marks : (tape : List ℕ) → Whole Rows Refusal → L
 play_sheet_marks tape (Lines.read rows) = marks_of (used_playing rows tape)
 play_sheet_marks tape (Lines.refused why) = no_marks
 
-unfoldable pub play_checked_marks : Checked → (tape values : List ℕ) → List ℕ
-play_checked_marks Checked.Sound tape values = play_sheet_marks tape (sheet values)
-play_checked_marks (Checked.Bad step) tape values = no_marks
+unfoldable pub play_checked_marks : Result (Unit {0}) Refusal → (tape values : List ℕ) → List ℕ
+play_checked_marks (Ok u) tape values = play_sheet_marks tape (sheet values)
+play_checked_marks (Err why) tape values = no_marks
 
 abbrev pub play_marks : (tape values : List ℕ) → List ℕ
 play_marks tape values = play_checked_marks (check tape) tape values
@@ -45,11 +44,11 @@ marks_in (Storing.gives t (state room stored kept tally)) = tally.marks
 marks_in (Storing.refused why (state room stored kept tally)) = tally.marks
 
 -- shown after a success, and at a lack; a refusal by 6, 7 or 8, and one by 2 or 13 after simplifying, has none
-unfoldable pub is_shown : Simplified → Bool
-is_shown (Simplified.Bytes bytes calls) = true
-is_shown (Simplified.Refused why) = is_lack why
+unfoldable pub is_shown : Result Simplified Refusal → Bool
+is_shown (Ok a) = true
+is_shown (Err why) = is_lack why
 
-unfoldable pub shown : Simplified → (marks : List ℕ) → List ℕ
+unfoldable pub shown : Result Simplified Refusal → (marks : List ℕ) → List ℕ
 shown r marks = cond (is_shown r) marks no_marks
 
 unfoldable pub simplify_job_marks : (limit : ℕ) (out : List ℕ) → Job → List ℕ

@@ -3,15 +3,15 @@ ghost use Rattle.std.specs.Prelude.{◌≡◌, ◌≤◌, length};
 ghost use Rattle.memory.specs.Layout.{table_words};
 ghost use Rattle.store.specs.Held.{lent};
 ghost use Rattle.calls.specs.Lent.{work, zeroed};
-ghost use Rattle.calls.specs.Frame.{ReadsJob, sheet_added, WritesAnswer};
+ghost use Rattle.calls.specs.Frame.{ReadsJob, WritesAnswer};
 
 use super::Job;
-use listing::{Listing, read_listing};
+use expression::refusal::Refusal;
+use listing::read_listing;
 use memory::layout::DESK_WORDS;
-use memory::{zero, zero_rows};
-use sheet::{Sheet, read_sheet};
-use store::desk::{REFUSED, refusal_of};
-use writing::{Written, write_listing, write_origins};
+use sheet::read_sheet;
+use store::desk::{Refused, refusal_of};
+use writing::{write_listing, write_origins};
 
 // A listing into the store, then a sheet into the table.
 pub fn read_job(
@@ -20,24 +20,16 @@ pub fn read_job(
     store: &mut [[u64; 4]],
     desk: &mut [u64; DESK_WORDS],
     table: &mut [u64],
-) -> Job
+) -> Result<Job, Refusal>
     requires { table_words ≤ length table.old }
     ensures { ReadsJob list.now values.now result (lent store.old desk.old) (lent store.new desk.new) table.new }
 {
-    let listed = read_listing(list, false, store, desk, table);
-    match listed {
-        Listing::Read { root, swaps: _ } => add_sheet(root, read_sheet(values, table)),
-        Listing::Refused(why) => Job::Refused(why),
-    }
-}
-
-fn add_sheet(root: usize, values: Sheet) -> Job
-    ensures { result ≡ sheet_added root values }
-{
-    match values {
-        Sheet::Read(counts) => Job::Ready { root, counts },
-        Sheet::Refused(why) => Job::Refused(why),
-    }
+    let listed = read_listing(list, false, store, desk, table)?;
+    let counts = read_sheet(values, table)?;
+    Ok(Job {
+        root: listed.root,
+        counts,
+    })
 }
 
 // The listing of what was built, with origins if `traced`: 2, then 13, else its bytes at the start of the output. A refusal is passed on.
@@ -47,25 +39,25 @@ pub fn write_answer(
     desk: &[u64; DESK_WORDS],
     table: &mut [u64],
     out: &mut [u8],
-    built: usize,
-) -> Written
+    built: Result<usize, Refused>,
+) -> Result<usize, Refusal>
     requires { table_words ≤ length table.old }
     ensures { WritesAnswer traced (lent store.old desk.now) built result out.old out.new }
 {
-    if REFUSED <= built {
-        return Written::Refused(refusal_of(desk, built));
-    }
+    let Ok(root) = built else {
+        return Err(refusal_of(desk));
+    };
     if traced {
-        return write_origins(store, built, table, out);
+        return write_origins(store, root, table, out);
     }
-    write_listing(store, built, table, out)
+    write_listing(store, root, table, out)
 }
 
 // "Every return leaves the work memory zero."
 pub fn clear_work(store: &mut [[u64; 4]], desk: &mut [u64; DESK_WORDS], table: &mut [u64])
     ensures { work store.new desk.new table.new ≡ zeroed (work store.old desk.old table.old) }
 {
-    zero_rows(store);
+    store.fill([0; 4]);
     *desk = [0; DESK_WORDS];
-    zero(table);
+    table.fill(0);
 }

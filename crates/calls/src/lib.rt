@@ -7,23 +7,21 @@
 ghost use Rattle.std.specs.Prelude.{◌≡◌, ◌≤◌, length};
 ghost use Rattle.memory.specs.Layout.{table_words};
 ghost use Rattle.calls.specs.Lent.{work, capacity};
-ghost use Rattle.calls.specs.Calls.{evaluated, to_real_call, with_calls};
-ghost use Rattle.calls.specs.Frame.{EvaluatesTexts, SubstitutesTexts, SimplifiesTexts};
+ghost use Rattle.calls.specs.Calls.{evaluated, to_real_call};
+ghost use Rattle.calls.specs.Frame.{EvaluatesTexts, SubstitutesTexts, SubstitutesAs, SimplifiesTexts, SimplifiesAs};
 ghost use Rattle.calls.specs.Promises.{Evaluates, EvaluatesMarked, Substitutes, SubstitutesOrigins, ReadsReal, Simplifies, SimplifiesMarked, SimplifiesOrigins};
 
 use complex::Complex;
 use evaluation::Evaluation;
-use evaluation::real::Real;
 use expression::refusal::Refusal;
 use frame::{clear_work, read_job, write_answer};
-use listing::{Listing, read_listing};
+use listing::read_listing;
 use marks::show_marks;
 use memory::layout::{DESK_WORDS, MARKS, TABLE_WORDS};
 use sheet::Counts;
 use store::desk::{calls_made, standing};
 use substitution::substitute_variables;
 use tasks::limit::Limit;
-use writing::Written;
 
 pub mod frame;
 mod marks;
@@ -31,32 +29,26 @@ pub mod tapes;
 
 // A listing and a sheet that were read: the node of the root, and the rows of the sheet.
 #[derive(Clone, Copy)]
-pub enum Job {
-    Ready { root: usize, counts: Counts },
-    Refused(Refusal),
-}
-
-#[derive(Clone, Copy)]
-pub enum Evaluated {
-    Value(Complex),
-    Refused(Refusal),
+pub struct Job {
+    pub root: usize,
+    pub counts: Counts,
 }
 
 // How many bytes of the output are the result, and how many simplify calls were made.
 #[derive(Clone, Copy)]
-pub enum Simplified {
-    Bytes { bytes: usize, calls: u64 },
-    Refused(Refusal),
+pub struct Simplified {
+    pub bytes: usize,
+    pub calls: u64,
 }
 
-// Evaluation's lacks as refusals: 9 and 10.
-pub fn answer_of(value: Evaluation) -> Evaluated
+// Evaluation's lacks as refusals: 9 and 10. No `From`: neither type of the answer is this crate's, and 01 names `Evaluation` as the form to use.
+pub fn answer_of(value: Evaluation) -> Result<Complex, Refusal>
     ensures { result ≡ evaluated value }
 {
     match value {
-        Evaluation::Value(z) => Evaluated::Value(z),
-        Evaluation::Incomplete => Evaluated::Refused(Refusal::Incomplete),
-        Evaluation::Need(operation, x, y) => Evaluated::Refused(Refusal::Need(operation, x, y)),
+        Evaluation::Value(z) => Ok(z),
+        Evaluation::Incomplete => Err(Refusal::Incomplete),
+        Evaluation::Need(operation, x, y) => Err(Refusal::Need(operation, x, y)),
     }
 }
 
@@ -67,19 +59,14 @@ fn evaluate_texts(
     desk: &mut [u64; DESK_WORDS],
     table: &mut [u64],
     marks: &mut [u8; MARKS],
-) -> Evaluated
+) -> Result<Complex, Refusal>
     requires { table_words ≤ length table.old }
     ensures { EvaluatesTexts list.now values.now (work store.old desk.old table.old) result marks.old marks.new }
 {
-    let job = read_job(list, values, store, desk, table);
-    match job {
-        Job::Ready { root, counts } => {
-            let nodes = standing(desk);
-            let value = evaluation::evaluate(store, table, counts, root, nodes, marks);
-            answer_of(value)
-        }
-        Job::Refused(why) => Evaluated::Refused(why),
-    }
+    let job = read_job(list, values, store, desk, table)?;
+    let nodes = standing(desk);
+    let value = evaluation::evaluate(store, table, job.counts, job.root, nodes, marks);
+    answer_of(value)
 }
 
 // The value of an expression under a sheet, and the marks of the sheet's function values that were used.
@@ -90,7 +77,7 @@ pub fn evaluate_marked(
     desk: &mut [u64; DESK_WORDS],
     table: &mut [u64; TABLE_WORDS],
     marks: &mut [u8; MARKS],
-) -> Evaluated
+) -> Result<Complex, Refusal>
     ensures { EvaluatesMarked list.now values.now (work store.old desk.old table.old) result marks.new (work store.new desk.new table.new) }
 {
     *marks = [0; MARKS];
@@ -106,7 +93,7 @@ pub fn evaluate(
     store: &mut [[u64; 4]],
     desk: &mut [u64; DESK_WORDS],
     table: &mut [u64; TABLE_WORDS],
-) -> Evaluated
+) -> Result<Complex, Refusal>
     ensures { Evaluates list.now values.now (work store.old desk.old table.old) result (work store.new desk.new table.new) }
 {
     let mut marks: [u8; MARKS] = [0; MARKS];
@@ -120,18 +107,29 @@ fn substitute_texts(
     desk: &mut [u64; DESK_WORDS],
     table: &mut [u64],
     out: &mut [u8],
-) -> Written
+) -> Result<usize, Refusal>
     requires { table_words ≤ length table.old }
     ensures { SubstitutesTexts traced list.now out.old (work store.old desk.old table.old) result out.new }
 {
-    let listed = read_listing(list, true, store, desk, table);
-    match listed {
-        Listing::Read { root, swaps } => {
-            let built = substitute_variables(store, desk, table, swaps, root);
-            write_answer(traced, store, desk, table, out, built)
-        }
-        Listing::Refused(why) => Written::Refused(why),
-    }
+    let listed = read_listing(list, true, store, desk, table)?;
+    let built = substitute_variables(store, desk, table, listed.swaps, listed.root);
+    write_answer(traced, store, desk, table, out, built)
+}
+
+// As `substitute`, with origins in the listing if `traced`.
+fn substitute_as(
+    traced: bool,
+    list: &[u8],
+    store: &mut [[u64; 4]],
+    desk: &mut [u64; DESK_WORDS],
+    table: &mut [u64; TABLE_WORDS],
+    out: &mut [u8],
+) -> Result<usize, Refusal>
+    ensures { SubstitutesAs traced list.now out.old (work store.old desk.old table.old) result out.new (work store.new desk.new table.new) }
+{
+    let answer = substitute_texts(traced, list, store, desk, table, out);
+    clear_work(store, desk, table);
+    answer
 }
 
 // An expression with its variables replaced as the s lines of its listing say, written as a listing.
@@ -141,12 +139,10 @@ pub fn substitute(
     desk: &mut [u64; DESK_WORDS],
     table: &mut [u64; TABLE_WORDS],
     out: &mut [u8],
-) -> Written
+) -> Result<usize, Refusal>
     ensures { Substitutes list.now out.old (work store.old desk.old table.old) result out.new (work store.new desk.new table.new) }
 {
-    let answer = substitute_texts(false, list, store, desk, table, out);
-    clear_work(store, desk, table);
-    answer
+    substitute_as(false, list, store, desk, table, out)
 }
 
 // The same with origins in the listing.
@@ -156,12 +152,10 @@ pub fn substitute_origins(
     desk: &mut [u64; DESK_WORDS],
     table: &mut [u64; TABLE_WORDS],
     out: &mut [u8],
-) -> Written
+) -> Result<usize, Refusal>
     ensures { SubstitutesOrigins list.now out.old (work store.old desk.old table.old) result out.new (work store.new desk.new table.new) }
 {
-    let answer = substitute_texts(true, list, store, desk, table, out);
-    clear_work(store, desk, table);
-    answer
+    substitute_as(true, list, store, desk, table, out)
 }
 
 fn real_of_text(
@@ -169,15 +163,12 @@ fn real_of_text(
     store: &mut [[u64; 4]],
     desk: &mut [u64; DESK_WORDS],
     table: &mut [u64],
-) -> Real
+) -> Result<f64, Refusal>
     requires { table_words ≤ length table.old }
     ensures { result ≡ to_real_call (capacity (work store.old desk.old table.old)) list.now }
 {
-    let listed = read_listing(list, false, store, desk, table);
-    match listed {
-        Listing::Read { root, swaps: _ } => evaluation::real::to_real(store, root),
-        Listing::Refused(why) => Real::Refused(why),
-    }
+    let listed = read_listing(list, false, store, desk, table)?;
+    evaluation::real::to_real(store, listed.root)
 }
 
 // The real number that an expression is, if it is a number or pi.
@@ -186,21 +177,12 @@ pub fn to_real(
     store: &mut [[u64; 4]],
     desk: &mut [u64; DESK_WORDS],
     table: &mut [u64; TABLE_WORDS],
-) -> Real
+) -> Result<f64, Refusal>
     ensures { ReadsReal list.now (work store.old desk.old table.old) result (work store.new desk.new table.new) }
 {
     let answer = real_of_text(list, store, desk, table);
     clear_work(store, desk, table);
     answer
-}
-
-fn with_calls(calls: u64, answer: Written) -> Simplified
-    ensures { result ≡ with_calls calls answer }
-{
-    match answer {
-        Written::Bytes(bytes) => Simplified::Bytes { bytes, calls },
-        Written::Refused(why) => Simplified::Refused(why),
-    }
 }
 
 fn simplify_texts(
@@ -212,23 +194,41 @@ fn simplify_texts(
     desk: &mut [u64; DESK_WORDS],
     table: &mut [u64],
     out: &mut [u8],
-) -> Simplified
+) -> Result<Simplified, Refusal>
     requires { table_words ≤ length table.old }
     ensures { SimplifiesTexts traced limit list.now values.now out.old (work store.old desk.old table.old) result out.new desk.new }
 {
     let limit = Limit(limit);
     if !limit.is_allowed() {
-        return Simplified::Refused(Refusal::BadLimit);
+        return Err(Refusal::BadLimit);
     }
-    let job = read_job(list, values, store, desk, table);
-    match job {
-        Job::Ready { root, counts } => {
-            let built = simplification::simplify(limit, store, desk, table, counts, root);
-            let answer = write_answer(traced, store, desk, table, out, built);
-            with_calls(calls_made(desk), answer)
-        }
-        Job::Refused(why) => Simplified::Refused(why),
-    }
+    let job = read_job(list, values, store, desk, table)?;
+    let built = simplification::simplify(limit, store, desk, table, job.counts, job.root);
+    let bytes = write_answer(traced, store, desk, table, out, built)?;
+    Ok(Simplified {
+        bytes,
+        calls: calls_made(desk),
+    })
+}
+
+// As `simplify_marked`, with origins in the listing if `traced`.
+fn simplify_as(
+    traced: bool,
+    list: &[u8],
+    values: &[u8],
+    limit: u64,
+    store: &mut [[u64; 4]],
+    desk: &mut [u64; DESK_WORDS],
+    table: &mut [u64; TABLE_WORDS],
+    out: &mut [u8],
+    marks: &mut [u8; MARKS],
+) -> Result<Simplified, Refusal>
+    ensures { SimplifiesAs traced limit list.now values.now out.old (work store.old desk.old table.old) result marks.new out.new (work store.new desk.new table.new) }
+{
+    let answer = simplify_texts(traced, list, values, limit, store, desk, table, out);
+    show_marks(answer, desk, marks);
+    clear_work(store, desk, table);
+    answer
 }
 
 // An expression simplified at a limit, written as a listing, and the marks of the sheet's function values that were used.
@@ -241,13 +241,10 @@ pub fn simplify_marked(
     table: &mut [u64; TABLE_WORDS],
     out: &mut [u8],
     marks: &mut [u8; MARKS],
-) -> Simplified
+) -> Result<Simplified, Refusal>
     ensures { SimplifiesMarked limit list.now values.now out.old (work store.old desk.old table.old) result marks.new out.new (work store.new desk.new table.new) }
 {
-    let answer = simplify_texts(false, list, values, limit, store, desk, table, out);
-    show_marks(answer, desk, marks);
-    clear_work(store, desk, table);
-    answer
+    simplify_as(false, list, values, limit, store, desk, table, out, marks)
 }
 
 // The same with origins in the listing.
@@ -260,13 +257,10 @@ pub fn simplify_origins(
     table: &mut [u64; TABLE_WORDS],
     out: &mut [u8],
     marks: &mut [u8; MARKS],
-) -> Simplified
+) -> Result<Simplified, Refusal>
     ensures { SimplifiesOrigins limit list.now values.now out.old (work store.old desk.old table.old) result marks.new out.new (work store.new desk.new table.new) }
 {
-    let answer = simplify_texts(true, list, values, limit, store, desk, table, out);
-    show_marks(answer, desk, marks);
-    clear_work(store, desk, table);
-    answer
+    simplify_as(true, list, values, limit, store, desk, table, out, marks)
 }
 
 // The listing alone.
@@ -278,10 +272,9 @@ pub fn simplify(
     desk: &mut [u64; DESK_WORDS],
     table: &mut [u64; TABLE_WORDS],
     out: &mut [u8],
-) -> Simplified
+) -> Result<Simplified, Refusal>
     ensures { Simplifies limit list.now values.now out.old (work store.old desk.old table.old) result out.new (work store.new desk.new table.new) }
 {
-    let answer = simplify_texts(false, list, values, limit, store, desk, table, out);
-    clear_work(store, desk, table);
-    answer
+    let mut marks: [u8; MARKS] = [0; MARKS];
+    simplify_marked(list, values, limit, store, desk, table, out, &mut marks)
 }

@@ -5,15 +5,16 @@ ghost use Rattle.calls.specs.Marks.{is_shown};
 ghost use Rattle.calls.specs.Frame.{Shown, Copies};
 
 use super::Simplified;
+use expression::refusal::Refusal;
 use memory::layout::{DESK_WORDS, MARKS, MARKS_FROM};
 
 // After a success, and at a lack: NEED and INCOMPLETE show the rows that were used up to there.
-fn is_shown(answer: Simplified) -> bool
+fn is_shown(answer: Result<Simplified, Refusal>) -> bool
     ensures { result ≡ is_shown answer }
 {
     match answer {
-        Simplified::Bytes { bytes: _, calls: _ } => true,
-        Simplified::Refused(why) => why.is_lack(),
+        Ok(_) => true,
+        Err(why) => why.is_lack(),
     }
 }
 
@@ -21,14 +22,16 @@ fn is_shown(answer: Simplified) -> bool
 fn copy_marks(desk: &[u64; DESK_WORDS], marks: &mut [u8; MARKS])
     ensures { length marks.old ≡ most_marks → Copies desk.now marks.new }
 {
-    let mut row: usize = 0;
-    while row < MARKS {
+    for row in 0..MARKS {
         marks[row] = (desk[MARKS_FROM + row] % 256) as u8;
-        row += 1;
     }
 }
 
-pub fn show_marks(answer: Simplified, desk: &[u64; DESK_WORDS], marks: &mut [u8; MARKS])
+pub fn show_marks(
+    answer: Result<Simplified, Refusal>,
+    desk: &[u64; DESK_WORDS],
+    marks: &mut [u8; MARKS],
+)
     ensures { Shown answer desk.now marks.new }
 {
     *marks = [0; MARKS];

@@ -9,9 +9,10 @@ use lib.ListN.{length, get_or, drop}
 use lib.Dec.{ltb, eqb}
 use lib.Seq.{get_or-drop}
 use borrow.Author.Tests.{ltb-true, eqb-true}
+use Rattle.std.specs.Prelude.{Result, Ok, Err}
+use Rattle.expression.specs.declared.refusal.Refusal.{Refusal}
 use Rattle.steps.specs.Steps.{first, spelt, fields_in, known, step_of}
 use Rattle.steps.proofs.Knowing.{first_true, second_true}
-use Rattle.tape.specs.declared.Checked.{Checked}
 use Rattle.tape.specs.Tapes.{count, whole, allowed, after, fields_of_all, check_from, check}
 use Rattle.console.specs.TapeText.{in_lines, tape_in}
 use Rattle.console.proofs.TapesOnly.{tape_only}
@@ -24,11 +25,11 @@ known_begins (zero ∷ bs) e = let z : ◌≡◌ {A = ℕ} 0 1 = cc in absurd (o
 known_begins (suc b ∷ bs) e = omega arith
 
 -- a choice that is sound was made by its test
-chosen : (test : Bool) (k : ℕ) {yes : Checked} → cond test yes (Checked.Bad k) ≡ Checked.Sound → (test ≡ true) × (yes ≡ Checked.Sound)
+chosen : (test : Bool) (k : ℕ) {yes : Result (Unit {0}) Refusal} → cond test yes (Err (Refusal.BadTape k)) ≡ Ok tt → (test ≡ true) × (yes ≡ Ok tt)
 chosen true k e = (refl, e)
 chosen false k e = let z : ◌≡◌ {A = ℕ} 0 1 = cc in absurd (omega arith)
 
-all_begin : (n step values : ℕ) (bs : List ℕ) → check_from step values (fields_of_all n bs) ≡ Checked.Sound → (k : ℕ) → k < n → 0 < get_or bs (k * 24) 0
+all_begin : (n step values : ℕ) (bs : List ℕ) → check_from step values (fields_of_all n bs) ≡ Ok tt → (k : ℕ) → k < n → 0 < get_or bs (k * 24) 0
 unfolding check_from fields_of_all
 all_begin zero step values bs e k h = absurd (omega arith)
 all_begin (suc n) step values bs e zero h = known_begins bs (first_true _ _ (chosen (allowed values (fields_in bs)) step e).0)
@@ -36,7 +37,7 @@ all_begin (suc n) step values bs e (suc k) h =
     let z : suc k * 24 ≡ 24 + k * 24 = omega arith in
     rw z (rw (get_or-drop 24 bs (k * 24) 0) at (all_begin n (suc step) (after values (step_of (fields_in bs))) (drop 24 bs) (chosen (allowed values (fields_in bs)) step e).1 k (omega arith)))
 
-pub accepted : (text : List ℕ) → check (tape_in text) ≡ Checked.Sound → text ≡ in_lines 0 (tape_in text)
+pub accepted : (text : List ℕ) → check (tape_in text) ≡ Ok tt → text ≡ in_lines 0 (tape_in text)
 unfolding check
 accepted text e =
     let tape = tape_in text in

@@ -6,12 +6,12 @@ use mathlib.Core.Bool.{false}
 use Prim.Native.Nat.{ℕ, ◌≤◌}
 use lib.ListN.{length}
 use borrow.Author.Tests.{le-ltb, ne_eqb}
+use Rattle.std.specs.Prelude.{Result, Ok, Err}
 use Rattle.complex.specs.declared.Complex.{Complex}
 use Rattle.expression.specs.declared.refusal.Refusal.{Refusal}
 use Rattle.expression.specs.Refusals.{number_of}
 use Rattle.text.specs.Letters.{bytes}
 use Rattle.text.specs.Reading.{starts}
-use Rattle.calls.specs.declared.Evaluated.{Evaluated}
 use Rattle.calls.specs.Calls.{evaluate_call}
 use Rattle.console.specs.Answers.{value_line, refusal_line}
 use Rattle.console.specs.Parting.{listing_in, sheet_in}
@@ -30,7 +30,7 @@ word = refl
 
 module _ (input out : List ℕ) (h : length input ≤ 262144) where
   -- the call that is made, with a store of 4096
-  abbrev pub called : Evaluated
+  abbrev pub called : Result Complex Refusal
   called = evaluate_call 4096 (listing_in input) (sheet_in input)
 
   prints : standard_output (bytes "evaluate\n") input out
@@ -38,15 +38,15 @@ module _ (input out : List ℕ) (h : length input ≤ 262144) where
   unfolding output_of shows parted_shows result_for result_in parted
   prints = ap (λ r. output_of r input out) word ∙ rw (append-nil, le-ltb 262144 (length input) h)
 
-  pub value_printed : {z : Complex} → called ≡ Evaluated.Value z → standard_output (bytes "evaluate\n") input out ≡ value_line z
+  pub value_printed : {z : Complex} → called ≡ Ok z → standard_output (bytes "evaluate\n") input out ≡ value_line z
   unfolding of_evaluated output
   value_printed e = prints ∙ ap (λ a. output (of_evaluated (missing_in_job 4096 (listing_in input) (sheet_in input)) (listing_in input) (sheet_in input) a)) e
 
-  pub incomplete_printed : called ≡ Evaluated.Refused Refusal.Incomplete → standard_output (bytes "evaluate\n") input out ≡ bytes "incomplete\n"
+  pub incomplete_printed : called ≡ Err Refusal.Incomplete → standard_output (bytes "evaluate\n") input out ≡ bytes "incomplete\n"
   unfolding of_evaluated output refused_text
   incomplete_printed e = prints ∙ ap (λ a. output (of_evaluated (missing_in_job 4096 (listing_in input) (sheet_in input)) (listing_in input) (sheet_in input) a)) e
 
-  pub refusal_printed : {why : Refusal} → called ≡ Evaluated.Refused why → (number_of why ≡ 10 → ⊥) → standard_output (bytes "evaluate\n") input out ≡ refusal_line why
+  pub refusal_printed : {why : Refusal} → called ≡ Err why → (number_of why ≡ 10 → ⊥) → standard_output (bytes "evaluate\n") input out ≡ refusal_line why
   unfolding of_evaluated output refused_text
   refusal_printed {why} e n =
       prints ∙ ap (λ a. output (of_evaluated (missing_in_job 4096 (listing_in input) (sheet_in input)) (listing_in input) (sheet_in input) a)) e

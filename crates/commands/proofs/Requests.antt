@@ -1,4 +1,5 @@
 -- What follows on the first word: a limit, the words `marks` and `origins`, a file, nothing. Assumes nothing.
+use Rattle.std.specs.Prelude.{Option, Some, None, is_some, unwrap_or}
 use mathlib.Core.Path.{◌≡◌, refl, sym, ap, ◌∙◌}
 use mathlib.Core.List.{List, [], ◌∷◌}
 use mathlib.Core.Bool.{Bool, true, false}
@@ -8,7 +9,6 @@ use lib.Dec.{eqb}
 use lib.ListN.{length, drop, length-drop, drop_of_length-le}
 use lib.Seq.{drop-drop}
 use borrow.Author.Tests.{eq-eqb, ne_eqb}
-use Rattle.text.specs.declared.reading.Number.{Number}
 use Rattle.text.specs.Letters.{bytes}
 use Rattle.text.specs.Reading.{Read, starts}
 use Rattle.text.specs.Seen as Seen
@@ -16,7 +16,6 @@ use Rattle.steps.proofs.Knowing.{second_true}
 use Rattle.console.specs.TapeText.{next_line}
 use Rattle.commands.specs.declared.words.Asked.{Asked}
 use Rattle.commands.specs.declared.words.Command.{Command}
-use Rattle.commands.specs.declared.words.Found.{Found}
 use Rattle.commands.specs.declared.words.Parted.{Parted}
 use Rattle.commands.specs.Words.{job, too_many, after, marking, tracing, simplifying, with_limit, first_word, with_file, request}
 use Rattle.commands.specs.Asking.{seen, FoundAt}
@@ -34,39 +33,39 @@ module _ (words : List ℕ) (at : ℕ) (word : List ℕ) {t : Bool} (q : t ≡ s
   pub found_inside : t ≡ true → length word ≤ length words - at
   found_inside o = omega (arith, starts_inside word (drop at words) (sym q ∙ o), length-drop at words)
 
-  pub found_there : t ≡ true → FoundAt words at word (record { stands = true; next = at + length word })
+  pub found_there : t ≡ true → FoundAt words at word (Some (at + length word))
   unfolding after
   found_there o = (sym o ∙ q, sym (drop-drop (length word) at words) ∙ chosen q o _ _)
 
-  pub not_there : t ≡ false → FoundAt words at word (record { stands = false; next = at })
+  pub not_there : t ≡ false → FoundAt words at word None
   unfolding after
   not_there o = (sym o ∙ q, passed q o _ _ refl)
 
 module _ (words : List ℕ) (at : ℕ) where
-  pub takes_marks : (command : Bool → Parted) (m : Found) → FoundAt words at (bytes "marks\n") m
-      → job (Command.Parted (command m.stands)) (drop m.next words) ≡ marking command (drop at words)
+  pub takes_marks : (command : Bool → Parted) (m : Option ℕ) → FoundAt words at (bytes "marks\n") m
+      → job (Command.Parted (command (is_some m))) (drop (unwrap_or m at) words) ≡ marking command (drop at words)
   takes_marks command m (p, q) = λ i. job (Command.Parted (command (p i))) (q i)
 
-  pub takes_origins : (command : Bool → Command) (o : Found) → FoundAt words at (bytes "origins\n") o
-      → job (command o.stands) (drop o.next words) ≡ tracing command (drop at words)
+  pub takes_origins : (command : Bool → Command) (o : Option ℕ) → FoundAt words at (bytes "origins\n") o
+      → job (command (is_some o)) (drop (unwrap_or o at) words) ≡ tracing command (drop at words)
   takes_origins command o (p, q) = λ i. job (command (p i)) (q i)
 
-pub takes_both : (words : List ℕ) (at limit : ℕ) (m o : Found) → FoundAt words at (bytes "marks\n") m → FoundAt words m.next (bytes "origins\n") o
-    → job (Command.Parted (Parted.Simplify limit m.stands o.stands)) (drop o.next words) ≡ simplifying limit (drop at words)
+pub takes_both : (words : List ℕ) (at limit : ℕ) (m o : Option ℕ) → FoundAt words at (bytes "marks\n") m → FoundAt words (unwrap_or m at) (bytes "origins\n") o
+    → job (Command.Parted (Parted.Simplify limit (is_some m) (is_some o))) (drop (unwrap_or o (unwrap_or m at)) words) ≡ simplifying limit (drop at words)
 takes_both words at limit m o (p, q) x =
-    takes_origins words m.next (λ traced. Command.Parted (Parted.Simplify limit m.stands traced)) o x
+    takes_origins words (unwrap_or m at) (λ traced. Command.Parted (Parted.Simplify limit (is_some m) traced)) o x
     ∙ (λ i. tracing (λ traced. Command.Parted (Parted.Simplify limit (p i) traced)) (q i))
 
 -- ---- the limit
 
-module _ (words : List ℕ) (rest : List ℕ) {x : Number} {want : Read ℕ} (q : Seen.seen words x ≡ want) where
-  pub limit_given : {n next : ℕ} → x ≡ Number.Is n next → simplifying n (drop next words) ≡ with_limit want rest
-  unfolding with_limit
-  limit_given e = ap (λ n. with_limit (Seen.seen words n) rest) (sym e) ∙ ap (λ w. with_limit w rest) q
-
-  pub no_limit : x ≡ Number.Bad → simplifying 10 rest ≡ with_limit want rest
-  unfolding with_limit
-  no_limit e = ap (λ n. with_limit (Seen.seen words n) rest) (sym e) ∙ ap (λ w. with_limit w rest) q
+pub limit_or_ten : (words : List ℕ) (at : ℕ) (x : Seen.Number) {want : Read ℕ} {p : ℕ × ℕ} → Seen.seen words x ≡ want → p ≡ unwrap_or x (10, at)
+    → simplifying p.0 (drop p.1 words) ≡ with_limit want (drop at words)
+unfolding with_limit
+limit_or_ten words at x q e = ap (λ p. simplifying p.0 (drop p.1 words)) e ∙ go x ∙ ap (λ w. with_limit w (drop at words)) q
+  where
+    go : (x : Seen.Number) → simplifying (unwrap_or x (10, at)).0 (drop (unwrap_or x (10, at)).1 words) ≡ with_limit (Seen.seen words x) (drop at words)
+    go (Some (n, next)) = refl
+    go None = refl
 
 -- ---- the file
 

@@ -1,9 +1,10 @@
 -- From what the calls answer to what a command comes to. Assumes nothing.
 use mathlib.Core.Path.{◌≡◌, refl, sym, ap, subst, ◌∙◌}
 use mathlib.Core.List.{List, []}
-use mathlib.Core.Bool.{Bool, true, false}
+use mathlib.Core.Bool.{Bool, true, false, cond}
 use Prim.Native.Nat.{ℕ, ◌-◌, ◌<◌, min}
 use lib.Dec.{eqb}
+use Rattle.std.specs.Prelude.{Option, Result, Ok, Err}
 use native.Mathlib.Omega.{arith}
 use lib.Ieee.{Float}
 use lib.ListN.{length, get_or, take, drop, length-replicate}
@@ -13,14 +14,11 @@ use Rattle.io.specs.Counts.{IsPrefixLen}
 use Rattle.complex.specs.declared.Complex.{Complex}
 use Rattle.expression.specs.declared.refusal.Refusal.{Refusal}
 use Rattle.expression.specs.Refusals.{number_of, place_of}
-use Rattle.writing.specs.declared.Written.{Written}
-use Rattle.evaluation.specs.declared.real.Real.{Real}
-use Rattle.calls.specs.declared.Evaluated.{Evaluated}
 use Rattle.calls.specs.declared.Simplified.{Simplified}
 use Rattle.calls.specs.Lent.{Work, capacity, zeroed}
 use Rattle.memory.specs.Marks.{no_marks}
-use Rattle.calls.specs.Calls.{to_real_call, simplify_call, compile_call}
-use Rattle.tape.specs.declared.Checked.{Checked}
+use Rattle.calls.specs.Calls.{substitute_call, to_real_call, simplify_call, compile_call}
+use Rattle.calls.specs.Origins.{substitute_origins, simplify_origins}
 use Rattle.console.specs.TapeText.{in_lines, tape_in}
 use Rattle.console.specs.Answers.{value_line, real_line}
 use Rattle.console.specs.Parting as Parting
@@ -36,9 +34,10 @@ use Rattle.outcomes.specs.declared.Outcome.{Outcome}
 use Rattle.commands.specs.declared.words.Command.{Command}
 use Rattle.commands.specs.declared.words.Parted.{Parted}
 use Rattle.commands.specs.declared.words.Whole.{Whole}
-use Rattle.commands.specs.Results.{fault_of, empty_at, alone_of, lack_of, of_evaluated, evaluated, of_simplified, simplified_with, played_of, played, of_written, substituted, substituted_origins, substituted_with, of_real, real, of_tape, empty_tape, compiled, of_checked, whole, parted, result_in, result_for, marks_with, parted_marks, marks_in, marks}
+use Rattle.commands.specs.Results.{fault_of, empty_at, alone_of, lack_of, of_evaluated, evaluated, of_simplified, simplified_with, played_of, played, of_written, substituted_with, of_real, real, of_tape, empty_tape, compiled, of_checked, whole, parted, result_in, result_for, parted_marks, marks_in, marks}
 use Rattle.commands.specs.Coming.{ComesMarked}
-use Rattle.outcomes.specs.Outcomes.{Result, printed, with_calls, refused}
+use Rattle.outcomes.specs.Outcomes as Outcomes
+use Rattle.outcomes.specs.Outcomes.{printed, with_calls, refused}
 use Rattle.outcomes.specs.Coming.{Comes}
 use Rattle.commands.proofs.Choosing.{chosen, passed}
 
@@ -58,11 +57,11 @@ module _ (list values : List ℕ) (why : Refusal) {n : ℕ} (a : n ≡ number_of
   unfolding fault_of
   of_others o e = passed refl (ne_eqb _ _ (λ z. o (a ∙ z))) _ _ (passed refl (ne_eqb _ _ (λ z. e (a ∙ z))) _ _ refl)
 
-  pub of_10 : {missing m : Missing} → n ≡ 10 → m ≡ missing → Detail.Missing m ≡ lack_of missing list values why
+  pub of_10 : {missing m : Option Missing} → n ≡ 10 → m ≡ missing → Detail.Missing m ≡ lack_of missing list values why
   unfolding lack_of
   of_10 e q = ap Detail.Missing q ∙ chosen refl (eq-eqb _ _ (sym a ∙ e)) _ _
 
-  pub not_10 : (missing : Missing) {d : Detail} → (n ≡ 10 → ⊥) → d ≡ fault_of list values why → d ≡ lack_of missing list values why
+  pub not_10 : (missing : Option Missing) {d : Detail} → (n ≡ 10 → ⊥) → d ≡ fault_of list values why → d ≡ lack_of missing list values why
   unfolding lack_of
   not_10 missing o q = passed refl (ne_eqb _ _ (λ z. o (a ∙ z))) _ _ q
 
@@ -80,13 +79,13 @@ as_many bytes out e = rw e (least_of bytes out)
 
 -- ---- evaluate and play
 
-module _ (missing : Missing) (list values : List ℕ) (call : Evaluated) {answer : Evaluated} (q : answer ≡ call) where
-  pub value_comes : {z : Complex} {n : ℕ} {out out' : List ℕ} → answer ≡ Evaluated.Value z → Line out (value_line z) n out'
+module _ (missing : Option Missing) (list values : List ℕ) (call : Result Complex Refusal) {answer : Result Complex Refusal} (q : answer ≡ call) where
+  pub value_comes : {z : Complex} {n : ℕ} {out out' : List ℕ} → answer ≡ Ok z → Line out (value_line z) n out'
       → Comes (of_evaluated missing list values call) (Outcome.Printed n) out'
   unfolding of_evaluated
   value_comes told l = record { answer = ap printed (stands l) ∙ ap (of_evaluated missing list values) (sym told ∙ q); inside = l.1 }
 
-  pub lack_comes : {why : Refusal} {d : Detail} {out : List ℕ} (found : Missing) → found ≡ missing → answer ≡ Evaluated.Refused why
+  pub lack_comes : {why : Refusal} {d : Detail} {out : List ℕ} (found : Option Missing) → found ≡ missing → answer ≡ Err why
       → d ≡ lack_of found list values why → Comes (of_evaluated missing list values call) (Outcome.Refused why d) out
   unfolding of_evaluated
   lack_comes {why} found e told o = record {
@@ -96,19 +95,19 @@ module _ (missing : Missing) (list values : List ℕ) (call : Evaluated) {answer
 
 -- ---- simplify, and evaluate after it
 
-module _ (list values : List ℕ) (call : Simplified × List ℕ) {answer : Simplified} {out' : List ℕ} (q : ◌≡◌ {A = Simplified × List ℕ} (answer, out') call) where
-  result_of : {A : Type 0} (f : Simplified → List ℕ → A) → f answer out' ≡ f call.0 call.1
+module _ (list values : List ℕ) (call : Result Simplified Refusal × List ℕ) {answer : Result Simplified Refusal} {out' : List ℕ} (q : ◌≡◌ {A = Result Simplified Refusal × List ℕ} (answer, out') call) where
+  result_of : {A : Type 0} (f : Result Simplified Refusal → List ℕ → A) → f answer out' ≡ f call.0 call.1
   result_of f = ap (λ x. f x.0 x.1) q
 
-  pub listing_comes : {bytes calls n : ℕ} → answer ≡ Simplified.Bytes bytes calls → IsPrefixLen n out' → n ≡ min bytes (length out')
-      → Comes (of_simplified list values call.0 call.1) (Outcome.Simplified n calls) out'
+  pub listing_comes : {a : Simplified} {n : ℕ} → answer ≡ Ok a → IsPrefixLen n out' → n ≡ min a.bytes (length out')
+      → Comes (of_simplified list values call.0 call.1) (Outcome.Simplified n a.calls) out'
   unfolding of_simplified
-  listing_comes {bytes} {calls} told c e = record {
-    answer = ap (λ l. with_calls l calls) (as_many bytes out' e) ∙ ap (λ x. of_simplified list values x out') (sym told) ∙ result_of (of_simplified list values);
+  listing_comes {a} told c e = record {
+    answer = ap (λ l. with_calls l a.calls) (as_many a.bytes out' e) ∙ ap (λ x. of_simplified list values x out') (sym told) ∙ result_of (of_simplified list values);
     inside = c;
   }
 
-  pub refusal_comes : {why : Refusal} {d : Detail} → answer ≡ Simplified.Refused why → d ≡ fault_of list values why
+  pub refusal_comes : {why : Refusal} {d : Detail} → answer ≡ Err why → d ≡ fault_of list values why
       → Comes (of_simplified list values call.0 call.1) (Outcome.Refused why d) out'
   unfolding of_simplified
   refusal_comes {why} told o = record {
@@ -116,21 +115,21 @@ module _ (list values : List ℕ) (call : Simplified × List ℕ) {answer : Simp
     inside = tt;
   }
 
-module _ (room : ℕ) (list values out : List ℕ) {answer : Simplified} {out' : List ℕ} (q : ◌≡◌ {A = Simplified × List ℕ} (answer, out') (simplify_call room 10 list values out)) where
+module _ (room : ℕ) (list values out : List ℕ) {answer : Result Simplified Refusal} {out' : List ℕ} (q : ◌≡◌ {A = Result Simplified Refusal × List ℕ} (answer, out') (simplify_call room 10 list values out)) where
   playing_of : played_of room list values answer out' ≡ played room list values out
   playing_of = ap (λ x. played_of room list values x.0 x.1) q
 
-  pub played_comes : (room' : ℕ) {bytes calls n : ℕ} {r : Outcome} {out'' : List ℕ} → answer ≡ Simplified.Bytes bytes calls → n ≡ min bytes (length out') → room' ≡ room
+  pub played_comes : (room' : ℕ) {a : Simplified} {n : ℕ} {r : Outcome} {out'' : List ℕ} → answer ≡ Ok a → n ≡ min a.bytes (length out') → room' ≡ room
       → Comes (evaluated room' (take n out') values) r out'' → Comes (played room list values out) r out''
   unfolding played_of
-  played_comes room' {bytes} told e o c = record {
+  played_comes room' {a} told e o c = record {
     answer =
-        c.answer ∙ (λ i. evaluated (o i) (as_many bytes out' e i) values)
+        c.answer ∙ (λ i. evaluated (o i) (as_many a.bytes out' e i) values)
         ∙ ap (λ x. played_of room list values x out') (sym told) ∙ playing_of;
     inside = c.inside;
   }
 
-  pub unplayed_comes : {why : Refusal} {d : Detail} → answer ≡ Simplified.Refused why → d ≡ fault_of list values why
+  pub unplayed_comes : {why : Refusal} {d : Detail} → answer ≡ Err why → d ≡ fault_of list values why
       → Comes (played room list values out) (Outcome.Refused why d) out'
   unfolding played_of
   unplayed_comes {why} told o = record {
@@ -140,38 +139,38 @@ module _ (room : ℕ) (list values out : List ℕ) {answer : Simplified} {out' :
 
 -- ---- substitute, real
 
-module _ (list : List ℕ) (call : Written × List ℕ) {answer : Written} {out' : List ℕ} (q : ◌≡◌ {A = Written × List ℕ} (answer, out') call) where
+module _ (list : List ℕ) (call : Result ℕ Refusal × List ℕ) {answer : Result ℕ Refusal} {out' : List ℕ} (q : ◌≡◌ {A = Result ℕ Refusal × List ℕ} (answer, out') call) where
   writing_of : of_written list answer out' ≡ of_written list call.0 call.1
   writing_of = ap (λ x. of_written list x.0 x.1) q
 
-  pub written_comes : {bytes n : ℕ} → answer ≡ Written.Bytes bytes → IsPrefixLen n out' → n ≡ min bytes (length out')
+  pub written_comes : {bytes n : ℕ} → answer ≡ Ok bytes → IsPrefixLen n out' → n ≡ min bytes (length out')
       → Comes (of_written list call.0 call.1) (Outcome.Printed n) out'
   unfolding of_written
   written_comes {bytes} told c e = record { answer = ap printed (as_many bytes out' e) ∙ ap (λ x. of_written list x out') (sym told) ∙ writing_of; inside = c }
 
-  pub unwritten_comes : {why : Refusal} {d : Detail} → answer ≡ Written.Refused why → d ≡ alone_of list why
+  pub unwritten_comes : {why : Refusal} {d : Detail} → answer ≡ Err why → d ≡ alone_of list why
       → Comes (of_written list call.0 call.1) (Outcome.Refused why d) out'
   unfolding of_written
   unwritten_comes {why} told o = record { answer = ap (refused why) o ∙ ap (λ x. of_written list x out') (sym told) ∙ writing_of; inside = tt }
 
-module _ (room : ℕ) (list : List ℕ) {answer : Real} (q : answer ≡ to_real_call room list) where
-  pub real_comes : {x : Float} {n : ℕ} {out out' : List ℕ} → answer ≡ Real.Number x → Line out (real_line x) n out'
+module _ (room : ℕ) (list : List ℕ) {answer : Result Float Refusal} (q : answer ≡ to_real_call room list) where
+  pub real_comes : {x : Float} {n : ℕ} {out out' : List ℕ} → answer ≡ Ok x → Line out (real_line x) n out'
       → Comes (real room list) (Outcome.Printed n) out'
   unfolding of_real
   real_comes told l = record { answer = ap printed (stands l) ∙ ap (of_real list) (sym told ∙ q); inside = l.1 }
 
-  pub unreal_comes : {why : Refusal} {d : Detail} {out : List ℕ} → answer ≡ Real.Refused why → d ≡ alone_of list why
+  pub unreal_comes : {why : Refusal} {d : Detail} {out : List ℕ} → answer ≡ Err why → d ≡ alone_of list why
       → Comes (real room list) (Outcome.Refused why d) out
   unfolding of_real
   unreal_comes {why} told o = record { answer = ap (refused why) o ∙ ap (of_real list) (sym told ∙ q); inside = tt }
 
 -- ---- the commands on tapes
 
-module _ (room : ℕ) (list tape : List ℕ) (blank : tape ≡ empty_tape) {answer : Written} {tape' : List ℕ} (q : ◌≡◌ {A = Written × List ℕ} (answer, tape') (compile_call room list tape)) where
+module _ (room : ℕ) (list tape : List ℕ) (blank : tape ≡ empty_tape) {answer : Result ℕ Refusal} {tape' : List ℕ} (q : ◌≡◌ {A = Result ℕ Refusal × List ℕ} (answer, tape') (compile_call room list tape)) where
   compiling_of : of_tape list answer tape' ≡ compiled room list
   compiling_of = ap (λ x. of_tape list x.0 x.1) (q ∙ ap (compile_call room list) blank)
 
-  pub tape_comes : {bytes n r : ℕ} {out out' : List ℕ} → answer ≡ Written.Bytes bytes → n ≡ min bytes (length tape') → Line out (in_lines 0 (take n tape')) r out'
+  pub tape_comes : {bytes n r : ℕ} {out out' : List ℕ} → answer ≡ Ok bytes → n ≡ min bytes (length tape') → Line out (in_lines 0 (take n tape')) r out'
       → Comes (compiled room list) (Outcome.Printed r) out'
   unfolding of_tape
   tape_comes {bytes} told e l = record {
@@ -179,26 +178,26 @@ module _ (room : ℕ) (list tape : List ℕ) (blank : tape ≡ empty_tape) {answ
     inside = l.1;
   }
 
-  pub no_tape_comes : {why : Refusal} {d : Detail} {out : List ℕ} → answer ≡ Written.Refused why → d ≡ alone_of list why
+  pub no_tape_comes : {why : Refusal} {d : Detail} {out : List ℕ} → answer ≡ Err why → d ≡ alone_of list why
       → Comes (compiled room list) (Outcome.Refused why d) out
   unfolding of_tape
   no_tape_comes {why} told o = record { answer = ap (refused why) o ∙ ap (λ x. of_tape list x tape') (sym told) ∙ compiling_of; inside = tt }
 
 -- what holds for a tape holds for the one that a text says
-pub of_text : (want : List ℕ → Result) (text : List ℕ) {bytes tape : List ℕ} {n : ℕ} → Line bytes (tape_in text) n tape → {r : Outcome} {out : List ℕ}
+pub of_text : (want : List ℕ → Outcomes.Result) (text : List ℕ) {bytes tape : List ℕ} {n : ℕ} → Line bytes (tape_in text) n tape → {r : Outcome} {out : List ℕ}
     → Comes (want (take n tape)) r out → Comes (want (tape_in text)) r out
 of_text want text l {r} {out} c = subst (λ t. Comes (want t) r out) (stands l) c
 
-pub of_text_marked : (want : List ℕ → Result) (used : List ℕ → List ℕ) (text : List ℕ) {bytes tape : List ℕ} {n : ℕ} → Line bytes (tape_in text) n tape
+pub of_text_marked : (want : List ℕ → Outcomes.Result) (used : List ℕ → List ℕ) (text : List ℕ) {bytes tape : List ℕ} {n : ℕ} → Line bytes (tape_in text) n tape
     → {r : Outcome} {out marks' : List ℕ} → ComesMarked (want (take n tape)) (used (take n tape)) r out marks' → ComesMarked (want (tape_in text)) (used (tape_in text)) r out marks'
 of_text_marked want used text l {r} {out} {marks'} c = subst (λ t. ComesMarked (want t) (used t) r out marks') (stands l) c
 
-module _ (sound : List ℕ) (call : Checked) {answer : Checked} (q : answer ≡ call) where
-  pub sound_comes : {n : ℕ} {out out' : List ℕ} → answer ≡ Checked.Sound → Line out sound n out' → Comes (of_checked sound call) (Outcome.Printed n) out'
+module _ (sound : List ℕ) (call : Result (Unit {0}) Refusal) {answer : Result (Unit {0}) Refusal} (q : answer ≡ call) where
+  pub sound_comes : {n : ℕ} {out out' : List ℕ} → answer ≡ Ok tt → Line out sound n out' → Comes (of_checked sound call) (Outcome.Printed n) out'
   unfolding of_checked
   sound_comes told l = record { answer = ap printed (stands l) ∙ ap (of_checked sound) (sym told ∙ q); inside = l.1 }
 
-  pub unsound_comes : {step : ℕ} {out : List ℕ} → answer ≡ Checked.Bad step → Comes (of_checked sound call) (Outcome.Refused (Refusal.BadTape step) Detail.Plain) out
+  pub unsound_comes : {why : Refusal} {out : List ℕ} → answer ≡ Err why → Comes (of_checked sound call) (Outcome.Refused why Detail.Plain) out
   unfolding of_checked
   unsound_comes told = record { answer = ap (of_checked sound) (sym told ∙ q); inside = tt }
 
@@ -227,24 +226,21 @@ module _ (list : List ℕ) (why : Refusal) {t : Bool} (a : t ≡ empty_at list w
 
 -- ---- with origins or without
 
-module _ (room : ℕ) (list out : List ℕ) {traced : Bool} {r : Outcome} {out' : List ℕ} where
-  pub substituted_with_lem : traced ≡ true → Comes (substituted_origins room list out) r out' → Comes (substituted_with traced room list out) r out'
-  substituted_with_lem e x = subst (λ b. Comes (substituted_with b room list out) r out') (sym e) x
+with_or_without : {A B : Type 0} (f : A → B) (traced : Bool) (x y : A) → f (cond traced x y) ≡ cond traced (f x) (f y)
+with_or_without f true x y = refl
+with_or_without f false x y = refl
 
-  pub substituted_without : traced ≡ false → Comes (substituted room list out) r out' → Comes (substituted_with traced room list out) r out'
-  substituted_without e x = subst (λ b. Comes (substituted_with b room list out) r out') (sym e) x
+pub substituted_as : (traced : Bool) (room : ℕ) (list out : List ℕ) {r : Outcome} {out' : List ℕ}
+    → Comes (of_written list (cond traced (substitute_origins room list out) (substitute_call room list out)).0 (cond traced (substitute_origins room list out) (substitute_call room list out)).1) r out'
+    → Comes (substituted_with traced room list out) r out'
+substituted_as traced room list out {r} {out'} =
+    subst (λ x. Comes x r out') (with_or_without (λ x. of_written list x.0 x.1) traced (substitute_origins room list out) (substitute_call room list out))
 
-module _ (room limit : ℕ) (list values out : List ℕ) where
-  abbrev Simplifies : (traced : Bool) → Outcome → (out' marks' : List ℕ) → Type 0
-  Simplifies traced r out' marks' =
-      ComesMarked (simplified_with traced room limit list values out) (marks_with traced room limit list values out) r out' marks'
-
-  module _ {traced : Bool} {r : Outcome} {out' marks' : List ℕ} where
-    pub simplified_with_lem : traced ≡ true → Simplifies true r out' marks' → Simplifies traced r out' marks'
-    simplified_with_lem e x = subst (λ b. Simplifies b r out' marks') (sym e) x
-
-    pub simplified_without : traced ≡ false → Simplifies false r out' marks' → Simplifies traced r out' marks'
-    simplified_without e x = subst (λ b. Simplifies b r out' marks') (sym e) x
+pub simplified_as : (traced : Bool) (room limit : ℕ) (list values out : List ℕ) {r : Outcome} {out' : List ℕ}
+    → Comes (of_simplified list values (cond traced (simplify_origins room limit list values out) (simplify_call room limit list values out)).0 (cond traced (simplify_origins room limit list values out) (simplify_call room limit list values out)).1) r out'
+    → Comes (simplified_with traced room limit list values out) r out'
+simplified_as traced room limit list values out {r} {out'} =
+    subst (λ x. Comes x r out') (with_or_without (λ x. of_simplified list values x.0 x.1) traced (simplify_origins room limit list values out) (simplify_call room limit list values out))
 
 -- ---- by the command
 

@@ -57,10 +57,10 @@ parted_alike command p input out = p (listing_in input) (sheet_in input) out
 
 -- ---- by the rows that are lent
 
-pub in_so_many : (room : ℕ) (command : Command) (input out : List ℕ) (store : List (List ℕ)) {r : Outcome} {out' marks' : List ℕ} → room ≤ 4096 → room ≡ length store
+pub in_so_many : {room : ℕ} (command : Command) (input out : List ℕ) (store : List (List ℕ)) {r : Outcome} {out' marks' : List ℕ} → room ≤ 4096 → room ≡ length store
     → ComesMarked (result_in (min (length store) 4096) command input out) (marks_in (min (length store) 4096) command input out) r out' marks'
     → ComesMarked (result_in room command input out) (marks_in room command input out) r out' marks'
-in_so_many room command input out store {r} {out'} {marks'} h a x =
+in_so_many {room} command input out store {r} {out'} {marks'} h a x =
     let z : min (length store) 4096 ≡ room = omega (arith, a, h) in
     subst (λ k. ComesMarked (result_in k command input out) (marks_in k command input out) r out' marks') z x
 

@@ -6,7 +6,6 @@ use Prim.Native.Nat.{ℕ, ◌≤◌}
 use native.Mathlib.Omega.{arith}
 use lib.Dec.{ltb}
 use lib.ListN.{length, length-take}
-use Rattle.calls.specs.declared.Evaluated.{Evaluated}
 use Rattle.calls.specs.declared.Simplified.{Simplified}
 use Rattle.calls.specs.Calls.{evaluate_call, simplify_call, play_call}
 use Rattle.calls.specs.Origins.{simplify_origins}
@@ -15,9 +14,13 @@ use Rattle.console.proofs.Lines.{value_short}
 use Rattle.console.specs.TapeText.{tape_in}
 use Rattle.console.specs.Parting.{listing_in, sheet_in}
 use Rattle.lacks.specs.declared.Missing.{Missing}
+use Rattle.std.specs.Prelude.{Option, Result, Ok, Err}
+use Rattle.complex.specs.declared.Complex.{Complex}
+use Rattle.expression.specs.declared.refusal.Refusal.{Refusal}
 use Rattle.lacks.specs.Lacking.{missing_in_job, missing_on_tape}
 use Rattle.outcomes.specs.declared.Outcome.{Outcome}
-use Rattle.outcomes.specs.Outcomes.{Result, printed, with_calls, refused, too_long}
+use Rattle.outcomes.specs.Outcomes as Outcomes
+use Rattle.outcomes.specs.Outcomes.{printed, with_calls, refused, too_long}
 use Rattle.outcomes.specs.Coming.{seen, Inside, Comes, Short}
 use Rattle.commands.specs.declared.words.Command.{Command}
 use Rattle.commands.specs.declared.words.Parted.{Parted}
@@ -26,7 +29,7 @@ use Rattle.commands.specs.Results.{of_evaluated, of_simplified, simplified_with,
 use Rattle.commands.proofs.Choosing.{never}
 
 -- the bytes of a result leave room
-Few : Result → Type 0
+Few : Outcomes.Result → Type 0
 Few (printed text) = length text ≤ 64496
 Few (with_calls text calls) = length text ≤ 64496
 Few (refused why detail) = Unit {0}
@@ -41,25 +44,25 @@ few_short out Outcome.TooLong i h = tt
 
 -- ---- by the command
 
-evaluated_few : (missing : Missing) (list values : List ℕ) (a : Evaluated) → Few (of_evaluated missing list values a)
+evaluated_few : (missing : Option Missing) (list values : List ℕ) (a : Result Complex Refusal) → Few (of_evaluated missing list values a)
 unfolding Few of_evaluated
-evaluated_few missing list values (Evaluated.Value z) = omega (arith, value_short z)
-evaluated_few missing list values (Evaluated.Refused why) = tt
+evaluated_few missing list values (Ok z) = omega (arith, value_short z)
+evaluated_few missing list values (Err why) = tt
 
-listing_few : (list values : List ℕ) (call : Simplified × List ℕ) → ((bytes calls : ℕ) → call.0 ≡ Simplified.Bytes bytes calls → bytes ≤ 43008)
+listing_few : (list values : List ℕ) (call : Result Simplified Refusal × List ℕ) → ((a : Simplified) → call.0 ≡ Ok a → a.bytes ≤ 43008)
     → Few (of_simplified list values call.0 call.1)
 unfolding Few of_simplified
 listing_few list values call most = go _ refl
   where
-    go : (s : Simplified) → call.0 ≡ s → Few (of_simplified list values s call.1)
-    go (Simplified.Bytes bytes calls) e = omega (arith, most bytes calls e, length-take bytes call.1)
-    go (Simplified.Refused why) e = tt
+    go : (s : Result Simplified Refusal) → call.0 ≡ s → Few (of_simplified list values s call.1)
+    go (Ok a) e = omega (arith, most a e, length-take a.bytes call.1)
+    go (Err why) e = tt
 
 simplified_few : (traced : Bool) (room limit : ℕ) (list values out : List ℕ) → 43008 ≤ length out → Few (simplified_with traced room limit list values out)
 simplified_few true room limit list values out h =
-    listing_few list values (simplify_origins room limit list values out) (λ bytes calls e. simplify_origins_most room limit list values out h e)
+    listing_few list values (simplify_origins room limit list values out) (λ a e. simplify_origins_most room limit list values out h e)
 simplified_few false room limit list values out h =
-    listing_few list values (simplify_call room limit list values out) (λ bytes calls e. omega (arith, simplify_most room limit list values out (omega (arith, h)) e))
+    listing_few list values (simplify_call room limit list values out) (λ a e. omega (arith, simplify_most room limit list values out (omega (arith, h)) e))
 
 parted_few : (room : ℕ) (command : Parted) (list values out : List ℕ) → parted_shows command ≡ true → 43008 ≤ length out → Few (parted room command list values out)
 unfolding parted parted_shows

@@ -1,9 +1,8 @@
 -- What the code's answer says, as a request. Only connecting.
-use Rattle.std.specs.Prelude.{◌≡◌, ℕ, ◌≤◌, List, length, drop}
+use Rattle.std.specs.Prelude.{◌≡◌, ℕ, ◌≤◌, List, length, drop, Option, is_some, unwrap_or}
 use Rattle.text.specs.Reading.{starts}
 use Rattle.commands.specs.declared.words.Asked.{Asked}
 use Rattle.commands.specs.declared.words.Command.{Command}
-use Rattle.commands.specs.declared.words.Found.{Found}
 use Rattle.commands.specs.Words.{Request, job, help, version, nothing, unknown, too_many, after, simplifying, at_limit, with_file, request}
 
 -- a place in the words as the words from there on
@@ -18,8 +17,8 @@ seen words Asked.TooMany = too_many
 abbrev pub Asks : (List ℕ → Request) → (words : List ℕ) → Asked → Type 0
 Asks asked words r = seen words r ≡ asked words
 
-abbrev pub FoundAt : (words : List ℕ) (at : ℕ) (word : List ℕ) → Found → Type 0
-FoundAt words at word r = (r.stands ≡ starts word (drop at words)) × (drop r.next words ≡ after word (drop at words))
+abbrev pub FoundAt : (words : List ℕ) (at : ℕ) (word : List ℕ) → Option ℕ → Type 0
+FoundAt words at word r = (is_some r ≡ starts word (drop at words)) × (drop (unwrap_or r at) words ≡ after word (drop at words))
 
 abbrev pub AsksSimplifying : (words : List ℕ) (at limit : ℕ) → Asked → Type 0
 AsksSimplifying words at limit r = seen words r ≡ simplifying limit (drop at words)

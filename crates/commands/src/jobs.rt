@@ -2,20 +2,18 @@
 ghost use Rattle.std.specs.Prelude.{◌≤◌, length, take};
 ghost use Rattle.io.specs.Counts.{IsPrefixLen};
 ghost use Rattle.calls.specs.Lent.{work, capacity};
-ghost use Rattle.commands.specs.Results.{evaluated, simplified, simplified_origins, played, substituted, substituted_origins, real};
+ghost use Rattle.commands.specs.Results.{evaluated, simplified_with, marks_with, played, substituted_with, real};
 ghost use Rattle.outcomes.specs.Coming.{Comes};
-ghost use Rattle.calls.specs.Marks.{evaluate_marks, simplify_marks};
-ghost use Rattle.calls.specs.Origins.{simplify_origins_marks};
-ghost use Rattle.commands.specs.Coming.{ComesMarked};
+ghost use Rattle.calls.specs.Marks.{evaluate_marks};
+ghost use Rattle.commands.specs.Coming.{ComesMarked, SimplifiesWith, SubstitutesWith};
 
 use super::details::{fault_alone, fault_of, lack_of};
-use calls::{Evaluated, Simplified};
+use calls::Simplified;
 use console::input::part;
 use console::line::{write_real, write_value};
-use evaluation::real::Real;
+use expression::refusal::Refusal;
 use memory::layout::{DESK_WORDS, MARKS, TABLE_WORDS};
 use outcomes::Outcome;
-use writing::Written;
 
 // At which limit a job is played.
 const LIMIT: u64 = 10;
@@ -32,16 +30,35 @@ pub fn evaluate(
     requires { 96 ≤ length out.old }
     ensures { ComesMarked (evaluated (capacity (work store.old desk.old table.old)) list.now values.now) (evaluate_marks (capacity (work store.old desk.old table.old)) list.now values.now) result out.new marks.new }
 {
-    let answer = calls::evaluate_marked(list, values, store, desk, table, marks);
-    match answer {
-        Evaluated::Value(z) => Outcome::Printed(write_value(out, z)),
-        Evaluated::Refused(why) => {
-            Outcome::Refused(why, lack_of(why, list, values, store, desk, table))
-        }
+    match calls::evaluate_marked(list, values, store, desk, table, marks) {
+        Ok(z) => Outcome::Printed(write_value(out, z)),
+        Err(why) => Outcome::Refused(why, lack_of(why, list, values, store, desk, table)),
+    }
+}
+
+// The call, with origins in the listing or without.
+fn call_simplify(
+    traced: bool,
+    list: &[u8],
+    values: &[u8],
+    limit: u64,
+    store: &mut [[u64; 4]],
+    desk: &mut [u64; DESK_WORDS],
+    table: &mut [u64; TABLE_WORDS],
+    out: &mut [u8],
+    marks: &mut [u8; MARKS],
+) -> Result<Simplified, Refusal>
+    ensures { SimplifiesWith traced (capacity (work store.old desk.old table.old)) limit list.now values.now out.old result out.new marks.new }
+{
+    if traced {
+        calls::simplify_origins(list, values, limit, store, desk, table, out, marks)
+    } else {
+        calls::simplify_marked(list, values, limit, store, desk, table, out, marks)
     }
 }
 
 pub fn simplify(
+    traced: bool,
     list: &[u8],
     values: &[u8],
     limit: u64,
@@ -51,32 +68,12 @@ pub fn simplify(
     out: &mut [u8],
     marks: &mut [u8; MARKS],
 ) -> Outcome
-    ensures { ComesMarked (simplified (capacity (work store.old desk.old table.old)) limit list.now values.now out.old) (simplify_marks (capacity (work store.old desk.old table.old)) limit list.now values.now out.old) result out.new marks.new }
+    ensures { ComesMarked (simplified_with traced (capacity (work store.old desk.old table.old)) limit list.now values.now out.old) (marks_with traced (capacity (work store.old desk.old table.old)) limit list.now values.now out.old) result out.new marks.new }
 {
-    let answer = calls::simplify_marked(list, values, limit, store, desk, table, out, marks);
+    let answer = call_simplify(traced, list, values, limit, store, desk, table, out, marks);
     match answer {
-        Simplified::Bytes { bytes, calls } => Outcome::Simplified(part(out, bytes), calls),
-        Simplified::Refused(why) => Outcome::Refused(why, fault_of(why, list, values)),
-    }
-}
-
-// The same with origins in the listing.
-pub fn simplify_origins(
-    list: &[u8],
-    values: &[u8],
-    limit: u64,
-    store: &mut [[u64; 4]],
-    desk: &mut [u64; DESK_WORDS],
-    table: &mut [u64; TABLE_WORDS],
-    out: &mut [u8],
-    marks: &mut [u8; MARKS],
-) -> Outcome
-    ensures { ComesMarked (simplified_origins (capacity (work store.old desk.old table.old)) limit list.now values.now out.old) (simplify_origins_marks (capacity (work store.old desk.old table.old)) limit list.now values.now out.old) result out.new marks.new }
-{
-    let answer = calls::simplify_origins(list, values, limit, store, desk, table, out, marks);
-    match answer {
-        Simplified::Bytes { bytes, calls } => Outcome::Simplified(part(out, bytes), calls),
-        Simplified::Refused(why) => Outcome::Refused(why, fault_of(why, list, values)),
+        Ok(made) => Outcome::Simplified(part(out, made.bytes), made.calls),
+        Err(why) => Outcome::Refused(why, fault_of(why, list, values)),
     }
 }
 
@@ -92,12 +89,9 @@ fn evaluate_written(
     requires { (96 ≤ length out.old) × IsPrefixLen n out.old }
     ensures { Comes (evaluated (capacity (work store.old desk.old table.old)) (take n out.old) values.now) result out.new }
 {
-    let answer = calls::evaluate(&out[..n], values, store, desk, table);
-    match answer {
-        Evaluated::Value(z) => Outcome::Printed(write_value(out, z)),
-        Evaluated::Refused(why) => {
-            Outcome::Refused(why, lack_of(why, &out[..n], values, store, desk, table))
-        }
+    match calls::evaluate(&out[..n], values, store, desk, table) {
+        Ok(z) => Outcome::Printed(write_value(out, z)),
+        Err(why) => Outcome::Refused(why, lack_of(why, &out[..n], values, store, desk, table)),
     }
 }
 
@@ -113,46 +107,46 @@ pub fn played(
     requires { 96 ≤ length out.old }
     ensures { Comes (played (capacity (work store.old desk.old table.old)) list.now values.now out.old) result out.new }
 {
-    let answer = calls::simplify(list, values, LIMIT, store, desk, table, out);
-    match answer {
-        Simplified::Bytes { bytes, calls: _ } => {
-            let n = part(out, bytes);
+    match calls::simplify(list, values, LIMIT, store, desk, table, out) {
+        Ok(made) => {
+            let n = part(out, made.bytes);
             evaluate_written(n, values, store, desk, table, out)
         }
-        Simplified::Refused(why) => Outcome::Refused(why, fault_of(why, list, values)),
+        Err(why) => Outcome::Refused(why, fault_of(why, list, values)),
+    }
+}
+
+// The call, with origins in the listing or without.
+fn call_substitute(
+    traced: bool,
+    list: &[u8],
+    store: &mut [[u64; 4]],
+    desk: &mut [u64; DESK_WORDS],
+    table: &mut [u64; TABLE_WORDS],
+    out: &mut [u8],
+) -> Result<usize, Refusal>
+    ensures { SubstitutesWith traced (capacity (work store.old desk.old table.old)) list.now out.old result out.new }
+{
+    if traced {
+        calls::substitute_origins(list, store, desk, table, out)
+    } else {
+        calls::substitute(list, store, desk, table, out)
     }
 }
 
 pub fn substitute(
+    traced: bool,
     list: &[u8],
     store: &mut [[u64; 4]],
     desk: &mut [u64; DESK_WORDS],
     table: &mut [u64; TABLE_WORDS],
     out: &mut [u8],
 ) -> Outcome
-    ensures { Comes (substituted (capacity (work store.old desk.old table.old)) list.now out.old) result out.new }
+    ensures { Comes (substituted_with traced (capacity (work store.old desk.old table.old)) list.now out.old) result out.new }
 {
-    let answer = calls::substitute(list, store, desk, table, out);
-    match answer {
-        Written::Bytes(bytes) => Outcome::Printed(part(out, bytes)),
-        Written::Refused(why) => Outcome::Refused(why, fault_alone(why, list)),
-    }
-}
-
-// The same with origins in the listing.
-pub fn substitute_origins(
-    list: &[u8],
-    store: &mut [[u64; 4]],
-    desk: &mut [u64; DESK_WORDS],
-    table: &mut [u64; TABLE_WORDS],
-    out: &mut [u8],
-) -> Outcome
-    ensures { Comes (substituted_origins (capacity (work store.old desk.old table.old)) list.now out.old) result out.new }
-{
-    let answer = calls::substitute_origins(list, store, desk, table, out);
-    match answer {
-        Written::Bytes(bytes) => Outcome::Printed(part(out, bytes)),
-        Written::Refused(why) => Outcome::Refused(why, fault_alone(why, list)),
+    match call_substitute(traced, list, store, desk, table, out) {
+        Ok(bytes) => Outcome::Printed(part(out, bytes)),
+        Err(why) => Outcome::Refused(why, fault_alone(why, list)),
     }
 }
 
@@ -166,9 +160,8 @@ pub fn real(
     requires { 96 ≤ length out.old }
     ensures { Comes (real (capacity (work store.old desk.old table.old)) list.now) result out.new }
 {
-    let answer = calls::to_real(list, store, desk, table);
-    match answer {
-        Real::Number(x) => Outcome::Printed(write_real(out, x)),
-        Real::Refused(why) => Outcome::Refused(why, fault_alone(why, list)),
+    match calls::to_real(list, store, desk, table) {
+        Ok(x) => Outcome::Printed(write_real(out, x)),
+        Err(why) => Outcome::Refused(why, fault_alone(why, list)),
     }
 }

@@ -2,7 +2,7 @@
 ghost use Rattle.std.specs.Prelude.{◌≡◌, true, ◌≤◌, length};
 ghost use Rattle.calls.specs.Lent.{work, capacity};
 ghost use Rattle.commands.specs.Results as Results;
-ghost use Rattle.commands.specs.Results.{simplified_with, marks_with, substituted_with, result_in, result_for, marks_in};
+ghost use Rattle.commands.specs.Results.{result_in, result_for, marks_in};
 ghost use Rattle.commands.specs.Needing.{WholeAlike, PartedAlike, Alike};
 ghost use Rattle.outcomes.specs.Coming.{Comes};
 ghost use Rattle.memory.specs.Marks.{no_marks};
@@ -17,22 +17,6 @@ use outcomes::Outcome;
 // The longest input.
 const MOST: usize = 262_144;
 
-fn run_substitute(
-    traced: bool,
-    text: &[u8],
-    store: &mut [[u64; 4]],
-    desk: &mut [u64; DESK_WORDS],
-    table: &mut [u64; TABLE_WORDS],
-    out: &mut [u8],
-) -> Outcome
-    ensures { Comes (substituted_with traced (capacity (work store.old desk.old table.old)) text.now out.old) result out.new }
-{
-    if traced {
-        return jobs::substitute_origins(text, store, desk, table, out);
-    }
-    jobs::substitute(text, store, desk, table, out)
-}
-
 fn run_whole(
     command: Whole,
     text: &[u8],
@@ -45,31 +29,12 @@ fn run_whole(
     ensures { Comes (Results.whole (capacity (work store.old desk.old table.old)) command text.now out.old) result out.new }
 {
     match command {
-        Whole::Substitute(traced) => run_substitute(traced, text, store, desk, table, out),
+        Whole::Substitute(traced) => jobs::substitute(traced, text, store, desk, table, out),
         Whole::Real => jobs::real(text, store, desk, table, out),
         Whole::Compile => tapes::compile(text, store, desk, table, out),
         Whole::Show => tapes::show(text, out),
         Whole::Check => tapes::check(text, out),
     }
-}
-
-fn run_simplify(
-    limit: u64,
-    traced: bool,
-    list: &[u8],
-    values: &[u8],
-    store: &mut [[u64; 4]],
-    desk: &mut [u64; DESK_WORDS],
-    table: &mut [u64; TABLE_WORDS],
-    out: &mut [u8],
-    marks: &mut [u8; MARKS],
-) -> Outcome
-    ensures { ComesMarked (simplified_with traced (capacity (work store.old desk.old table.old)) limit list.now values.now out.old) (marks_with traced (capacity (work store.old desk.old table.old)) limit list.now values.now out.old) result out.new marks.new }
-{
-    if traced {
-        return jobs::simplify_origins(list, values, limit, store, desk, table, out, marks);
-    }
-    jobs::simplify(list, values, limit, store, desk, table, out, marks)
 }
 
 fn run_parted(
@@ -88,7 +53,7 @@ fn run_parted(
     match command {
         Parted::Evaluate(_) => jobs::evaluate(list, values, store, desk, table, out, marks),
         Parted::Simplify(limit, _, traced) => {
-            run_simplify(limit, traced, list, values, store, desk, table, out, marks)
+            jobs::simplify(traced, list, values, limit, store, desk, table, out, marks)
         }
         Parted::Played => jobs::played(list, values, store, desk, table, out),
         Parted::Play(_) => tapes::play(list, values, table, out, marks),
@@ -115,18 +80,6 @@ fn run_lent(
             run_parted(parted, &input[..n], values, store, desk, table, out, marks)
         }
     }
-}
-
-fn rows_of_the_store() -> [[u64; 4]; 4096]
-    ensures { 4096 ≡ length result }
-{
-    [[0; 4]; 4096]
-}
-
-fn rows_for_a_listing() -> [[u64; 4]; 1024]
-    ensures { 1024 ≡ length result }
-{
-    [[0; 4]; 1024]
 }
 
 fn whole_stores_little(command: Whole) -> bool
@@ -163,23 +116,18 @@ fn stores_little(command: Command) -> bool
     }
 }
 
-fn run_in_1024(command: Command, input: &[u8], out: &mut [u8], marks: &mut [u8; MARKS]) -> Outcome
-    requires { (65536 ≤ length out.old) × (marks.old ≡ no_marks) }
-    ensures { ComesMarked (result_in 1024 command input.now out.old) (marks_in 1024 command input.now out.old) result out.new marks.new }
+// A command is lent so many rows.
+fn run_in<const ROWS: usize>(
+    command: Command,
+    input: &[u8],
+    out: &mut [u8],
+    marks: &mut [u8; MARKS],
+) -> Outcome
+    requires lent { (65536 ≤ length out.old) × (marks.old ≡ no_marks) }
+    requires few { ROWS ≤ 4096 }
+    ensures { ComesMarked (result_in ROWS command input.now out.old) (marks_in ROWS command input.now out.old) result out.new marks.new }
 {
-    let mut store = rows_for_a_listing();
-    let mut desk = [0; DESK_WORDS];
-    let mut table = [0; TABLE_WORDS];
-    run_lent(
-        command, input, &mut store, &mut desk, &mut table, out, marks,
-    )
-}
-
-fn run_in_4096(command: Command, input: &[u8], out: &mut [u8], marks: &mut [u8; MARKS]) -> Outcome
-    requires { (65536 ≤ length out.old) × (marks.old ≡ no_marks) }
-    ensures { ComesMarked (result_in 4096 command input.now out.old) (marks_in 4096 command input.now out.old) result out.new marks.new }
-{
-    let mut store = rows_of_the_store();
+    let mut store = [[0; 4]; ROWS];
     let mut desk = [0; DESK_WORDS];
     let mut table = [0; TABLE_WORDS];
     run_lent(
@@ -196,7 +144,7 @@ pub fn run(command: Command, input: &[u8], out: &mut [u8], marks: &mut [u8; MARK
         return Outcome::TooLong;
     }
     if stores_little(command) {
-        return run_in_1024(command, input, out, marks);
+        return run_in::<1024>(command, input, out, marks);
     }
-    run_in_4096(command, input, out, marks)
+    run_in::<4096>(command, input, out, marks)
 }

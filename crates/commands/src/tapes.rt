@@ -9,7 +9,6 @@ ghost use Rattle.console.specs.TapeText.{tape_in};
 ghost use Rattle.commands.specs.Coming.{ComesMarked};
 
 use super::details::{fault_alone, fault_of};
-use calls::Evaluated;
 use console::input::part;
 use console::line::write_value;
 use console::tape::{ROOM, read_tape, write_tape};
@@ -19,9 +18,7 @@ use memory::layout::{DESK_WORDS, MARKS, TABLE_WORDS};
 use outcomes::Outcome;
 use sentences::Detail;
 use shown::write_steps;
-use tape::Checked;
 use text::writing::write_bytes;
-use writing::Written;
 
 // As many bytes as the longest tape has.
 fn empty_tape() -> [u8; 12_288]
@@ -41,13 +38,12 @@ pub fn compile(
     ensures { Comes (compiled (capacity (work store.old desk.old table.old)) list.now) result out.new }
 {
     let mut tape = empty_tape();
-    let answer = calls::tapes::compile(list, store, desk, table, &mut tape);
-    match answer {
-        Written::Bytes(bytes) => {
+    match calls::tapes::compile(list, store, desk, table, &mut tape) {
+        Ok(bytes) => {
             let n = part(&tape, bytes);
             Outcome::Printed(write_tape(out, &tape[..n]))
         }
-        Written::Refused(why) => Outcome::Refused(why, fault_alone(why, list)),
+        Err(why) => Outcome::Refused(why, fault_alone(why, list)),
     }
 }
 
@@ -78,12 +74,9 @@ fn play_tape(
     requires { 96 ≤ length out.old }
     ensures { ComesMarked (playing_tape tape.now text.now values.now) (play_marks tape.now values.now) result out.new marks.new }
 {
-    let answer = calls::tapes::play_marked(tape, values, table, marks);
-    match answer {
-        Evaluated::Value(z) => Outcome::Printed(write_value(out, z)),
-        Evaluated::Refused(why) => {
-            Outcome::Refused(why, lack_on_tape(why, tape, text, values, table))
-        }
+    match calls::tapes::play_marked(tape, values, table, marks) {
+        Ok(z) => Outcome::Printed(write_value(out, z)),
+        Err(why) => Outcome::Refused(why, lack_on_tape(why, tape, text, values, table)),
     }
 }
 
@@ -108,10 +101,9 @@ pub fn check(text: &[u8], out: &mut [u8]) -> Outcome
 {
     let mut tape = [0u8; ROOM];
     let n = read_tape(&mut tape, text);
-    let answer = tape::check(&tape[..n]);
-    match answer {
-        Checked::Sound => Outcome::Printed(write_bytes(out, 0, b"sound\n")),
-        Checked::Bad(step) => Outcome::Refused(Refusal::BadTape(step), Detail::Plain),
+    match tape::check(&tape[..n]) {
+        Ok(()) => Outcome::Printed(write_bytes(out, 0, b"sound\n")),
+        Err(why) => Outcome::Refused(why, Detail::Plain),
     }
 }
 
@@ -121,9 +113,8 @@ pub fn show(text: &[u8], out: &mut [u8]) -> Outcome
 {
     let mut tape = [0u8; ROOM];
     let n = read_tape(&mut tape, text);
-    let answer = tape::check(&tape[..n]);
-    match answer {
-        Checked::Sound => Outcome::Printed(write_steps(out, &tape[..n])),
-        Checked::Bad(step) => Outcome::Refused(Refusal::BadTape(step), Detail::Plain),
+    match tape::check(&tape[..n]) {
+        Ok(()) => Outcome::Printed(write_steps(out, &tape[..n])),
+        Err(why) => Outcome::Refused(why, Detail::Plain),
     }
 }

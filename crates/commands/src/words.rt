@@ -5,7 +5,7 @@ ghost use Rattle.commands.specs.Words.{tape_word, job_word, first_word, first_of
 ghost use Rattle.commands.specs.Asking.{Asks, FoundAt, AsksSimplifying, AsksAtLimit, AsksFile, AsksAll};
 
 use console::tape::next_line;
-use text::reading::{Number, decimal_field, word_at};
+use text::reading::{decimal_field, word_at};
 
 const LF: u8 = b'\n';
 
@@ -52,26 +52,14 @@ pub enum Asked {
     TooMany,
 }
 
-// Whether a word stands at a place, and where the words after it begin.
-#[derive(Clone, Copy)]
-struct Found {
-    stands: bool,
-    next: usize,
-}
-
-fn find_at(words: &[u8], at: usize, word: &[u8]) -> Found
+// Where the words after a word begin, if it stands at a place.
+fn find_at(words: &[u8], at: usize, word: &[u8]) -> Option<usize>
     ensures { FoundAt words.now at word.now result }
 {
     if word_at(words, at, word) {
-        return Found {
-            stands: true,
-            next: at + word.len(),
-        };
+        return Some(at + word.len());
     }
-    Found {
-        stands: false,
-        next: at,
-    }
+    None
 }
 
 // "simplify" at a limit, and what follows on that.
@@ -79,10 +67,11 @@ fn simplify_at(words: &[u8], at: usize, limit: u64) -> Asked
     ensures { AsksSimplifying words.now at limit result }
 {
     let marks = find_at(words, at, b"marks\n");
-    let origins = find_at(words, marks.next, b"origins\n");
+    let next = marks.unwrap_or(at);
+    let origins = find_at(words, next, b"origins\n");
     Asked::Job(
-        Command::Parted(Parted::Simplify(limit, marks.stands, origins.stands)),
-        origins.next,
+        Command::Parted(Parted::Simplify(limit, marks.is_some(), origins.is_some())),
+        origins.unwrap_or(next),
     )
 }
 
@@ -90,11 +79,8 @@ fn simplify_at(words: &[u8], at: usize, limit: u64) -> Asked
 fn at_limit(words: &[u8], at: usize) -> Asked
     ensures { AsksAtLimit words.now at result }
 {
-    let limit = decimal_field(words, at, LF, LIMITS);
-    match limit {
-        Number::Is(n, next) => simplify_at(words, next, n),
-        Number::Bad => simplify_at(words, at, LIMIT),
-    }
+    let (limit, next) = decimal_field(words, at, LF, LIMITS).unwrap_or((LIMIT, at));
+    simplify_at(words, next, limit)
 }
 
 fn tape_word(words: &[u8]) -> Asked
@@ -105,7 +91,10 @@ fn tape_word(words: &[u8]) -> Asked
     }
     if word_at(words, 0, b"play\n") {
         let marks = find_at(words, 5, b"marks\n");
-        return Asked::Job(Command::Parted(Parted::Play(marks.stands)), marks.next);
+        return Asked::Job(
+            Command::Parted(Parted::Play(marks.is_some())),
+            marks.unwrap_or(5),
+        );
     }
     if word_at(words, 0, b"show\n") {
         return Asked::Job(Command::Whole(Whole::Show), 5);
@@ -121,13 +110,16 @@ fn job_word(words: &[u8]) -> Asked
 {
     if word_at(words, 0, b"evaluate\n") {
         let marks = find_at(words, 9, b"marks\n");
-        return Asked::Job(Command::Parted(Parted::Evaluate(marks.stands)), marks.next);
+        return Asked::Job(
+            Command::Parted(Parted::Evaluate(marks.is_some())),
+            marks.unwrap_or(9),
+        );
     }
     if word_at(words, 0, b"substitute\n") {
         let origins = find_at(words, 11, b"origins\n");
         return Asked::Job(
-            Command::Whole(Whole::Substitute(origins.stands)),
-            origins.next,
+            Command::Whole(Whole::Substitute(origins.is_some())),
+            origins.unwrap_or(11),
         );
     }
     if word_at(words, 0, b"real\n") {
@@ -192,14 +184,12 @@ pub fn first_length(words: &[u8]) -> usize
     ensures words_value { take result words.now ≡ first_of words.now }
     ensures within { IsPrefixLen result words.now }
 {
-    let mut i: usize = 0;
-    while i < words.len() {
-        if words[i] == LF {
+    for (i, &b) in words.iter().enumerate() {
+        if b == LF {
             return i;
         }
-        i += 1;
     }
-    i
+    words.len()
 }
 
 fn parted_shows(command: Parted) -> bool

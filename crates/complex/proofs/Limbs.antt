@@ -1,8 +1,10 @@
 -- Laws of numbers of two limbs of 64 bits. Assumes nothing.
-use Rattle.std.proofs.Common.{◌≡◌, ℕ, ◌+◌, ◌-◌, ◌*◌, ◌/◌, ◌%◌, ◌^◌, ◌<◌, ◌≤◌, ltb, sym, refl, ap, ◌∙◌, subst, le_of_eq, lt_of_lt_of_le, le-add_right, lt_of_le_of_lt, add-zero, add_assoc, mod-lt, mod-eq_of_lt, mul_assoc, mul_comm, div-lt_iff_lt-mul, add-mul, mul-le-mul, div-add-mod', zero-add, div-one, mul-div_cancel, arith, pow_pos, pow_mono, pow-add, shr-shr, shr_lt}
+use Rattle.std.proofs.Common.{◌≡◌, ℕ, ◌+◌, ◌-◌, ◌*◌, ◌/◌, ◌%◌, ◌^◌, ◌<◌, ◌≤◌, ltb, sym, refl, ap, ◌∙◌, subst, le_of_eq, Some, Ordering, eq-eqb, ne_eqb, le-ltb, lt-ltb, lt_of_lt_of_le, le-add_right, lt_of_le_of_lt, add-zero, add_assoc, mod-lt, mod-eq_of_lt, mul_assoc, mul_comm, div-lt_iff_lt-mul, add-mul, mul-le-mul, div-add-mod', zero-add, div-one, mul-div_cancel, arith, pow_pos, pow_mono, pow-add, shr-shr, shr_lt}
 use native.Mathlib.Nat.{mul-mod_left, mul-add-div_right, div-eq_of_lt}
 use lib.Arith.{digits_lt, digits_div, digits_mod, mod-mul}
 use lib.Pow.{add-lt-pow, shr_le}
+use native.Mathlib.Decide.{dec_lt, ℕ_discrete}
+use Rattle.std.specs.Ordering.{is_lt, is_some_and, nat_cmp, partial_ordering_then}
 use Rattle.complex.specs.declared.wide.Wide.{Wide}
 use Rattle.complex.specs.Wide.{value, wide}
 use Rattle.complex.proofs.Tests.{same_test}
@@ -194,6 +196,25 @@ sum_law x y h k p q =
     let b : (x.lo + y.lo) % 2 ^ 64 ≡ (value x + value y) % 2 ^ 64 = omega arith in
     λ i. limbs (a i) (b i)
 
+-- the order of two limbs, the lower of which counts where the upper ones are equal
+lower_order : (b d : ℕ) → is_lt (nat_cmp b d) ≡ ltb b d
+lower_order b d = elim (dec_lt b d) [
+  | yes h ↦ rw (lt-ltb b d h) refl
+  | no n ↦ elim (ℕ_discrete b d) [
+    | yes e ↦ rw (le-ltb b d (omega arith), eq-eqb b d e) refl
+    | no m ↦ rw (le-ltb b d (omega arith), ne_eqb b d m) refl
+  ]
+]
+
+upper_order : (a c : ℕ) (o : Ordering) → (a ≡ c → ⊥) → is_some_and is_lt (partial_ordering_then (Some (nat_cmp a c)) (Some o)) ≡ ltb a c
+upper_order a c o n = elim (dec_lt a c) [
+  | yes h ↦ rw (lt-ltb a c h) refl
+  | no m ↦ rw (le-ltb a c (omega arith), ne_eqb a c n) refl
+]
+
+equal_upper : (a c : ℕ) (o : Ordering) → a ≡ c → is_some_and is_lt (partial_ordering_then (Some (nat_cmp a c)) (Some o)) ≡ is_lt o
+equal_upper a c o e = rw (le-ltb a c (omega arith), eq-eqb a c e) refl
+
 module _ (x y : Wide) where
   pub less_low : x.hi ≡ y.hi → ltb x.lo y.lo ≡ ltb (value x) (value y)
   unfolding value
@@ -202,6 +223,14 @@ module _ (x y : Wide) where
   pub less_high : x.lo < 2 ^ 64 → y.lo < 2 ^ 64 → (x.hi ≡ y.hi → ⊥) → ltb x.hi y.hi ≡ ltb (value x) (value y)
   unfolding value
   less_high p q n = same_test x.hi y.hi (value x) (value y) (λ h. omega arith) (λ h. omega arith)
+
+  -- by the upper limbs, and where these are equal by the lower ones
+  pub less_by_limbs : x.lo < 2 ^ 64 → y.lo < 2 ^ 64
+      → is_some_and is_lt (partial_ordering_then (Some (nat_cmp x.hi y.hi)) (Some (nat_cmp x.lo y.lo))) ≡ ltb (value x) (value y)
+  less_by_limbs p q = elim (ℕ_discrete x.hi y.hi) [
+    | yes e ↦ equal_upper x.hi y.hi (nat_cmp x.lo y.lo) e ∙ lower_order x.lo y.lo ∙ less_low e
+    | no n ↦ upper_order x.hi y.hi (nat_cmp x.lo y.lo) n ∙ less_high p q n
+  ]
 
 -- what a shift leaves of the limbs of n
 pub shifted_value : (n j : ℕ) {w r : Wide} → n < 2 ^ 128 → w ≡ wide n → r ≡ wide (value w / 2 ^ j) → value r ≡ n / 2 ^ j

@@ -22,17 +22,11 @@ pub fn equal_doubles(x: f64, y: f64) -> bool
 pub fn identical(x: Complex, y: Complex) -> bool
     ensures { result ≡ Equality.identical x y }
 {
-    if identical_doubles(x.re, y.re) {
-        return identical_doubles(x.im, y.im);
-    }
-    false
+    identical_doubles(x.re, y.re) && identical_doubles(x.im, y.im)
 }
 
 pub fn equal(x: Complex, y: Complex) -> bool
     ensures { result ≡ Equality.equal x y }
 {
-    if equal_doubles(x.re, y.re) {
-        return equal_doubles(x.im, y.im);
-    }
-    false
+    equal_doubles(x.re, y.re) && equal_doubles(x.im, y.im)
 }

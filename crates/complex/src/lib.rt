@@ -6,6 +6,8 @@
 ghost use Rattle.std.specs.Prelude.{◌≡◌};
 ghost use Rattle.complex.specs.Arithmetic.{plus, minus, times, over, negated};
 
+use std::ops::{Add, Div, Mul, Neg, Sub};
+
 pub mod bits;
 pub mod constants;
 pub mod equality;
@@ -20,48 +22,68 @@ pub struct Complex {
     pub im: f64,
 }
 
-pub fn add(x: Complex, y: Complex) -> Complex
-    ensures { result ≡ plus x y }
-{
-    Complex {
-        re: x.re + y.re,
-        im: x.im + y.im,
+impl Add for Complex {
+    type Output = Complex;
+
+    ghost add_gives = { λ x y z. z ≡ plus x y };
+
+    fn add(self, y: Complex) -> Complex {
+        Complex {
+            re: self.re + y.re,
+            im: self.im + y.im,
+        }
     }
 }
 
-pub fn sub(x: Complex, y: Complex) -> Complex
-    ensures { result ≡ minus x y }
-{
-    Complex {
-        re: x.re - y.re,
-        im: x.im - y.im,
+impl Sub for Complex {
+    type Output = Complex;
+
+    ghost sub_gives = { λ x y z. z ≡ minus x y };
+
+    fn sub(self, y: Complex) -> Complex {
+        Complex {
+            re: self.re - y.re,
+            im: self.im - y.im,
+        }
     }
 }
 
-pub fn mul(x: Complex, y: Complex) -> Complex
-    ensures { result ≡ times x y }
-{
-    Complex {
-        re: x.re * y.re - x.im * y.im,
-        im: x.re * y.im + x.im * y.re,
+impl Mul for Complex {
+    type Output = Complex;
+
+    ghost mul_gives = { λ x y z. z ≡ times x y };
+
+    fn mul(self, y: Complex) -> Complex {
+        Complex {
+            re: self.re * y.re - self.im * y.im,
+            im: self.re * y.im + self.im * y.re,
+        }
     }
 }
 
-pub fn div(x: Complex, y: Complex) -> Complex
-    ensures { result ≡ over x y }
-{
-    let n = y.re * y.re + y.im * y.im;
-    Complex {
-        re: (x.re * y.re + x.im * y.im) / n,
-        im: (x.im * y.re - x.re * y.im) / n,
+impl Div for Complex {
+    type Output = Complex;
+
+    ghost div_gives = { λ x y z. z ≡ over x y };
+
+    fn div(self, y: Complex) -> Complex {
+        let n = y.re * y.re + y.im * y.im;
+        Complex {
+            re: (self.re * y.re + self.im * y.im) / n,
+            im: (self.im * y.re - self.re * y.im) / n,
+        }
     }
 }
 
-pub fn neg(x: Complex) -> Complex
-    ensures { result ≡ negated x }
-{
-    Complex {
-        re: -x.re,
-        im: -x.im,
+impl Neg for Complex {
+    type Output = Complex;
+
+    ghost neg_gives = { λ x z. z ≡ negated x };
+
+    fn neg(self) -> Complex {
+        Complex {
+            re: -self.re,
+            im: -self.im,
+        }
     }
 }

@@ -6,7 +6,7 @@ ghost use Rattle.complex.specs.Parts.{magnitude_of_bits, cut_square};
 ghost use Rattle.complex.specs.Wide.{value, wide};
 
 use super::parts::{Part, part_of};
-use super::wide::{Wide, added, less, product, shifted};
+use super::wide::{Wide, added, product, shifted};
 
 // T is 0x1B_7CDF_D9D7_BDBB * 2^988 least subnormals, so its scale is 988 + 53.
 const T_SCALE: u64 = 1041;
@@ -40,11 +40,8 @@ pub fn squares_below(re: u64, im: u64) -> bool
     let mut sum = Wide { hi: 0, lo: 0 };
     sum = add_square(sum, part_of(re));
     sum = add_square(sum, part_of(im));
-    less(
-        sum,
-        Wide {
-            hi: T_SQUARED_HI,
-            lo: T_SQUARED_LO,
-        },
-    )
+    sum < Wide {
+        hi: T_SQUARED_HI,
+        lo: T_SQUARED_LO,
+    }
 }

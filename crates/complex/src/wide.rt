@@ -4,7 +4,8 @@ ghost use Rattle.complex.specs.Wide.{value, wide};
 
 use std::num::wrapping_add_u64;
 
-#[derive(Clone, Copy)]
+// The order of the fields, the upper limb first, is that of the numbers.
+#[derive(Clone, Copy, PartialEq, Eq, PartialOrd, Ord)]
 pub struct Wide {
     pub hi: u64,
     pub lo: u64,
@@ -70,17 +71,4 @@ pub fn added(x: Wide, y: Wide) -> Wide
         hi: wrapping_add_u64(hi, carry(x.lo, y.lo)),
         lo: wrapping_add_u64(x.lo, y.lo),
     }
-}
-
-pub fn less(x: Wide, y: Wide) -> bool
-    ensures { result ≡ nat_lt (value x) (value y) }
-{
-    let xh = x.hi;
-    let yh = y.hi;
-    let xl = x.lo;
-    let yl = y.lo;
-    if xh == yh {
-        return xl < yl;
-    }
-    xh < yh
 }

@@ -17,16 +17,11 @@ pub fn is_zero(z: Complex) -> bool
 {
     let re = magnitude_bits(z.re);
     let im = magnitude_bits(z.im);
-    if T_BITS <= re {
+    if T_BITS <= re || T_BITS <= im {
         return false;
     }
-    if T_BITS <= im {
-        return false;
-    }
-    if re < HALF_T_BITS {
-        if im < HALF_T_BITS {
-            return true;
-        }
+    if re < HALF_T_BITS && im < HALF_T_BITS {
+        return true;
     }
     squares_below(re, im)
 }

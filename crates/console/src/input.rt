@@ -4,30 +4,36 @@ ghost use Rattle.io.specs.Counts.{IsPrefixLen};
 ghost use Rattle.console.specs.Parting.{Parted};
 ghost use Rattle.console.specs.Slices.{SheetPart};
 
+use std::io;
 use std::io::Read;
 
 const LF: u8 = b'\n';
 
-#[derive(Clone, Copy)]
-pub enum Input {
-    Whole(usize),
+// Why an input is not read to its end.
+#[derive(Clone, Copy, Debug, PartialEq, Eq)]
+pub enum Unread {
     TooLong,
     Failed,
 }
 
-// Reads a file up to its end. One that fills the slice is too long.
-pub fn read<R: Read>(file: &mut R, text: &mut [u8]) -> Input {
+impl From<io::Error> for Unread {
+    fn from(_error: io::Error) -> Unread {
+        Unread::Failed
+    }
+}
+
+// Reads a file up to its end, and answers how long it is. One that fills the slice is too long.
+pub fn read<R: Read>(file: &mut R, text: &mut [u8]) -> Result<usize, Unread> {
     let mut done: usize = 0;
+    // No `for`: how far it goes on is what a read gave.
     while done < text.len() {
-        let Ok(more) = file.read(&mut text[done..]) else {
-            return Input::Failed;
-        };
+        let more = file.read(&mut text[done..])?;
         if more == 0 {
-            return Input::Whole(done);
+            return Ok(done);
         }
         done += more;
     }
-    Input::TooLong
+    Err(Unread::TooLong)
 }
 
 // As much of a slice as n says, at most its length.
@@ -35,7 +41,7 @@ pub fn part(s: &[u8], n: usize) -> usize
     ensures prefix_len { IsPrefixLen result s.now }
     ensures least { result ≡ min n (length s.now) }
 {
-    if n < s.len() { n } else { s.len() }
+    n.min(s.len())
 }
 
 // How long the listing is: it ends before the first empty line, or with the text.
@@ -43,28 +49,23 @@ pub fn listing_length(text: &[u8]) -> usize
     ensures { Parted text.now result }
 {
     let mut before = LF;
-    let mut at = 0;
-    while at < text.len() {
-        let byte = text[at];
-        if byte == LF {
-            if before == LF {
-                return at;
-            }
+    for (at, byte) in text.iter().enumerate() {
+        if before == LF && *byte == LF {
+            return at;
         }
-        before = byte;
-        at += 1;
+        before = *byte;
     }
-    at
+    text.len()
 }
 
 // The sheet: what follows after the line feed of the empty line.
 pub fn sheet_of(rest: &[u8]) -> &[u8]
     ensures { SheetPart rest.entry result }
 {
-    if rest.len() == 0 {
-        return rest;
+    match rest {
+        [] => rest,
+        [_, sheet @ ..] => sheet,
     }
-    &rest[1..]
 }
 
 // The sentence on standard error for an input that failed.
@@ -98,29 +99,18 @@ mod tests {
         }
     }
 
-    // How many bytes are read where the input is read to its end.
-    fn length(input: Input) -> Option<usize> {
-        match input {
-            Input::Whole(length) => Some(length),
-            _ => None,
-        }
-    }
-
-    fn is_failed(input: Input) -> bool {
-        match input {
-            Input::Failed => true,
-            _ => false,
-        }
-    }
-
     #[test]
     fn an_input_ends_or_fails_or_is_too_long(rt: HostRuntime) {
         let mut text = [0u8; 8];
         let mut bytes: &[u8] = b"a job";
-        assert_eq!(rt; length(read(&mut bytes, &mut text)), Some(5));
-        assert!(rt; is_failed(read(&mut Broken { calls: 0, whole: 3 }, &mut text)));
-        let long = read(&mut Broken { calls: 0, whole: 8 }, &mut text);
-        assert!(rt; !is_failed(long));
-        assert_eq!(rt; length(long), None);
+        assert_eq!(rt; read(&mut bytes, &mut text), Ok(5));
+        assert_eq!(rt;
+            read(&mut Broken { calls: 0, whole: 3 }, &mut text),
+            Err(Unread::Failed)
+        );
+        assert_eq!(rt;
+            read(&mut Broken { calls: 0, whole: 8 }, &mut text),
+            Err(Unread::TooLong)
+        );
     }
 }

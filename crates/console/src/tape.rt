@@ -19,7 +19,8 @@ const STEPS: usize = 513;
 // The room for the bytes of a tape that is read.
 pub const ROOM: usize = 12_312;
 
-// What stands after byte k of a step, and 0 where nothing does.
+// What stands after byte k of a step, and 0 where nothing does: no Option, since `in_digits` and `byte_from` are defined on that 0, and
+// `end_field` asks for a byte above it.
 fn stop_after(k: usize) -> u8
     ensures { result ≡ stop_after k }
 {
@@ -46,10 +47,8 @@ pub fn write_tape(out: &mut [u8], tape: &[u8]) -> usize
     ensures within { IsPrefixLen result out.new }
 {
     let mut at: usize = 0;
-    let mut i: usize = 0;
-    while i < tape.len() {
-        at = write_digits(out, at, tape[i], stop_after(i % STEP));
-        i += 1;
+    for (i, &b) in tape.iter().enumerate() {
+        at = write_digits(out, at, b, stop_after(i % STEP));
     }
     at
 }
@@ -59,13 +58,13 @@ fn read_byte(s: &[u8], at: usize, stop: u8) -> Number
 {
     let high = digit(byte_at(s, at));
     if 15 < high {
-        return Number::Bad;
+        return None;
     }
     let low = digit(byte_at(s, at + 1));
     if 15 < low {
-        return Number::Bad;
+        return None;
     }
-    let n = Number::Is(high * 16 + low, at + 2);
+    let n = Some((high * 16 + low, at + 2));
     if stop == 0 {
         return n;
     }
@@ -78,14 +77,12 @@ fn read_step(s: &[u8], at: usize) -> [u8; 24]
 {
     let mut step = [0u8; STEP];
     let mut next = at;
-    let mut k: usize = 0;
-    while k < STEP {
-        let Number::Is(b, after) = read_byte(s, next, stop_after(k)) else {
+    for k in 0..STEP {
+        let Some((b, after)) = read_byte(s, next, stop_after(k)) else {
             return [0u8; STEP];
         };
         step[k] = b as u8;
         next = after;
-        k += 1;
     }
     step
 }
@@ -95,14 +92,12 @@ pub fn next_line(s: &[u8], at: usize) -> usize
     requires { at < length s.now }
     ensures { (at < result) × (result ≤ length s.now) × (drop result s.now ≡ next_line (drop at s.now)) }
 {
-    let mut i = at;
-    while i < s.len() {
+    for i in at..s.len() {
         if s[i] == LF {
             return i + 1;
         }
-        i += 1;
     }
-    i
+    s.len()
 }
 
 // The bytes that a text says, at the start of an output: 24 for each line.
@@ -111,17 +106,15 @@ pub fn read_tape(out: &mut [u8], text: &[u8]) -> usize
     ensures put { Put out.old 0 (tape_in text.now) result out.new }
     ensures within { IsPrefixLen result out.new }
 {
-    let mut left = STEPS;
     let mut at: usize = 0;
     let mut n: usize = 0;
-    while at < text.len() {
-        if left == 0 {
+    for _ in 0..STEPS {
+        if text.len() <= at {
             return n;
         }
         let step = read_step(text, at);
         n = write_bytes(out, n, &step);
         at = next_line(text, at);
-        left -= 1;
     }
     n
 }

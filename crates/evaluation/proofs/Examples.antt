@@ -5,6 +5,7 @@ use mathlib.Core.Bool.{false}
 use mathlib.Core.List.{[]}
 use Prim.Native.Nat.{◌^◌}
 use lib.Ieee.{binary64, add, mul, sub, div, lt, neg, round, of_bits}
+use Rattle.std.specs.Prelude.{Ok, Err}
 use Rattle.complex.specs.Arithmetic.{over}
 use Rattle.complex.specs.Constants.{of_parts, zero_number, one_number, two_number, pi_number}
 use Rattle.expression.specs.declared.InfixOperator.{InfixOperator}
@@ -14,7 +15,6 @@ use Rattle.expression.specs.declared.refusal.Refusal.{Refusal}
 use Rattle.expression.specs.Trees.{Tree, leaf, number, pi, variable, function_call, infixed}
 use Rattle.sheet.specs.Rows.{Rows, rows, value_of, function_value}
 use Rattle.evaluation.specs.declared.Evaluation.{Evaluation}
-use Rattle.evaluation.specs.declared.real.Real.{Real}
 use Rattle.evaluation.specs.Evaluating.{evaluate, and_then, bound, given, cis, calculate_function, calculate_infix, leaf_value}
 use Rattle.evaluation.specs.Reals.{tiny, real_part, to_real}
 
@@ -61,18 +61,18 @@ unfolding evaluate and_then leaf_value calculate_infix nothing_bound over add mu
 two_over_zero = refl
 
 -- "below 1e-16 in magnitude": the double nearest 1e-16 is not, the one below it is; NaN is not
-at_the_limit : to_real (leaf (number (of_parts 0x3FF0_0000_0000_0000 0x3C9C_D2B2_97D8_89BC))) ≡ Real.Refused Refusal.NotReal
+at_the_limit : to_real (leaf (number (of_parts 0x3FF0_0000_0000_0000 0x3C9C_D2B2_97D8_89BC))) ≡ Err Refusal.NotReal
 unfolding to_real real_part lt neg of_bits
 at_the_limit = refl
 
-below_the_limit : to_real (leaf (number (of_parts 0x3FF0_0000_0000_0000 0xBC9C_D2B2_97D8_89BB))) ≡ Real.Number one_number.re
+below_the_limit : to_real (leaf (number (of_parts 0x3FF0_0000_0000_0000 0xBC9C_D2B2_97D8_89BB))) ≡ Ok one_number.re
 unfolding to_real real_part lt neg of_bits
 below_the_limit = refl
 
-nan_imaginary : to_real (leaf (number (of_parts 0 0x7FF8_0000_0000_0000))) ≡ Real.Refused Refusal.NotReal
+nan_imaginary : to_real (leaf (number (of_parts 0 0x7FF8_0000_0000_0000))) ≡ Err Refusal.NotReal
 unfolding to_real real_part lt neg of_bits
 nan_imaginary = refl
 
-no_number : to_real a ≡ Real.Refused Refusal.NotANumber
+no_number : to_real a ≡ Err Refusal.NotANumber
 unfolding to_real a
 no_number = refl

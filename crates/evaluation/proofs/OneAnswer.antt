@@ -2,6 +2,8 @@
 use mathlib.Core.Path.{◌≡◌, sym, ◌∙◌}
 use mathlib.Core.List.{List}
 use Prim.Native.Nat.{ℕ, ◌<◌}
+use Rattle.std.specs.Prelude.{Float, Result}
+use Rattle.expression.specs.declared.refusal.Refusal.{Refusal}
 use Rattle.store.specs.Memory.{Memory}
 use Rattle.store.specs.Held.{Holds}
 use Rattle.store.proofs.Settling.{ordered}
@@ -10,7 +12,6 @@ use Rattle.sheet.specs.Rows.{Rows}
 use Rattle.sheet.specs.Table.{rows_of, Held, used_in}
 use Rattle.evaluation.specs.declared.Evaluation.{Evaluation}
 use Rattle.evaluation.specs.declared.Asked.{Asked}
-use Rattle.evaluation.specs.declared.real.Real.{Real}
 use Rattle.evaluation.specs.Run.{Answers, Evaluates, ReadsReal}
 
 module _ {m : Memory} {n : ℕ} (h : Holds m n) where
@@ -21,11 +22,11 @@ module _ {m : Memory} {n : ℕ} (h : Holds m n) where
       let y = q n (ordered h) l b t in
       λ i. ((x.value ∙ sym y.value) i, (x.marked ∙ sym y.marked) i)
 
-  pub one_real : {node : ℕ} {r r' : Real} → node < n → ReadsReal m node r → ReadsReal m node r' → r ≡ r'
+  pub one_real : {node : ℕ} {r r' : Result Float Refusal} → node < n → ReadsReal m node r → ReadsReal m node r' → r ≡ r'
   one_real l p q = p n h l ∙ sym (q n h l)
 
--- what is worked out under a sheet, and the rows that were used: `calculate_function`, `calculate_infix`. The words of a row are its number plus one, and
--- of two the first is the first that is used
+-- what is worked out under a sheet, and the rows that were used: `calculate_function`, `calculate_infix`. Of two rows the first
+-- is the first that is used
 pub one_calculated : {table : List ℕ} {rows : Counts} (value : Rows → Evaluation) (used : Rows → List ℕ) (r r' : Asked) → Held table rows
     → (Held table rows → Answers (value (rows_of table rows)) (used (rows_of table rows)) r) → (Held table rows → Answers (value (rows_of table rows)) (used (rows_of table rows)) r')
     → (r.value ≡ r'.value) × (used_in r.used ≡ used_in r'.used)

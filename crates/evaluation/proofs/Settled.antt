@@ -3,10 +3,10 @@ use mathlib.Core.Path.{◌≡◌, refl, sym, ap, ◌∙◌, subst}
 use mathlib.Core.Bool.{Bool, true, false}
 use mathlib.Core.List.{List, [], ◌++◌}
 use mathlib.Core.Logic.{⊎_elim}
-use Prim.Native.Nat.{ℕ, ◌+◌, ◌-◌, ◌<◌}
+use Prim.Native.Nat.{ℕ, ◌<◌}
 use native.Mathlib.Omega.{arith}
-use native.Mathlib.Decide.{ℕ_discrete}
 use lib.Dec.{T}
+use Rattle.std.specs.Prelude.{Result, Ok, Err, IsErrAnd}
 use Rattle.complex.specs.declared.Complex.{Complex}
 use Rattle.complex.specs.Bits.{Fitting}
 use Rattle.expression.specs.declared.node.Expression.{Expression}
@@ -41,6 +41,18 @@ unfolding and_then
 passed (Evaluation.Value z) next k = absurd k
 passed Evaluation.Incomplete next k = refl
 passed (Evaluation.Need operation x y) next k = refl
+
+-- no answer is both
+not_err : {A : Type 0} {k : ℕ} → ◌≡◌ {A = Result (Unit {0}) ℕ} (Ok tt) (Err k) → A
+not_err q = let z : ◌≡◌ {A = ℕ} 0 1 = cc in absurd (omega arith)
+
+same_err : {j k : ℕ} → ◌≡◌ {A = Result (Unit {0}) ℕ} (Err j) (Err k) → j ≡ k
+same_err q = cc
+
+-- what is handed on is the same lack
+pub handed_on : (r : Result (Unit {0}) ℕ) {k : ℕ} → IsErrAnd r (λ e. e ≡ k) → r ≡ Err k
+handed_on (Ok _) x = absurd x
+handed_on (Err e) x = ap Err x
 
 module _ (rows : Rows) where
   -- the first lack of a node is that of its one operand, or of its left one
@@ -120,12 +132,12 @@ module _ (rows : Rows) where
 
     -- ---- a node
 
-    pub is_settled : {b : Bool} → Tells b (IsNumber m node) → b ≡ true → Settled rows n node 0 m m (IsNumber m node) marks marks
-    is_settled h e = record { settling = settles_nothing o; covered = refl; done = λ x. subst (λ b. Tells b (IsNumber m node)) e h; lack = λ q. absurd (q refl); all = λ q. absurd (q refl) }
+    pub is_settled : {b : Bool} → Tells b (IsNumber m node) → b ≡ true → Settled rows n node (Ok tt) m m (IsNumber m node) marks marks
+    is_settled h e = record { settling = settles_nothing o; covered = refl; done = λ x. subst (λ b. Tells b (IsNumber m node)) e h; lack = λ k q. not_err q; all = λ k q. not_err q }
 
-  module _ {m m' : Memory} {n node lack : ℕ} {D : Type 0} {marks marks' : List ℕ} (l : node < n) (s : Settled rows n node lack m m' D marks marks') where
-    pub lack_settled : {E : Type 0} → (lack ≡ 0 → ⊥) → Settled rows n node lack m m' E marks marks'
-    lack_settled q = record { settling = s.settling; covered = s.covered; done = λ x. absurd (q x); lack = s.lack; all = s.all }
+  module _ {m m' : Memory} {n node : ℕ} {r : Result (Unit {0}) ℕ} {D : Type 0} {marks marks' : List ℕ} (l : node < n) (s : Settled rows n node r m m' D marks marks') where
+    pub lack_settled : {E : Type 0} {k : ℕ} → r ≡ Err k → Settled rows n node (Err k) m m' E marks marks'
+    lack_settled q = record { settling = s.settling; covered = s.covered; done = λ x. not_err (sym x); lack = λ k x. s.lack k (q ∙ x); all = λ k x. s.all k (q ∙ x) }
 
     module _ {m'' : Memory} {b : Bool} {marks'' : List ℕ} (f : Finished rows n node b m' m'' marks' marks'') where
       all_marked : marks'' ≡ noted (used rows (tree_at m node)) marks
@@ -137,16 +149,16 @@ module _ (rows : Rows) where
       all_covered : noted (used rows (tree_at m node)) marks'' ≡ noted (used rows (tree_at m node)) marks
       all_covered = ap (noted (used rows (tree_at m node))) all_marked ∙ noted_again (used rows (tree_at m node)) marks
 
-      pub value_settled : b ≡ true → Settled rows n node 0 m m'' (IsNumber m'' node) marks marks''
-      value_settled e = record { settling = both_settling; covered = all_covered; done = λ x. f.ended.done e; lack = λ q. absurd (q refl); all = λ q. absurd (q refl) }
+      pub value_settled : b ≡ true → Settled rows n node (Ok tt) m m'' (IsNumber m'' node) marks marks''
+      value_settled e = record { settling = both_settling; covered = all_covered; done = λ x. f.ended.done e; lack = λ k q. not_err q; all = λ k q. not_err q }
 
-      pub last_lacks : b ≡ false → Settled rows n node (1 + node) m m'' (IsNumber m'' node) marks marks''
+      pub last_lacks : b ≡ false → Settled rows n node (Err node) m m'' (IsNumber m'' node) marks marks''
       last_lacks e = record {
         settling = both_settling;
         covered = all_covered;
-        done = λ x. absurd (omega (arith, x));
-        lack = λ q. subst (LacksAt rows m'' n node) (omega arith) (f.ended.lack e);
-        all = λ q. all_marked;
+        done = λ x. not_err (sym x);
+        lack = λ k q. subst (LacksAt rows m'' n node) (same_err q) (f.ended.lack e);
+        all = λ k q. all_marked;
       }
 
   -- a number's tree uses no row
@@ -154,25 +166,26 @@ module _ (rows : Rows) where
   unfolding used
   number_uses m k h = ap (used rows) (number_tree m k h)
 
-  module _ {m m' : Memory} {n node r : ℕ} {marks marks' : List ℕ} (s : Settled rows n node r m m' (IsNumber m' node) marks marks') (l : node < n) where
+  module _ {m m' : Memory} {n node : ℕ} {r : Result (Unit {0}) ℕ} {marks marks' : List ℕ} (s : Settled rows n node r m m' (IsNumber m' node) marks marks') (l : node < n) where
     pub settled_marks : marks' ≡ noted (used rows (tree_at m node)) marks
     unfolding noted
-    settled_marks = elim (ℕ_discrete r 0) [
-      | yes q ↦ ap (λ u. noted u marks') (sym (number_uses m' node (s.done q))) ∙ same_marks rows marks' s.settling node l ∙ s.covered
-      | no q ↦ s.all q
-    ]
+    settled_marks = go r refl
+      where
+        go : (q : Result (Unit {0}) ℕ) → r ≡ q → marks' ≡ noted (used rows (tree_at m node)) marks
+        go (Ok _) q = ap (λ u. noted u marks') (sym (number_uses m' node (s.done q))) ∙ same_marks rows marks' s.settling node l ∙ s.covered
+        go (Err k) q = s.all k q
 
-    pub settled_value : r ≡ 0 → {z : Complex} → z ≡ number_at m' node → WorkedOut rows (tree_at m node) (Evaluation.Value z) marks marks'
+    pub settled_value : r ≡ Ok tt → {z : Complex} → z ≡ number_at m' node → WorkedOut rows (tree_at m node) (Evaluation.Value z) marks marks'
     settled_value q p = record { value = ap Evaluation.Value p ∙ sym (number_value rows m' node (s.done q)) ∙ same_value rows marks' s.settling node l; marked = settled_marks }
 
-    pub settled_lack : (r ≡ 0 → ⊥) → {w : Evaluation} → w ≡ evaluate rows (tree_at m' (r - 1)) → WorkedOut rows (tree_at m node) w marks marks'
-    settled_lack q p = record { value = p ∙ (s.lack q).same ∙ same_value rows marks' s.settling node l; marked = settled_marks }
+    pub settled_lack : {k : ℕ} → r ≡ Err k → {w : Evaluation} → w ≡ evaluate rows (tree_at m' k) → WorkedOut rows (tree_at m node) w marks marks'
+    settled_lack q p = record { value = p ∙ (s.lack _ q).same ∙ same_value rows marks' s.settling node l; marked = settled_marks }
 
   -- ---- the operands of a node
 
   module _ {m : Memory} {n node : ℕ} (o : Ordered m n) (l : node < n) {operands : Operands} (is : operands ≡ operands_of (expression_at m node)) where
-    pub no_operands : {marks : List ℕ} → operands ≡ Operands.Nothing → Settled rows n node 0 m m (OverNumbers m node) marks marks
-    no_operands told = record { settling = settles_nothing o; covered = refl; done = λ x. subst (Numbers m) (sym told ∙ is) tt; lack = λ q. absurd (q refl); all = λ q. absurd (q refl) }
+    pub no_operands : {marks : List ℕ} → operands ≡ Operands.Nothing → Settled rows n node (Ok tt) m m (OverNumbers m node) marks marks
+    no_operands told = record { settling = settles_nothing o; covered = refl; done = λ x. subst (Numbers m) (sym told ∙ is) tt; lack = λ k q. not_err q; all = λ k q. not_err q }
 
     own : tree_at m node ≡ grown (tree_at m) (expression_at m node)
     own = tree_own m node (o.within node l)
@@ -198,29 +211,29 @@ module _ (rows : Rows) where
     every_marked : (marks : List ℕ) {w marks' : List ℕ} → marks' ≡ noted w marks → used rows (grown (tree_at m) (expression_at m node)) ≡ w → marks' ≡ noted (used rows (tree_at m node)) marks
     every_marked marks e u = e ∙ ap (λ x. noted x marks) (sym u ∙ ap (used rows) (sym own))
 
-    module _ {m' : Memory} {a r : ℕ} {marks marks' : List ℕ} (s : Settled rows n a r m m' (IsNumber m' a) marks marks') (i : a < n) where
+    module _ {m' : Memory} {a : ℕ} {r : Result (Unit {0}) ℕ} {marks marks' : List ℕ} (s : Settled rows n a r m m' (IsNumber m' a) marks marks') (i : a < n) where
       pub one_operand : operands ≡ Operands.One a → Settled rows n node r m m' (OverNumbers m' node) marks marks'
       one_operand told = record {
         settling = s.settling;
         covered = some_marked marks (settled_marks s i) (one_begins rows (tree_at m) (expression_at m node) a (sym is ∙ told));
         done = λ x. over_numbers s.settling node (subst (Numbers m') (sym told ∙ is) (s.done x));
-        lack = λ q. of_operand marks' s.settling i (one_lacks (tree_at m) (expression_at m node) a (sym is ∙ told)) (s.lack q);
-        all = λ q. every_marked marks (settled_marks s i) (one_all rows (tree_at m) (expression_at m node) a (sym is ∙ told) (lacking marks' s.settling i (s.lack q)));
+        lack = λ k q. of_operand marks' s.settling i (one_lacks (tree_at m) (expression_at m node) a (sym is ∙ told)) (s.lack k q);
+        all = λ k q. every_marked marks (settled_marks s i) (one_all rows (tree_at m) (expression_at m node) a (sym is ∙ told) (lacking marks' s.settling i (s.lack k q)));
       }
 
       module _ {b : ℕ} (told : operands ≡ Operands.Two a b) where
-        pub left_operand : (r ≡ 0 → ⊥) → Settled rows n node r m m' (OverNumbers m' node) marks marks'
-        left_operand q =
-            let whole = every_marked marks (settled_marks s i) (left_all rows (tree_at m) (expression_at m node) a b (sym is ∙ told) (lacking marks' s.settling i (s.lack q))) in
+        pub left_operand : {k : ℕ} → r ≡ Err k → Settled rows n node (Err k) m m' (OverNumbers m' node) marks marks'
+        left_operand {k} q =
+            let whole = every_marked marks (settled_marks s i) (left_all rows (tree_at m) (expression_at m node) a b (sym is ∙ told) (lacking marks' s.settling i (s.lack k q))) in
             record {
               settling = s.settling;
               covered = ap (noted (used rows (tree_at m node))) whole ∙ noted_again (used rows (tree_at m node)) marks;
-              done = λ x. absurd (q x);
-              lack = λ q. of_operand marks' s.settling i (left_lacks (tree_at m) (expression_at m node) a b (sym is ∙ told)) (s.lack q);
-              all = λ q. whole;
+              done = λ x. not_err (sym x);
+              lack = λ k x. of_operand marks' s.settling i (left_lacks (tree_at m) (expression_at m node) a b (sym is ∙ told)) (s.lack k (q ∙ x));
+              all = λ k x. whole;
             }
 
-        module _ {m'' : Memory} {r' : ℕ} {marks'' : List ℕ} (z : r ≡ 0) (j : b < n) (t : Settled rows n b r' m' m'' (IsNumber m'' b) marks' marks'') where
+        module _ {m'' : Memory} {r' : Result (Unit {0}) ℕ} {marks'' : List ℕ} (z : r ≡ Ok tt) (j : b < n) (t : Settled rows n b r' m' m'' (IsNumber m'' b) marks' marks'') where
           left_value : evaluate rows (tree_at m a) ≡ Evaluation.Value (number_at m' a)
           left_value = sym (same_value rows marks' s.settling a i) ∙ number_value rows m' a (s.done z)
 
@@ -235,6 +248,6 @@ module _ (rows : Rows) where
             settling = both;
             covered = some_marked marks both_marked (both_begin rows (tree_at m) (expression_at m node) a b (sym is ∙ told) left_value);
             done = λ x. over_numbers both node (subst (Numbers m'') (sym told ∙ is) (stays_number t.settling a (s.done z), t.done x));
-            lack = λ q. of_operand marks'' both j (right_lacks (tree_at m) (expression_at m node) a b (sym is ∙ told) (number_at m' a) left_value) (t.lack q);
-            all = λ q. every_marked marks both_marked (both_all rows (tree_at m) (expression_at m node) a b (sym is ∙ told) left_value (lacking marks'' both j (t.lack q)));
+            lack = λ k q. of_operand marks'' both j (right_lacks (tree_at m) (expression_at m node) a b (sym is ∙ told) (number_at m' a) left_value) (t.lack k q);
+            all = λ k q. every_marked marks both_marked (both_all rows (tree_at m) (expression_at m node) a b (sym is ∙ told) left_value (lacking marks'' both j (t.lack k q)));
           }

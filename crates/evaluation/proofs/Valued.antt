@@ -2,11 +2,11 @@
 use mathlib.Core.Path.{◌≡◌, refl, sym, ap, ◌∙◌, subst}
 use mathlib.Core.List.{List, [], ◌∷◌, ◌++◌, append-nil}
 use mathlib.Core.Logic.{⊎_elim}
-use Prim.Native.Nat.{ℕ, ◌+◌, ◌<◌}
-use native.Mathlib.Numerals.{add-one}
+use Prim.Native.Nat.{ℕ, ◌<◌}
 use native.Mathlib.Omega.{arith}
 use denote.Enum.Declared.{tag_of}
 use types.Run.{OneOf}
+use Rattle.std.specs.Prelude.{Option, Some, None}
 use Rattle.complex.specs.declared.Complex.{Complex}
 use Rattle.complex.specs.Arithmetic.{plus, times}
 use Rattle.complex.specs.Constants.{zero_number, pi_number}
@@ -20,11 +20,9 @@ use Rattle.store.specs.Memory.{Memory, expression_at, tree_at, tree_of}
 use Rattle.store.specs.Numbers.{IsNumber, number_at, Numbers, OverNumbers, Ordered}
 use Rattle.store.proofs.Settling.{number_tree, tree_ordered}
 use Rattle.memory.specs.Layout.{numbered}
-use Rattle.sheet.specs.declared.Found.{Found}
-use Rattle.sheet.specs.declared.FoundRow.{FoundRow}
 use Rattle.sheet.specs.declared.Used.{Used}
 use Rattle.sheet.specs.Rows.{Rows, value_of, cell_value, at, nowhere, function_row}
-use Rattle.sheet.specs.Table.{seen_found, FewRows, used_in}
+use Rattle.sheet.specs.Table.{seen_found, used_in}
 use Rattle.sheet.proofs.Numbering.{forgotten, value_forgotten}
 use Rattle.expression.specs.contracts.InfixOperator.{the_type as operators}
 use Rattle.evaluation.specs.contracts.Evaluation.{the_type}
@@ -84,24 +82,20 @@ module _ (rows : Rows) (x : Complex) where
 
 -- ---- the rows that were used
 
--- a row's word and no other
-one_row : (u : Used) {used : List ℕ} → numbered u.first ≡ used → u.second ≡ 0 → used_in u ≡ used
+-- a row and no other
+one_row : (u : Used) {used : List ℕ} → numbered u.first ≡ used → u.second ≡ None → used_in u ≡ used
 unfolding numbered
 one_row u p q = (λ i. p i ++ numbered (q i)) ∙ append-nil _
 
 pub one_used : (a : Asked) {value : Evaluation} {used : List ℕ} → AnswersOne value used a → Answers value used a
 one_used a p = (p.0, one_row a.used p.1 p.2)
 
--- what the look-up found
-pub row_few : (r : FoundRow) → FewRows r → {j : ℕ} {z : Complex} → r ≡ FoundRow.At j z → j < 256
-row_few r h e = subst FewRows e h
-
 module _ (rows : Rows) (o : Operation) (x y : Complex) where
   pub row_answers : {j : ℕ} {z : Complex} → function_row o x y rows.functions ≡ at j z
-      → AnswersOne (asked rows o x y) (used_for rows o x y) (record { value = Evaluation.Value z; used = record { first = j + 1; second = 0 } })
+      → AnswersOne (asked rows o x y) (used_for rows o x y) (record { value = Evaluation.Value z; used = record { first = Some j; second = None } })
   unfolding given forgotten found_row numbered
   row_answers {j} {z} e =
-      (sym (ap (given o x y) (value_forgotten o x y rows.functions ∙ ap forgotten e)), ap numbered (add-one j) ∙ sym (ap found_row e), refl)
+      (sym (ap (given o x y) (value_forgotten o x y rows.functions ∙ ap forgotten e)), sym (ap found_row e), refl)
 
   pub nothing_answers : (a : Asked) → AnswersOne (Evaluation.Need o x y) [] a → function_row o x y rows.functions ≡ nowhere → AnswersOne (asked rows o x y) (used_for rows o x y) a
   unfolding given forgotten found_row
@@ -189,12 +183,12 @@ module _ {m : Memory} {n node : ℕ} (o : Ordered m n) (l : node < n) (over : Ov
   infix_is {s} {a} {b} {x} told p q t =
       of_node told (t ∙ with_number rows m b (numbers told).1 q (calculate_infix rows s x) ∙ with_number rows m a (numbers told).0 p (λ z. and_then (evaluate rows (tree_at m b)) (calculate_infix rows s z)))
 
-  pub variable_is : {v : ℕ} {r : Evaluation} → e ≡ Expression.Variable v → (found : Found) → seen_found found ≡ value_of v rows.variables → r ≡ bound (seen_found found)
+  pub variable_is : {v : ℕ} {r : Evaluation} → e ≡ Expression.Variable v → (found : Option Complex) → seen_found found ≡ value_of v rows.variables → r ≡ bound (seen_found found)
       → r ≡ evaluate rows (tree_at m node)
   unfolding evaluate grown leaf_value
   variable_is told found p q = of_node told (q ∙ ap bound p)
 
-  pub cell_is : {region index : ℕ} {r : Evaluation} → e ≡ Expression.Address region index → (found : Found) → seen_found found ≡ cell_value region index rows.cells
+  pub cell_is : {region index : ℕ} {r : Evaluation} → e ≡ Expression.Address region index → (found : Option Complex) → seen_found found ≡ cell_value region index rows.cells
       → r ≡ bound (seen_found found) → r ≡ evaluate rows (tree_at m node)
   unfolding evaluate grown leaf_value
   cell_is told found p q = of_node told (q ∙ ap bound p)

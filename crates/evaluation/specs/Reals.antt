@@ -1,12 +1,11 @@
 -- Reading a tree as a real number. Definitions only.
-use Rattle.std.specs.Prelude.{Bool, cond, ◌&&◌, Float}
+use Rattle.std.specs.Prelude.{Bool, cond, ◌&&◌, Float, Result, Ok, Err}
 use Rattle.std.specs.Float.Ieee.{lt, neg}
 use Rattle.complex.specs.declared.Complex.{Complex}
 use Rattle.complex.specs.Bits.{double_of}
 use Rattle.complex.specs.Constants.{pi_number}
 use Rattle.expression.specs.declared.refusal.Refusal.{Refusal}
 use Rattle.expression.specs.Trees.{Tree, number, pi, variable, cell, leaf, function_call, prefixed, infixed}
-use Rattle.evaluation.specs.declared.real.Real.{Real}
 
 -- the double nearest 1e-16, which is a little less than that
 abbrev pub tiny : Float
@@ -17,15 +16,15 @@ abbrev pub small : Float → Bool
 small x = lt (neg tiny) x && lt x tiny
 
 -- "11 NOT_REAL: `to_real` on a number with imaginary part not below 1e-16 in magnitude, NaN included"
-unfoldable pub real_part : Complex → Real
-real_part z = cond (small z.im) (Real.Number z.re) (Real.Refused Refusal.NotReal)
+unfoldable pub real_part : Complex → Result Float Refusal
+real_part z = cond (small z.im) (Ok z.re) (Err Refusal.NotReal)
 
 -- "12 NOT_A_NUMBER: `to_real`, root neither number nor pi"
-unfoldable pub to_real : Tree → Real
+unfoldable pub to_real : Tree → Result Float Refusal
 to_real (leaf (number z)) = real_part z
-to_real (leaf pi) = Real.Number pi_number.re
-to_real (leaf (variable v)) = Real.Refused Refusal.NotANumber
-to_real (leaf (cell region index)) = Real.Refused Refusal.NotANumber
-to_real (function_call f t) = Real.Refused Refusal.NotANumber
-to_real (prefixed o t) = Real.Refused Refusal.NotANumber
-to_real (infixed o l r) = Real.Refused Refusal.NotANumber
+to_real (leaf pi) = Ok pi_number.re
+to_real (leaf (variable v)) = Err Refusal.NotANumber
+to_real (leaf (cell region index)) = Err Refusal.NotANumber
+to_real (function_call f t) = Err Refusal.NotANumber
+to_real (prefixed o t) = Err Refusal.NotANumber
+to_real (infixed o l r) = Err Refusal.NotANumber

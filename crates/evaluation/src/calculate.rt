@@ -11,11 +11,11 @@ ghost use Rattle.evaluation.specs.Using.{used_for, used_by_function, used_by_inf
 ghost use Rattle.evaluation.specs.Run.{Answers, AnswersOne};
 
 use super::{Asked, Evaluation};
+use complex::Complex;
 use complex::constants::zero;
-use complex::{Complex, add, div, mul, neg, sub};
 use expression::refusal::Operation;
 use expression::{ExpressionFunction, InfixOperator, PrefixOperator};
-use sheet::{Counts, FoundRow, Used, function_row};
+use sheet::{Counts, Used, function_row};
 
 // An answer for which no row was used.
 pub fn unused(value: Evaluation) -> Asked
@@ -24,8 +24,8 @@ pub fn unused(value: Evaluation) -> Asked
     Asked {
         value,
         used: Used {
-            first: 0,
-            second: 0,
+            first: None,
+            second: None,
         },
     }
 }
@@ -36,14 +36,14 @@ fn ask(table: &[u64], counts: Counts, operation: Operation, x: Complex, y: Compl
 {
     let found = function_row(table, counts, operation, x, y);
     match found {
-        FoundRow::At(j, z) => Asked {
+        Some((j, z)) => Asked {
             value: Evaluation::Value(z),
             used: Used {
-                first: j + 1,
-                second: 0,
+                first: Some(j),
+                second: None,
             },
         },
-        FoundRow::Nothing => unused(Evaluation::Need(operation, x, y)),
+        None => unused(Evaluation::Need(operation, x, y)),
     }
 }
 
@@ -74,7 +74,7 @@ fn calculate_cis(table: &[u64], counts: Counts, x: Complex) -> Asked
             used,
         };
     };
-    let value = Evaluation::Value(add(cosine, mul(imaginary_unit(), sine)));
+    let value = Evaluation::Value(cosine + imaginary_unit() * sine);
     Asked { value, used }
 }
 
@@ -107,10 +107,10 @@ pub fn arithmetic(left: Complex, operator: InfixOperator, right: Complex) -> Com
 {
     match operator {
         InfixOperator::Caret => left,
-        InfixOperator::Plus => add(left, right),
-        InfixOperator::Minus => sub(left, right),
-        InfixOperator::Slash => div(left, right),
-        InfixOperator::Star => mul(left, right),
+        InfixOperator::Plus => left + right,
+        InfixOperator::Minus => left - right,
+        InfixOperator::Slash => left / right,
+        InfixOperator::Star => left * right,
     }
 }
 
@@ -134,6 +134,6 @@ pub fn calculate_prefix(operator: PrefixOperator, value: Complex) -> Complex
 {
     match operator {
         PrefixOperator::Plus => value,
-        PrefixOperator::Minus => neg(value),
+        PrefixOperator::Minus => -value,
     }
 }

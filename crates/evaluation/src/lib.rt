@@ -18,7 +18,7 @@ use expression::refusal::Operation;
 use memory::layout::MARKS;
 use memory::mark;
 use settling::settle;
-use sheet::{Counts, Found, Used, cell, variable};
+use sheet::{Counts, Used, cell, variable};
 use store::numbers::number_at;
 use store::reading::expression_at;
 
@@ -50,12 +50,12 @@ pub fn note(marks: &mut [u8], used: Used)
 }
 
 // A variable or a cell that is not bound is a lack.
-pub fn bound_value(found: Found) -> Evaluation
+pub fn bound_value(found: Option<Complex>) -> Evaluation
     ensures { result ≡ bound (seen_found found) }
 {
     match found {
-        Found::Value(z) => Evaluation::Value(z),
-        Found::Nothing => Evaluation::Incomplete,
+        Some(z) => Evaluation::Value(z),
+        None => Evaluation::Incomplete,
     }
 }
 
@@ -102,10 +102,11 @@ pub fn evaluate(
     if below <= node {
         return Evaluation::Incomplete;
     }
-    let lack = settle(store, table, counts, node, below, marks);
-    if lack == 0 {
-        return Evaluation::Value(number_at(store, node));
+    match settle(store, table, counts, node, below, marks) {
+        Ok(()) => Evaluation::Value(number_at(store, node)),
+        Err(lack) => {
+            let asked = value_of(store, table, counts, lack);
+            asked.value
+        }
     }
-    let asked = value_of(store, table, counts, lack - 1);
-    asked.value
 }

@@ -10,33 +10,27 @@ use expression::node::Expression;
 use expression::refusal::Refusal;
 use store::reading::expression_at;
 
-#[derive(Clone, Copy)]
-pub enum Real {
-    Number(f64),
-    Refused(Refusal),
-}
-
 // An imaginary part that is not below 1e-16 in magnitude is refused; a NaN is below nothing.
-fn real_part(z: Complex) -> Real
+fn real_part(z: Complex) -> Result<f64, Refusal>
     ensures { result ≡ real_part z }
 {
     if -1e-16 < z.im && z.im < 1e-16 {
-        return Real::Number(z.re);
+        return Ok(z.re);
     }
-    Real::Refused(Refusal::NotReal)
+    Err(Refusal::NotReal)
 }
 
-pub fn to_real(store: &[[u64; 4]], node: usize) -> Real
+pub fn to_real(store: &[[u64; 4]], node: usize) -> Result<f64, Refusal>
     ensures { ReadsReal (memory store.now) node result }
 {
     let e = expression_at(store, node);
     match e {
-        Expression::PiConstant => Real::Number(pi().re),
+        Expression::PiConstant => Ok(pi().re),
         Expression::Number(z) => real_part(z),
-        Expression::Address(_, _) => Real::Refused(Refusal::NotANumber),
-        Expression::FunctionCall(_, _) => Real::Refused(Refusal::NotANumber),
-        Expression::Infix(_, _, _) => Real::Refused(Refusal::NotANumber),
-        Expression::Prefix(_, _) => Real::Refused(Refusal::NotANumber),
-        Expression::Variable(_) => Real::Refused(Refusal::NotANumber),
+        Expression::Address(_, _) => Err(Refusal::NotANumber),
+        Expression::FunctionCall(_, _) => Err(Refusal::NotANumber),
+        Expression::Infix(_, _, _) => Err(Refusal::NotANumber),
+        Expression::Prefix(_, _) => Err(Refusal::NotANumber),
+        Expression::Variable(_) => Err(Refusal::NotANumber),
     }
 }

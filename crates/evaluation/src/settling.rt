@@ -1,6 +1,6 @@
 // Nodes that become their values, each once: a node that has a value is overwritten by it, so that whoever comes to it again finds
-// a number. `settle` answers 0, or one more than the number of the node at which a value was lacking; `finish`, whether there is one.
-// The rows that were used are marked when they are found, so a value that stands already marks none.
+// a number. `settle` answers with an error the node at which a value was lacking; `finish`, whether there is one. The rows that were
+// used are marked when they are found, so a value that stands already marks none.
 ghost use Rattle.store.specs.Memory.{memory};
 ghost use Rattle.evaluation.specs.Run.{Settles, SettlesOperands, Finishes, FinishesInfix};
 
@@ -89,18 +89,15 @@ fn settle_operands(
     counts: Counts,
     node: usize,
     marks: &mut [u8; MARKS],
-) -> usize
+) -> Result<(), usize>
     ensures { SettlesOperands (memory store.old) (memory store.new) table.now counts node result marks.old marks.new }
 {
     let operands = operands_at(store, node);
     match operands {
-        Operands::Nothing => 0,
+        Operands::Nothing => Ok(()),
         Operands::One(child) => settle(store, table, counts, child, node, marks),
         Operands::Two(left, right) => {
-            let lack = settle(store, table, counts, left, node, marks);
-            if lack != 0 {
-                return lack;
-            }
+            settle(store, table, counts, left, node, marks)?;
             settle(store, table, counts, right, node, marks)
         }
     }
@@ -115,21 +112,19 @@ pub fn settle(
     node: usize,
     below: usize,
     marks: &mut [u8; MARKS],
-) -> usize
+) -> Result<(), usize>
     ensures { Settles (memory store.old) (memory store.new) table.now counts node below result marks.old marks.new }
 {
     if below <= node {
-        return 1;
+        return Err(0);
     }
     if is_number(store, node) {
-        return 0;
+        return Ok(());
     }
-    let lack = settle_operands(store, table, counts, node, marks);
-    if lack != 0 {
-        return lack;
-    }
+    settle_operands(store, table, counts, node, marks)?;
     if finish(store, table, counts, node, marks) {
-        return 0;
+        Ok(())
+    } else {
+        Err(node)
     }
-    1 + node
 }

@@ -6,8 +6,9 @@ use mathlib.Core.Logic.{inl, inr}
 use Prim.Native.Nat.{ℕ, ◌≤◌}
 use native.Mathlib.Omega.{arith}
 use lib.ListN.{get_or, take}
+use Rattle.std.specs.Prelude.{Result, Ok, Err}
+use Rattle.expression.specs.declared.refusal.Refusal.{Refusal}
 use Rattle.expression.specs.Refusals.{number_of, Carried, place, lacking, carries}
-use Rattle.writing.specs.declared.Written.{Written}
 use Rattle.calls.specs.Lent.{Work, capacity}
 use Rattle.calls.specs.Calls.{evaluate_call, compile_call, play_call}
 use Rattle.calls.proofs.Refusing.{refusal_some}
@@ -21,14 +22,14 @@ first_carried number (lacking operation x y) = refl
 
 -- compiling answered 0: the tape is the start of the output, as long as the second word says
 module _ {list out answer out' : List ℕ} {w w' : Work} (compiled : Compiles list out w 0 answer out' w') where
-  length_is : (x : Written) → (compile_call (capacity w) list out).0 ≡ x → x ≡ Written.Bytes (get_or answer 1 0)
+  length_is : (x : Result ℕ Refusal) → (compile_call (capacity w) list out).0 ≡ x → x ≡ Ok (get_or answer 1 0)
   unfolding written_words
-  length_is (Written.Bytes bytes) e = ap Written.Bytes (sym (ap (λ a. get_or a 1 0) (compiled.answered.words ∙ ap written_words e)))
-  length_is (Written.Refused why) e =
+  length_is (Ok bytes) e = ap Ok (sym (ap (λ a. get_or a 1 0) (compiled.answered.words ∙ ap written_words e)))
+  length_is (Err why) e =
       let z = compiled.answered.number ∙ ap (λ x. first_word (written_words x)) e ∙ first_carried (number_of why) (carries why) in
       absurd (omega (arith, z, (refusal_some why).0))
 
-  wrote : compile_call (capacity w) list out ≡ (Written.Bytes (get_or answer 1 0), out')
+  wrote : compile_call (capacity w) list out ≡ (Ok (get_or answer 1 0), out')
   wrote = λ i. (length_is (compile_call (capacity w) list out).0 refl i, sym compiled.output i)
 
   module _ {values table played table' evaluated : List ℕ} {r s : ℕ} {v v' : Work} (plays : Plays (take (get_or answer 1 0) out') values table r played table')

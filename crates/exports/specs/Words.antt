@@ -1,15 +1,12 @@
 -- The calls for other languages: each answer as six words, a pick as two, and each call's promise. Definitions only.
-use Rattle.std.specs.Prelude.{◌≡◌, ℕ, List, [], ◌∷◌, length, replicate}
+use Rattle.std.specs.Prelude.{◌≡◌, ℕ, List, [], ◌∷◌, length, replicate, Result, Ok, Err, Float}
+use Rattle.complex.specs.declared.Complex.{Complex}
 use Rattle.complex.specs.Bits.{bits_of}
 use Rattle.expression.specs.declared.refusal.Refusal.{Refusal}
 use Rattle.expression.specs.Refusals.{number_of, Carried, place, lacking, carries}
-use Rattle.writing.specs.declared.Written.{Written}
 use Rattle.expression.specs.Codes.{operation_code}
-use Rattle.evaluation.specs.declared.real.Real.{Real}
-use Rattle.tape.specs.declared.Checked.{Checked}
 use Rattle.tape.specs.declared.Picked.{Picked}
 use Rattle.tape.specs.Tapes.{count, check, picked, pick}
-use Rattle.calls.specs.declared.Evaluated.{Evaluated}
 use Rattle.calls.specs.declared.Simplified.{Simplified}
 use Rattle.calls.specs.Lent.{Work, capacity, zeroed}
 use Rattle.calls.specs.Origins.{substitute_origins, simplify_origins, simplify_origins_marks}
@@ -27,27 +24,27 @@ carried_words number (lacking operation x y) = words number (operation_code oper
 abbrev pub refusal_words : Refusal → List ℕ
 refusal_words why = carried_words (number_of why) (carries why)
 
-unfoldable pub evaluated_words : Evaluated → List ℕ
-evaluated_words (Evaluated.Value z) = words 0 0 (bits_of z.re) (bits_of z.im) 0 0
-evaluated_words (Evaluated.Refused why) = refusal_words why
+unfoldable pub evaluated_words : Result Complex Refusal → List ℕ
+evaluated_words (Ok z) = words 0 0 (bits_of z.re) (bits_of z.im) 0 0
+evaluated_words (Err why) = refusal_words why
 
-unfoldable pub real_words : Real → List ℕ
-real_words (Real.Number x) = words 0 0 (bits_of x) 0 0 0
-real_words (Real.Refused why) = refusal_words why
+unfoldable pub real_words : Result Float Refusal → List ℕ
+real_words (Ok x) = words 0 0 (bits_of x) 0 0 0
+real_words (Err why) = refusal_words why
 
-unfoldable pub written_words : Written → List ℕ
-written_words (Written.Bytes count) = words 0 count 0 0 0 0
-written_words (Written.Refused why) = refusal_words why
+unfoldable pub written_words : Result ℕ Refusal → List ℕ
+written_words (Ok count) = words 0 count 0 0 0 0
+written_words (Err why) = refusal_words why
 
 -- the bytes, then the number of simplify calls
-unfoldable pub simplified_words : Simplified → List ℕ
-simplified_words (Simplified.Bytes count calls) = words 0 count calls 0 0 0
-simplified_words (Simplified.Refused why) = refusal_words why
+unfoldable pub simplified_words : Result Simplified Refusal → List ℕ
+simplified_words (Ok a) = words 0 a.bytes a.calls 0 0 0
+simplified_words (Err why) = refusal_words why
 
 -- how many steps a sound tape has, or 15 and the first bad step
-unfoldable pub checked_words : (steps : ℕ) → Checked → List ℕ
-checked_words steps Checked.Sound = words 0 steps 0 0 0 0
-checked_words steps (Checked.Bad step) = refusal_words (Refusal.BadTape step)
+unfoldable pub checked_words : (steps : ℕ) → Result (Unit {0}) Refusal → List ℕ
+checked_words steps (Ok u) = words 0 steps 0 0 0 0
+checked_words steps (Err why) = refusal_words why
 
 -- a pick as which and how long: 1 the first, 2 the second, 0 neither
 unfoldable pub which_number : Picked → ℕ

@@ -5,4 +5,5 @@ pub mod Sizes
 pub mod Carrying
 pub mod Under
 pub mod OneNode
+pub mod Passing
 mod Examples

@@ -25,6 +25,15 @@ with_operands (Expression.FunctionCall f a) left last = Expression.FunctionCall 
 with_operands (Expression.Prefix o a) left last = Expression.Prefix o last
 with_operands (Expression.Infix o a b) left last = Expression.Infix o left last
 
+-- the same operation on what `look` gives for its operands
+unfoldable pub mapped_to : (look : ℕ → ℕ) → Expression → Operands → Expression
+mapped_to look e Operands.Nothing = e
+mapped_to look e (Operands.One a) = with_operands e 0 (look a)
+mapped_to look e (Operands.Two a b) = with_operands e (look a) (look b)
+
+abbrev pub mapped : (look : ℕ → ℕ) → Expression → Expression
+mapped look e = mapped_to look e (operands_of e)
+
 -- the tree of a node, where `tree` gives the tree of each operand
 unfoldable pub grown : (ℕ → Tree) → Expression → Tree
 grown tree (Expression.Number z) = leaf (number z)

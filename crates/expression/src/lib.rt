@@ -9,7 +9,7 @@ ghost use Rattle.expression.specs.Codes.{infix_code, infix_of, prefix_code, pref
 pub mod node;
 pub mod refusal;
 
-#[derive(Clone, Copy)]
+#[derive(Clone, Copy, Debug, PartialEq, Eq)]
 pub enum InfixOperator {
     Caret,
     Plus,
@@ -18,13 +18,13 @@ pub enum InfixOperator {
     Star,
 }
 
-#[derive(Clone, Copy)]
+#[derive(Clone, Copy, Debug, PartialEq, Eq)]
 pub enum PrefixOperator {
     Plus,
     Minus,
 }
 
-#[derive(Clone, Copy)]
+#[derive(Clone, Copy, Debug, PartialEq, Eq)]
 pub enum ExpressionFunction {
     Cis,
     Cosine,
@@ -33,11 +33,11 @@ pub enum ExpressionFunction {
     SquareRoot,
 }
 
-impl InfixOperator {
-    pub fn code(self) -> u64
-        ensures { result ≡ infix_code self }
-    {
-        match self {
+impl From<InfixOperator> for u64 {
+    ghost from_gives = { λ x n. n ≡ infix_code x };
+
+    fn from(x: InfixOperator) -> u64 {
+        match x {
             InfixOperator::Plus => 1,
             InfixOperator::Minus => 2,
             InfixOperator::Star => 3,
@@ -45,8 +45,12 @@ impl InfixOperator {
             InfixOperator::Caret => 5,
         }
     }
+}
 
-    // The operator with this number; who reads a text or a tape tests before that it is 1 to 5.
+impl InfixOperator {
+    // The operator with this number; who reads a text or a tape tests before that it is 1 to 5. No TryFrom here and below: the public
+    // function answers an operator for any number, in one step, and what tests before needs no other answer.
+    #[tactic(auto, unfolding(crate::specs::Codes::numbered))]
     pub fn from_code(code: u64) -> Self
         ensures { result ≡ infix_of code }
     {
@@ -60,17 +64,20 @@ impl InfixOperator {
     }
 }
 
-impl PrefixOperator {
-    pub fn code(self) -> u64
-        ensures { result ≡ prefix_code self }
-    {
-        match self {
+impl From<PrefixOperator> for u64 {
+    ghost from_gives = { λ x n. n ≡ prefix_code x };
+
+    fn from(x: PrefixOperator) -> u64 {
+        match x {
             PrefixOperator::Plus => 1,
             PrefixOperator::Minus => 2,
         }
     }
+}
 
+impl PrefixOperator {
     // The operator with this number, 1 or 2.
+    #[tactic(auto, unfolding(crate::specs::Codes::numbered))]
     pub fn from_code(code: u64) -> Self
         ensures { result ≡ prefix_of code }
     {
@@ -81,11 +88,11 @@ impl PrefixOperator {
     }
 }
 
-impl ExpressionFunction {
-    pub fn code(self) -> u64
-        ensures { result ≡ function_code self }
-    {
-        match self {
+impl From<ExpressionFunction> for u64 {
+    ghost from_gives = { λ x n. n ≡ function_code x };
+
+    fn from(x: ExpressionFunction) -> u64 {
+        match x {
             ExpressionFunction::Sine => 1,
             ExpressionFunction::Cosine => 2,
             ExpressionFunction::Exponent => 3,
@@ -93,8 +100,11 @@ impl ExpressionFunction {
             ExpressionFunction::Cis => 5,
         }
     }
+}
 
+impl ExpressionFunction {
     // The function with this number, 1 to 5.
+    #[tactic(auto, unfolding(crate::specs::Codes::numbered))]
     pub fn from_code(code: u64) -> Self
         ensures { result ≡ function_of code }
     {

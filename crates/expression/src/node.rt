@@ -1,10 +1,11 @@
 // A node: an expression whose operands are numbers of earlier nodes, what its operands are, and the same node with others.
-ghost use Rattle.std.specs.Prelude.{◌≡◌};
+ghost use Rattle.std.specs.Prelude.{◌≡◌, ℕ};
 ghost use Rattle.expression.specs.Nodes as Nodes;
 
 use super::{ExpressionFunction, InfixOperator, PrefixOperator};
 use complex::Complex;
 
+// No derived equality: it would compare doubles as floats, and 01's equalities are not that (complex::equality).
 #[derive(Clone, Copy)]
 pub enum Expression {
     Address(u16, u32),
@@ -17,28 +18,29 @@ pub enum Expression {
 }
 
 // The nodes under a node.
-#[derive(Clone, Copy)]
+#[derive(Clone, Copy, Debug, PartialEq, Eq)]
 pub enum Operands {
     Nothing,
     One(usize),
     Two(usize, usize),
 }
 
+#[tactic(auto, unfolding(crate::specs::Nodes::operands_of))]
 pub fn operands_of(e: Expression) -> Operands
     ensures { result ≡ Nodes.operands_of e }
 {
     match e {
-        Expression::FunctionCall(_, child) => Operands::One(child),
-        Expression::Prefix(_, child) => Operands::One(child),
+        Expression::FunctionCall(_, child) | Expression::Prefix(_, child) => Operands::One(child),
         Expression::Infix(_, left, right) => Operands::Two(left, right),
-        Expression::Number(_) => Operands::Nothing,
-        Expression::PiConstant => Operands::Nothing,
-        Expression::Variable(_) => Operands::Nothing,
-        Expression::Address(_, _) => Operands::Nothing,
+        Expression::Number(_)
+        | Expression::PiConstant
+        | Expression::Variable(_)
+        | Expression::Address(_, _) => Operands::Nothing,
     }
 }
 
 // The same operation on other operands; where there is but one it is the last.
+#[tactic(auto, unfolding(crate::specs::Nodes::with_operands))]
 pub fn with_operands(e: Expression, left: usize, last: usize) -> Expression
     ensures { result ≡ Nodes.with_operands e left last }
 {
@@ -46,9 +48,21 @@ pub fn with_operands(e: Expression, left: usize, last: usize) -> Expression
         Expression::FunctionCall(f, _) => Expression::FunctionCall(f, last),
         Expression::Prefix(o, _) => Expression::Prefix(o, last),
         Expression::Infix(o, _, _) => Expression::Infix(o, left, last),
-        Expression::Number(z) => Expression::Number(z),
-        Expression::PiConstant => Expression::PiConstant,
-        Expression::Variable(number) => Expression::Variable(number),
-        Expression::Address(region, index) => Expression::Address(region, index),
+        Expression::Number(_)
+        | Expression::PiConstant
+        | Expression::Variable(_)
+        | Expression::Address(_, _) => e,
+    }
+}
+
+// The same operation on what `look` gives for its operands.
+pub fn map_operands<F: Fn(usize) -> usize>(e: Expression, look: F) -> Expression
+    requires { F.IsAlwaysCallable look }
+    ensures { (given : ℕ → ℕ) → ((k r : ℕ) → F.post look k r → r ≡ given k) → result ≡ Nodes.mapped given e }
+{
+    match operands_of(e) {
+        Operands::Nothing => e,
+        Operands::One(a) => with_operands(e, 0, look(a)),
+        Operands::Two(a, b) => with_operands(e, look(a), look(b)),
     }
 }

@@ -7,7 +7,7 @@ ghost use Rattle.expression.specs.Refusals.{number_of, place_of, is_lack};
 use complex::Complex;
 
 // What a row of the sheet gives a value of: the names sin, cos, exp, sqrt and pow.
-#[derive(Clone, Copy)]
+#[derive(Clone, Copy, Debug, PartialEq, Eq)]
 pub enum Operation {
     Sine,
     Cosine,
@@ -16,6 +16,7 @@ pub enum Operation {
     Power,
 }
 
+// No derived equality, as of nodes: Need carries doubles.
 #[derive(Clone, Copy)]
 pub enum Refusal {
     BadList(u64),
@@ -40,11 +41,11 @@ pub enum Refusal {
     NoText,
 }
 
-impl Operation {
-    pub fn code(self) -> u64
-        ensures { result ≡ operation_code self }
-    {
-        match self {
+impl From<Operation> for u64 {
+    ghost from_gives = { λ x n. n ≡ operation_code x };
+
+    fn from(x: Operation) -> u64 {
+        match x {
             Operation::Sine => 1,
             Operation::Cosine => 2,
             Operation::Exponent => 3,
@@ -52,8 +53,11 @@ impl Operation {
             Operation::Power => 5,
         }
     }
+}
 
+impl Operation {
     // The operation with this number, 1 to 5.
+    #[tactic(auto, unfolding(crate::specs::Codes::numbered))]
     pub fn from_code(code: u64) -> Self
         ensures { result ≡ operation_of code }
     {
@@ -100,11 +104,7 @@ impl Refusal {
     pub fn is_lack(self) -> bool
         ensures { result ≡ is_lack self }
     {
-        let number = self.number();
-        if number == 9 {
-            return true;
-        }
-        number == 10
+        matches!(self, Refusal::Need(_, _, _) | Refusal::Incomplete)
     }
 
     // The line, step or listing that it carries, else 0.
@@ -112,26 +112,15 @@ impl Refusal {
         ensures { result ≡ place_of self }
     {
         match self {
-            Refusal::BadList(line) => line,
-            Refusal::LongList(line) => line,
-            Refusal::BadSheet(line) => line,
-            Refusal::LongSheet(line) => line,
-            Refusal::BadLimit => 0,
-            Refusal::Big => 0,
-            Refusal::Deep => 0,
-            Refusal::Room => 0,
-            Refusal::Need(_, _, _) => 0,
-            Refusal::Incomplete => 0,
-            Refusal::NotReal => 0,
-            Refusal::NotANumber => 0,
-            Refusal::OutRoom => 0,
-            Refusal::LongTape => 0,
-            Refusal::BadTape(step) => step,
-            Refusal::BadNames(line) => line,
-            Refusal::UnknownName(line) => line,
-            Refusal::BadBook => 0,
-            Refusal::Many(listing) => listing,
-            Refusal::NoText => 0,
+            Refusal::BadList(place)
+            | Refusal::LongList(place)
+            | Refusal::BadSheet(place)
+            | Refusal::LongSheet(place)
+            | Refusal::BadTape(place)
+            | Refusal::BadNames(place)
+            | Refusal::UnknownName(place)
+            | Refusal::Many(place) => place,
+            _ => 0,
         }
     }
 }

@@ -1,18 +1,19 @@
 -- The laws that the functions of this crate cite: the bytes that are passed over, a field that reads and one that does not, over plain lists and
 -- numbers. Assumes nothing.
+use Rattle.std.specs.Prelude.{Some, None}
 use mathlib.Core.Path.{◌≡◌, refl, sym, ap, ◌∙◌}
 use mathlib.Core.List.{List, [], ◌∷◌, ◌++◌}
-use Prim.Native.Nat.{ℕ, zero, suc, ◌+◌, ◌-◌, ◌≤◌, ◌<◌}
+use Prim.Native.Nat.{ℕ, zero, suc, ◌+◌, ◌-◌, ◌≤◌, ◌<◌, min}
 use native.Mathlib.Numerals.{add-one}
 use native.Mathlib.Omega.{arith}
 use native.Mathlib.Decide.{dec_lt}
+use lib.Seq.{take_all}
 use mathlib.Core.Bool.{Bool, true, false, cond}
 use lib.Dec.{eqb}
-use lib.ListN.{length, get_or, drop, drop_of_length-le, length-drop, length-append}
+use lib.ListN.{length, get_or, take, drop, drop_of_length-le, length-drop, length-append}
 use borrow.Author.Tests.{lt-ltb, le-ltb, eq-eqb, ne_eqb}
-use Rattle.text.specs.declared.reading.Number.{Number}
 use Rattle.text.specs.Reading.{is, bad, ended, digit_of}
-use Rattle.text.specs.Seen.{seen, Reads}
+use Rattle.text.specs.Seen.{Number, seen, Reads}
 use Rattle.text.proofs.Running.{here, within}
 use Rattle.faults.specs.declared.Fault.{Fault}
 use Rattle.faults.specs.Faulting as Spec
@@ -149,6 +150,13 @@ module _ (s : List ℕ) (i : ℕ) where
   unfolding has_at
   at_end h = rw (drop_of_length-le s {i = i} h)
 
+-- the text from the place on, or nothing where the place is past the end
+pub from_place : (s : List ℕ) (at : ℕ) {from : ℕ} → from ≡ min at (length s) → take (length s - from) (drop from s) ≡ drop at s
+from_place s at {from} p = take_all (length s - from) (drop from s) (omega (arith, length-drop from s)) ∙ elim (dec_lt at (length s)) [
+  | yes l ↦ ap (λ k. drop k s) (omega (arith, p))
+  | no n ↦ rw (drop_of_length-le s {i = at} (omega arith)) (drop_of_length-le s {i = from} (omega (arith, p)))
+]
+
 -- the fields that are left, of those of the form
 pub record Fielding (s form : List ℕ) (at i k : ℕ) : Type 0 where
   pub few : k ≤ length form
@@ -166,13 +174,13 @@ module _ {s form : List ℕ} {at i k : ℕ} (g : Fielding s form at i k) where
     field : ended (stop_of (length (drop (k + 1) form))) (read (get_or form k 0) (drop i s)) ≡ seen s n
     field = rw (behind, ← t, ← f) (sym r.answer)
 
-    pub field_read : {v next : ℕ} → n ≡ Number.Is v next → Fielding s form at next (k + 1)
+    pub field_read : {v next : ℕ} → n ≡ Some (v, next) → Fielding s form at next (k + 1)
     field_read {v} {next} q = record {
       few = omega arith;
       rest = sym (reads_on (get_or form k 0) (drop (k + 1) form) (drop i s) v (drop next s) (field ∙ ap (seen s) q)) ∙ (rw (here form k h) at g.rest);
     }
 
-    pub field_bad : n ≡ Number.Bad → field_fault kind left (drop i s) (read kind (drop i s)) ≡ fault_in form (drop at s)
+    pub field_bad : n ≡ None → field_fault kind left (drop i s) (read kind (drop i s)) ≡ fault_in form (drop at s)
     field_bad q =
         let e = stops (get_or form k 0) (drop (k + 1) form) (drop i s) (field ∙ ap (seen s) q) in
         rw (f, ← behind) (sym e ∙ (rw (here form k h) at g.rest))

@@ -22,9 +22,9 @@ fn one_word(text: &[u8], at: usize, word: &[u8]) -> Number
     ensures { Reads (name_from 1 (word.now ∷ []) (drop at text.now)) text.now result }
 {
     if word_at(text, at, word) {
-        return Number::Is(1, at + word.len());
+        return Some((1, at + word.len()));
     }
-    Number::Bad
+    None
 }
 
 // A field of names, or of one word.
@@ -89,6 +89,7 @@ fn no_digit(text: &[u8], at: usize, base: u64) -> usize
     requires { base ≤ 16 }
     ensures { drop result text.now ≡ no_digit base (drop at text.now) }
 {
+    // As a chain, `at + ..take_while(..).count()`, it was tried: its proof did not close.
     let mut i = at;
     while digit(byte_at(text, i)) < base {
         i += 1;
@@ -154,8 +155,7 @@ fn field_fault(text: &[u8], at: usize, kind: u8, left: usize) -> Fault
     requires { left < 18446744073709551615 }
     ensures { result ≡ field_fault kind left (drop at text.now) (read kind (drop at text.now)) }
 {
-    let n = field_at(text, at, kind);
-    if let Number::Is(_, next) = n {
+    if let Some((_, next)) = field_at(text, at, kind) {
         return told_at(text, next, 0, left);
     }
     let base = base_of(kind);
@@ -188,16 +188,13 @@ pub fn fields_fault(text: &[u8], at: usize, form: &[u8], origin: bool) -> Fault
 {
     let count = field_count(form, origin);
     let mut i = at;
-    let mut k: usize = 0;
-    while k < count {
+    for k in 0..count {
         let kind = kind_at(form, k);
         let left = count - k - 1;
-        let n = end_field(text, field_at(text, i, kind), stop_of(left));
-        let Number::Is(_, next) = n else {
+        let Some((_, next)) = end_field(text, field_at(text, i, kind), stop_of(left)) else {
             return field_fault(text, i, kind, left);
         };
         i = next;
-        k += 1;
     }
     Fault::Order
 }

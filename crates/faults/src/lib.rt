@@ -31,33 +31,29 @@ pub fn line_start(text: &[u8], line: u64) -> usize
     ensures { (result ≤ length text.now) × (drop result text.now ≡ from_line line text.now) }
 {
     let mut left = line;
-    let mut i: usize = 0;
-    while 0 < left {
-        if text.len() <= i {
+    for (i, &byte) in text.iter().enumerate() {
+        if left == 0 {
             return i;
         }
-        if text[i] == LF {
+        if byte == LF {
             left -= 1;
         }
-        i += 1;
     }
-    i
+    text.len()
 }
 
 // Whether `@` stands in the line that begins at a place, before its line feed.
 fn has_at(text: &[u8], at: usize) -> bool
     ensures { result ≡ has_at (drop at text.now) }
 {
-    let mut i = at;
-    while i < text.len() {
-        let b = text[i];
+    let line = &text[at.min(text.len())..];
+    for &b in line {
         if b == LF {
             return false;
         }
         if b == b'@' {
             return true;
         }
-        i += 1;
     }
     false
 }

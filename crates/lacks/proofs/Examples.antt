@@ -2,6 +2,7 @@
 -- Assumes nothing.
 use mathlib.Core.Path.{◌≡◌, refl}
 use mathlib.Core.List.{[], ◌∷◌}
+use Rattle.std.specs.Prelude.{Some, None}
 use Rattle.complex.specs.Constants.{one_number}
 use Rattle.expression.specs.declared.InfixOperator.{InfixOperator}
 use Rattle.expression.specs.declared.ExpressionFunction.{ExpressionFunction}
@@ -31,23 +32,23 @@ nothing_bound = rows [] [] []
 a_bound : Rows
 a_bound = rows (Rows.variable 0 one_number ∷ []) [] []
 
-left_first : first_missing nothing_bound (plus b a) ≡ Missing.Variable 1
+left_first : first_missing nothing_bound (plus b a) ≡ Some (Missing.Variable 1)
 unfolding first_missing or_else missing_leaf unless_bound value_of a b nothing_bound
 left_first = refl
 
-bound_passed : first_missing a_bound (plus a (plus a c)) ≡ Missing.Cell 2 3
+bound_passed : first_missing a_bound (plus a (plus a c)) ≡ Some (Missing.Cell 2 3)
 unfolding first_missing or_else missing_leaf unless_bound value_of cell_value a c a_bound
 bound_passed = refl
 
-all_bound : first_missing a_bound (plus a a) ≡ Missing.Nothing
+all_bound : first_missing a_bound (plus a a) ≡ None
 unfolding first_missing or_else missing_leaf unless_bound value_of a a_bound
 all_bound = refl
 
 -- evaluating stops at sin 1, for which there is no row, with 9 and not 10; b is named all the same
-no_row : first_missing a_bound (plus (function_call ExpressionFunction.Sine (leaf (number one_number))) b) ≡ Missing.Variable 1
+no_row : first_missing a_bound (plus (function_call ExpressionFunction.Sine (leaf (number one_number))) b) ≡ Some (Missing.Variable 1)
 unfolding first_missing or_else missing_leaf unless_bound value_of b a_bound
 no_row = refl
 
-on_steps : missing_in_steps a_bound (steps (plus a (plus c b))) ≡ Missing.Cell 2 3
+on_steps : missing_in_steps a_bound (steps (plus a (plus c b))) ≡ Some (Missing.Cell 2 3)
 unfolding steps leaf_step missing_in_steps or_else missing_step missing_leaf unless_bound value_of cell_value a b c a_bound
 on_steps = refl

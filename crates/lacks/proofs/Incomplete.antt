@@ -2,6 +2,7 @@
 -- bound. On trees, and on the bytes of a job. Assumes nothing.
 use mathlib.Core.Path.{◌≡◌, refl, sym, ap, ◌∙◌, subst}
 use mathlib.Core.List.{List}
+use Rattle.std.specs.Prelude.{Option, Some, None, Result, Ok, Err}
 use Prim.Native.Nat.{ℕ}
 use native.Mathlib.Omega.{arith}
 use Rattle.complex.specs.declared.Complex.{Complex}
@@ -16,7 +17,6 @@ use Rattle.store.specs.Storing.{State}
 use Rattle.sheet.specs.Rows.{Rows, Lookup, found, missing, value_of, cell_value, function_value}
 use Rattle.evaluation.specs.declared.Evaluation.{Evaluation}
 use Rattle.evaluation.specs.Evaluating.{and_then, bound, given, asked_one, cis, calculate_function, calculate_infix, leaf_value, evaluate}
-use Rattle.calls.specs.declared.Evaluated.{Evaluated}
 use Rattle.calls.specs.Calls as Calls
 use Rattle.calls.specs.Calls.{Job, ready, job, evaluated, evaluate_job, evaluate_call}
 use Rattle.calls.proofs.Refusing.{JobBy, job_most, job_numbers}
@@ -24,35 +24,32 @@ use Rattle.lacks.specs.declared.Missing.{Missing}
 use Rattle.lacks.specs.Lacking.{unless_bound, or_else, missing_leaf, first_missing, missing_of, missing_in_job}
 
 -- a variable or a cell
-pub data Some : Missing → Type 0 where
-  some_variable : (v : ℕ) → Some (Missing.Variable v)
-  some_cell : (region index : ℕ) → Some (Missing.Cell region index)
+pub data Something : Option Missing → Type 0 where
+  something : (m : Missing) → Something (Some m)
 
 -- evaluating the tree comes to this leaf, which is not bound; an operand that was evaluated before has a value
-pub data Meets (rows : Rows) : Tree → Missing → Type 0 where
-  at_variable : {v : ℕ} → value_of v rows.variables ≡ missing → Meets rows (leaf (variable v)) (Missing.Variable v)
-  at_cell : {region index : ℕ} → cell_value region index rows.cells ≡ missing → Meets rows (leaf (cell region index)) (Missing.Cell region index)
-  in_function : {f : ExpressionFunction} {t : Tree} {m : Missing} → Meets rows t m → Meets rows (function_call f t) m
-  in_prefix : {o : PrefixOperator} {t : Tree} {m : Missing} → Meets rows t m → Meets rows (prefixed o t) m
-  in_left : {o : InfixOperator} {l r : Tree} {m : Missing} → Meets rows l m → Meets rows (infixed o l r) m
-  in_right : {o : InfixOperator} {l r : Tree} {m : Missing} {x : Complex} → evaluate rows l ≡ Evaluation.Value x → Meets rows r m → Meets rows (infixed o l r) m
+pub data Meets (rows : Rows) : Tree → Option Missing → Type 0 where
+  at_variable : {v : ℕ} → value_of v rows.variables ≡ missing → Meets rows (leaf (variable v)) (Some (Missing.Variable v))
+  at_cell : {region index : ℕ} → cell_value region index rows.cells ≡ missing → Meets rows (leaf (cell region index)) (Some (Missing.Cell region index))
+  in_function : {f : ExpressionFunction} {t : Tree} {m : Option Missing} → Meets rows t m → Meets rows (function_call f t) m
+  in_prefix : {o : PrefixOperator} {t : Tree} {m : Option Missing} → Meets rows t m → Meets rows (prefixed o t) m
+  in_left : {o : InfixOperator} {l r : Tree} {m : Option Missing} → Meets rows l m → Meets rows (infixed o l r) m
+  in_right : {o : InfixOperator} {l r : Tree} {m : Option Missing} {x : Complex} → evaluate rows l ≡ Evaluation.Value x → Meets rows r m → Meets rows (infixed o l r) m
 
-pub meets_some : {rows : Rows} {t : Tree} {m : Missing} → Meets rows t m → Some m
-meets_some (at_variable {v} e) = some_variable v
-meets_some (at_cell {region} {index} e) = some_cell region index
+pub meets_some : {rows : Rows} {t : Tree} {m : Option Missing} → Meets rows t m → Something m
+meets_some (at_variable {v} e) = something (Missing.Variable v)
+meets_some (at_cell {region} {index} e) = something (Missing.Cell region index)
 meets_some (in_function h) = meets_some h
 meets_some (in_prefix h) = meets_some h
 meets_some (in_left h) = meets_some h
 meets_some (in_right e h) = meets_some h
 
-pub some_first : {m : Missing} (n : Missing) → Some m → or_else m n ≡ m
+pub some_first : {m : Option Missing} (n : Option Missing) → Something m → or_else m n ≡ m
 unfolding or_else
-some_first n (some_variable v) = refl
-some_first n (some_cell region index) = refl
+some_first n (something m) = refl
 
-some_not : {m : Missing} → Some m → m ≡ Missing.Nothing → ⊥
-some_not (some_variable v) p = let z : ◌≡◌ {A = ℕ} 0 1 = cc in omega (arith, z)
-some_not (some_cell region index) p = let z : ◌≡◌ {A = ℕ} 0 1 = cc in omega (arith, z)
+some_not : {m : Option Missing} → Something m → m ≡ None → ⊥
+some_not (something m) p = let z : ◌≡◌ {A = ℕ} 0 1 = cc in omega (arith, z)
 
 -- ---- the three answers differ
 
@@ -108,14 +105,14 @@ then_incomplete next p = ap (λ e. and_then e next) p
 
 -- ---- a leaf: it is bound and nothing is named, or it is not bound and is named
 
-pub data Leafy (m : Missing) (e : Evaluation) : Type 0 where
-  is_bound : (e ≡ Evaluation.Incomplete → ⊥) → m ≡ Missing.Nothing → Leafy m e
-  is_unbound : e ≡ Evaluation.Incomplete → Some m → Leafy m e
+pub data Leafy (m : Option Missing) (e : Evaluation) : Type 0 where
+  is_bound : (e ≡ Evaluation.Incomplete → ⊥) → m ≡ None → Leafy m e
+  is_unbound : e ≡ Evaluation.Incomplete → Something m → Leafy m e
 
-looked_up : {m : Missing} → Some m → (l : Lookup) → Leafy (unless_bound m l) (bound l)
+looked_up : (m : Missing) (l : Lookup) → Leafy (unless_bound m l) (bound l)
 unfolding unless_bound bound IsIncomplete
-looked_up s (found z) = is_bound (λ p. incomplete_is p) refl
-looked_up s missing = is_unbound refl s
+looked_up m (found z) = is_bound (λ p. incomplete_is p) refl
+looked_up m missing = is_unbound refl (something m)
 
 -- ---- an operation is never incomplete
 
@@ -158,13 +155,13 @@ module _ (rows : Rows) where
   unfolding missing_leaf leaf_value IsIncomplete
   leafy (number z) = is_bound (λ p. incomplete_is p) refl
   leafy pi = is_bound (λ p. incomplete_is p) refl
-  leafy (variable v) = looked_up (some_variable v) (value_of v rows.variables)
-  leafy (cell region index) = looked_up (some_cell region index) (cell_value region index rows.cells)
+  leafy (variable v) = looked_up (Missing.Variable v) (value_of v rows.variables)
+  leafy (cell region index) = looked_up (Missing.Cell region index) (cell_value region index rows.cells)
 
   -- ---- a tree
 
   -- with a value nothing is named
-  pub value_nothing : (t : Tree) {z : Complex} → evaluate rows t ≡ Evaluation.Value z → first_missing rows t ≡ Missing.Nothing
+  pub value_nothing : (t : Tree) {z : Complex} → evaluate rows t ≡ Evaluation.Value z → first_missing rows t ≡ None
   unfolding evaluate first_missing or_else IsValue
   value_nothing (leaf l) {z} p = elim (leafy l) [
     | is_bound n e ↦ e
@@ -181,7 +178,7 @@ module _ (rows : Rows) where
   unfolding or_else
   after_value_law l r p = ap (λ m. or_else m (first_missing rows r)) (value_nothing l p)
 
-  unbound_is : (m : Missing) (l : Lookup) → bound l ≡ Evaluation.Incomplete → (l ≡ missing) × (unless_bound m l ≡ m)
+  unbound_is : (m : Missing) (l : Lookup) → bound l ≡ Evaluation.Incomplete → (l ≡ missing) × (unless_bound m l ≡ Some m)
   unfolding bound unless_bound IsIncomplete
   unbound_is m (found z) p = absurd (incomplete_is p)
   unbound_is m missing p = (refl, refl)
@@ -214,7 +211,7 @@ module _ (rows : Rows) where
   ]
 
   -- there is no other: evaluation is incomplete wherever it meets such a leaf, and what it meets is what is named
-  pub meets_incomplete : {t : Tree} {m : Missing} → Meets rows t m → evaluate rows t ≡ Evaluation.Incomplete
+  pub meets_incomplete : {t : Tree} {m : Option Missing} → Meets rows t m → evaluate rows t ≡ Evaluation.Incomplete
   unfolding evaluate leaf_value bound
   meets_incomplete (at_variable e) = ap bound e
   meets_incomplete (at_cell e) = ap bound e
@@ -223,7 +220,7 @@ module _ (rows : Rows) where
   meets_incomplete (in_left h) = then_incomplete _ (meets_incomplete h)
   meets_incomplete (in_right e h) = then_value _ e ∙ then_incomplete _ (meets_incomplete h)
 
-  pub meets_first : {t : Tree} {m : Missing} → Meets rows t m → m ≡ first_missing rows t
+  pub meets_first : {t : Tree} {m : Option Missing} → Meets rows t m → m ≡ first_missing rows t
   unfolding first_missing missing_leaf unless_bound
   meets_first (at_variable {v} e) = sym (ap (unless_bound (Missing.Variable v)) e)
   meets_first (at_cell {region} {index} e) = sym (ap (unless_bound (Missing.Cell region index)) e)
@@ -233,11 +230,11 @@ module _ (rows : Rows) where
   meets_first (in_right {l = l} {r = r} e h) = meets_first h ∙ sym (after_value_law l r e)
 
   -- an incomplete evaluation names a variable or a cell
-  pub incomplete_names : (t : Tree) → evaluate rows t ≡ Evaluation.Incomplete → Some (first_missing rows t)
+  pub incomplete_names : (t : Tree) → evaluate rows t ≡ Evaluation.Incomplete → Something (first_missing rows t)
   incomplete_names t p = meets_some (incomplete_meets t p)
 
   -- and where nothing is named it is not
-  pub nothing_complete : (t : Tree) → first_missing rows t ≡ Missing.Nothing → evaluate rows t ≡ Evaluation.Incomplete → ⊥
+  pub nothing_complete : (t : Tree) → first_missing rows t ≡ None → evaluate rows t ≡ Evaluation.Incomplete → ⊥
   nothing_complete t e p = some_not (incomplete_names t p) e
 
 -- ---- the bytes of a job
@@ -250,28 +247,28 @@ pub record JobMeets (room : ℕ) (list values : List ℕ) : Type 0 where
   pub read : job room list values ≡ ready root store rows
   pub meets : Meets rows root (missing_in_job room list values)
 
-pub refused_ten : {why : Refusal} → Evaluated.Refused why ≡ Evaluated.Refused Refusal.Incomplete → number_of why ≡ 10
+pub refused_ten : {why : Refusal} → ◌≡◌ {A = Result Complex Refusal} (Err why) (Err Refusal.Incomplete) → number_of why ≡ 10
 refused_ten p = ap number_in p
   where
-    number_in : Evaluated → ℕ
-    number_in (Evaluated.Value z) = 0
-    number_in (Evaluated.Refused why) = number_of why
+    number_in : Result Complex Refusal → ℕ
+    number_in (Ok z) = 0
+    number_in (Err why) = number_of why
 
-HasNone : Evaluated → Type 0
-HasNone (Evaluated.Value z) = ⊥
-HasNone (Evaluated.Refused why) = Unit {0}
+HasNone : Result Complex Refusal → Type 0
+HasNone (Ok z) = ⊥
+HasNone (Err why) = Unit {0}
 
-pub refused_valued : {why : Refusal} {z : Complex} → Evaluated.Refused why ≡ Evaluated.Value z → ⊥
+pub refused_valued : {why : Refusal} {z : Complex} → Err why ≡ Ok z → ⊥
 unfolding HasNone
 refused_valued p = subst HasNone p tt
 
-was_incomplete : (e : Evaluation) → evaluated e ≡ Evaluated.Refused Refusal.Incomplete → e ≡ Evaluation.Incomplete
+was_incomplete : (e : Evaluation) → evaluated e ≡ Err Refusal.Incomplete → e ≡ Evaluation.Incomplete
 unfolding evaluated
 was_incomplete (Evaluation.Value z) p = absurd (refused_valued (sym p))
 was_incomplete Evaluation.Incomplete p = refl
 was_incomplete (Evaluation.Need operation x y) p = absurd (omega (arith, refused_ten p))
 
-had_value : (e : Evaluation) {z : Complex} → evaluated e ≡ Evaluated.Value z → HasValue e
+had_value : (e : Evaluation) {z : Complex} → evaluated e ≡ Ok z → HasValue e
 unfolding evaluated
 had_value (Evaluation.Value x) p = record { value = x; is = refl }
 had_value Evaluation.Incomplete p = absurd (refused_valued p)
@@ -279,7 +276,7 @@ had_value (Evaluation.Need operation x y) p = absurd (refused_valued p)
 
 module _ (room : ℕ) (list values : List ℕ) where
   -- "10 INCOMPLETE": what is named is what evaluation met
-  pub refused_meets : evaluate_call room list values ≡ Evaluated.Refused Refusal.Incomplete → JobMeets room list values
+  pub refused_meets : evaluate_call room list values ≡ Err Refusal.Incomplete → JobMeets room list values
   unfolding evaluate_job missing_of JobBy
   refused_meets p = go (job room list values) refl (job_numbers room list values)
     where
@@ -289,14 +286,14 @@ module _ (room : ℕ) (list values : List ℕ) where
           record { root = root; store = store; rows = rows; read = e; meets = subst (Meets rows root) (sym (ap missing_of e)) q }
       go (Calls.refused why) e n = absurd (omega (arith, job_most n, refused_ten (ap evaluate_job (sym e) ∙ p)))
 
-  pub refused_names : evaluate_call room list values ≡ Evaluated.Refused Refusal.Incomplete → Some (missing_in_job room list values)
+  pub refused_names : evaluate_call room list values ≡ Err Refusal.Incomplete → Something (missing_in_job room list values)
   refused_names p = meets_some (refused_meets p).meets
 
   -- an expression that has a value lacks nothing
-  pub valued_nothing : {z : Complex} → evaluate_call room list values ≡ Evaluated.Value z → missing_in_job room list values ≡ Missing.Nothing
+  pub valued_nothing : {z : Complex} → evaluate_call room list values ≡ Ok z → missing_in_job room list values ≡ None
   unfolding evaluate_job missing_of
   valued_nothing {z} p = go (job room list values) refl
     where
-      go : (j : Job) → job room list values ≡ j → missing_in_job room list values ≡ Missing.Nothing
+      go : (j : Job) → job room list values ≡ j → missing_in_job room list values ≡ None
       go (ready root store rows) e = ap missing_of e ∙ value_nothing rows root (had_value (evaluate rows root) (ap evaluate_job (sym e) ∙ p)).is
       go (Calls.refused why) e = ap missing_of e

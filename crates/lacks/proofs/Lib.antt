@@ -1,5 +1,6 @@
 -- The laws that the proofs of this crate cite, and the theorems about what is named.
 mod Naming
+mod Going
 mod Jobs
 mod Stepping
 mod Examples

@@ -7,6 +7,7 @@ use Prim.Native.Nat.{ℕ, ◌≤◌}
 use native.Mathlib.Omega.{arith}
 use lib.Dec.{ltb}
 use lib.ListN.{length, take}
+use Rattle.std.specs.Prelude.{Option, Some, None, Ok, Err}
 use Rattle.complex.specs.declared.Complex.{Complex}
 use Rattle.expression.specs.declared.refusal.Refusal.{Refusal}
 use Rattle.expression.specs.Refusals.{number_of}
@@ -15,17 +16,14 @@ use Rattle.expression.specs.Limits.{Proper}
 use Rattle.store.specs.Storing.{State, fresh}
 use Rattle.text.specs.Lines as Lines
 use Rattle.text.specs.Lines.{Whole}
-use Rattle.writing.specs.declared.Written.{Written}
 use Rattle.listing.specs.Listings.{Swap, accepted, listing}
 use Rattle.sheet.specs.Rows.{Rows, sheet}
 use Rattle.evaluation.specs.declared.Evaluation.{Evaluation}
 use Rattle.evaluation.specs.Evaluating.{calculate_function, calculate_infix, calculate_prefix, leaf_value}
 use Rattle.steps.specs.declared.Step.{Step}
-use Rattle.tape.specs.declared.Checked.{Checked}
 use Rattle.tape.specs.Tapes.{leaf_step, steps, tape, steps_in, check}
 use Rattle.tape.specs.Playing.{Outcome, stands, lacks, breaks, push, and_then, step, run}
 use Rattle.tape.proofs.Demand.{steps_proper, steps_back}
-use Rattle.calls.specs.declared.Evaluated.{Evaluated}
 use Rattle.calls.specs.Calls as Calls
 use Rattle.calls.specs.Calls.{after_listing, with_sheet, job, compile_call, play_call}
 use Rattle.calls.proofs.Lining.{WholeHas}
@@ -35,7 +33,7 @@ use Rattle.calls.proofs.Rooms.{same_root}
 use Rattle.calls.proofs.TapeBytes.{written_from, written_sound, FromAnywhere, refused_first, plays, Answered, sheet_refused, value, need, incomplete, from_anywhere}
 use Rattle.lacks.specs.declared.Missing.{Missing}
 use Rattle.lacks.specs.Lacking.{or_else, missing_leaf, first_missing, missing_step, missing_in_steps, missing_of, missing_in_job, missing_under, missing_checked, missing_on_tape}
-use Rattle.lacks.proofs.Incomplete.{Some, some_first, IsIncomplete, incomplete_is, is_bound, is_unbound, leafy, function_not, infix_not, refused_ten, refused_valued}
+use Rattle.lacks.proofs.Incomplete.{Something, some_first, IsIncomplete, incomplete_is, is_bound, is_unbound, leafy, function_not, infix_not, refused_ten, refused_valued}
 
 -- ---- what a step leaves
 
@@ -73,20 +71,20 @@ unfolding push Stands
 push_stands stack p q = stands_is (sym (ap (λ e. push e stack) q) ∙ p)
 
 module _ (rows : Rows) where
-  leaf_lacks : (l : Leaf) (stack : List Complex) → push (leaf_value rows l) stack ≡ lacks Evaluation.Incomplete → Some (missing_leaf rows l)
+  leaf_lacks : (l : Leaf) (stack : List Complex) → push (leaf_value rows l) stack ≡ lacks Evaluation.Incomplete → Something (missing_leaf rows l)
   leaf_lacks l stack p = elim (leafy rows l) [
     | is_bound n e ↦ absurd (n (push_lacks (leaf_value rows l) stack p))
     | is_unbound q s ↦ s
   ]
 
-  leaf_stands : (l : Leaf) (stack : List Complex) {next : List Complex} → push (leaf_value rows l) stack ≡ stands next → missing_leaf rows l ≡ Missing.Nothing
+  leaf_stands : (l : Leaf) (stack : List Complex) {next : List Complex} → push (leaf_value rows l) stack ≡ stands next → missing_leaf rows l ≡ None
   leaf_stands l stack p = elim (leafy rows l) [
     | is_bound n e ↦ e
     | is_unbound q s ↦ absurd (push_stands stack p q)
   ]
 
   -- a step that lacks a binding names it, and one that has a value names nothing
-  step_lacks : (s : Step) (stack : List Complex) → step rows s stack ≡ lacks Evaluation.Incomplete → Some (missing_step rows s)
+  step_lacks : (s : Step) (stack : List Complex) → step rows s stack ≡ lacks Evaluation.Incomplete → Something (missing_step rows s)
   unfolding step missing_step IsLack IsIncomplete
   step_lacks (Step.Number z) stack p = leaf_lacks (number z) stack p
   step_lacks Step.Pi stack p = leaf_lacks pi stack p
@@ -100,7 +98,7 @@ module _ (rows : Rows) where
   step_lacks (Step.Infix o) (y ∷ []) p = absurd (lack_is p)
   step_lacks (Step.Infix o) (y ∷ x ∷ stack) p = absurd (infix_not rows o x y (push_lacks (calculate_infix rows o x y) stack p))
 
-  step_stands : (s : Step) (stack : List Complex) {next : List Complex} → step rows s stack ≡ stands next → missing_step rows s ≡ Missing.Nothing
+  step_stands : (s : Step) (stack : List Complex) {next : List Complex} → step rows s stack ≡ stands next → missing_step rows s ≡ None
   unfolding step missing_step
   step_stands (Step.Number z) stack p = leaf_stands (number z) stack p
   step_stands Step.Pi stack p = leaf_stands pi stack p
@@ -124,8 +122,8 @@ pub record StopsAt (rows : Rows) (ss : List Step) (stack : List Complex) : Type 
   pub named : missing_in_steps rows ss ≡ missing_step rows here
 
 module _ (rows : Rows) where
-  pub stops_some : {ss : List Step} {stack : List Complex} → StopsAt rows ss stack → Some (missing_in_steps rows ss)
-  stops_some h = subst Some (sym h.named) (step_lacks rows h.here h.left h.stops)
+  pub stops_some : {ss : List Step} {stack : List Complex} → StopsAt rows ss stack → Something (missing_in_steps rows ss)
+  stops_some h = subst Something (sym h.named) (step_lacks rows h.here h.left h.stops)
 
   pub run_stops : (ss : List Step) (stack : List Complex) → run rows ss stack ≡ lacks Evaluation.Incomplete → StopsAt rows ss stack
   unfolding run and_then missing_in_steps or_else IsLack
@@ -153,17 +151,15 @@ module _ (rows : Rows) where
 
   -- ---- the tape of an expression
 
-  or_nothing : (m : Missing) → or_else m Missing.Nothing ≡ m
+  or_nothing : (m : Option Missing) → or_else m None ≡ m
   unfolding or_else
-  or_nothing Missing.Nothing = refl
-  or_nothing (Missing.Variable v) = refl
-  or_nothing (Missing.Cell region index) = refl
+  or_nothing None = refl
+  or_nothing (Some m) = refl
 
-  or_assoc : (k m n : Missing) → or_else (or_else k m) n ≡ or_else k (or_else m n)
+  or_assoc : (k m n : Option Missing) → or_else (or_else k m) n ≡ or_else k (or_else m n)
   unfolding or_else
-  or_assoc Missing.Nothing m n = refl
-  or_assoc (Missing.Variable v) m n = refl
-  or_assoc (Missing.Cell region index) m n = refl
+  or_assoc None m n = refl
+  or_assoc (Some k) m n = refl
 
   in_append : (ss us : List Step) → missing_in_steps rows (ss ++ us) ≡ or_else (missing_in_steps rows ss) (missing_in_steps rows us)
   unfolding missing_in_steps or_else
@@ -193,13 +189,13 @@ module _ (rows : Rows) where
 -- a sound tape and a sheet that was read, and the step at which playing stops
 pub record TapeStops (tape values : List ℕ) : Type 0 where
   pub rows : Rows
-  pub sound : check tape ≡ Checked.Sound
+  pub sound : check tape ≡ Ok tt
   pub read : sheet values ≡ Lines.read rows
   pub stops : StopsAt rows (steps_in tape) []
   pub named : missing_on_tape tape values ≡ missing_in_steps rows (steps_in tape)
 
 module _ (tape values : List ℕ) where
-  sound_names : check tape ≡ Checked.Sound → missing_on_tape tape values ≡ missing_under tape (sheet values)
+  sound_names : check tape ≡ Ok tt → missing_on_tape tape values ≡ missing_under tape (sheet values)
   unfolding missing_checked
   sound_names sound = ap (λ c. missing_checked c tape values) sound
 
@@ -207,7 +203,7 @@ module _ (tape values : List ℕ) where
   unfolding WholeHas
   sheet_small e = sheet_most (subst (WholeBy OfSheet) e (sheet_numbers values))
 
-  answered : Evaluated.Refused Refusal.Incomplete ≡ play_call tape values → check tape ≡ Checked.Sound → Answered tape values → TapeStops tape values
+  answered : Err Refusal.Incomplete ≡ play_call tape values → check tape ≡ Ok tt → Answered tape values → TapeStops tape values
   unfolding missing_under
   answered p sound (sheet_refused why e q) = absurd (omega (arith, sheet_small e, refused_ten (sym (p ∙ q))))
   answered p sound (value rows z e f q) = absurd (refused_valued (p ∙ q))
@@ -221,15 +217,15 @@ module _ (tape values : List ℕ) where
   }
 
   -- "10 INCOMPLETE" of a tape: what is named is what playing stopped for
-  pub refused_stops : play_call tape values ≡ Evaluated.Refused Refusal.Incomplete → TapeStops tape values
+  pub refused_stops : play_call tape values ≡ Err Refusal.Incomplete → TapeStops tape values
   refused_stops p = go (from_anywhere tape values)
     where
       go : FromAnywhere tape values → TapeStops tape values
       go (refused_first step e q) = absurd (omega (arith, refused_ten (sym q ∙ p)))
       go (plays sound f a) = answered (sym p) sound a
 
-  pub stopped_names : play_call tape values ≡ Evaluated.Refused Refusal.Incomplete → Some (missing_on_tape tape values)
-  stopped_names p = let h = refused_stops p in subst Some (sym h.named) (stops_some h.rows h.stops)
+  pub stopped_names : play_call tape values ≡ Err Refusal.Incomplete → Something (missing_on_tape tape values)
+  stopped_names p = let h = refused_stops p in subst Something (sym h.named) (stops_some h.rows h.stops)
 
 -- ---- what compiling wrote names what the expression names
 
@@ -247,7 +243,7 @@ unfolding job after_listing
 job_of room list values e = ap (λ x. after_listing Calls.refused x λ root swaps store. with_sheet root store (sheet values)) e
 
 -- in a store of any room that accepts the expression
-pub compiled_names : (room : ℕ) (list out : List ℕ) {bytes : ℕ} {out' : List ℕ} → compile_call room list out ≡ (Written.Bytes bytes, out') → (room' : ℕ) {root : Tree} {swaps : List Swap} {store : State}
+pub compiled_names : (room : ℕ) (list out : List ℕ) {bytes : ℕ} {out' : List ℕ} → compile_call room list out ≡ (Ok bytes, out') → (room' : ℕ) {root : Tree} {swaps : List Swap} {store : State}
     → listing false list (fresh room' 0) ≡ accepted root swaps store → (values : List ℕ) → missing_on_tape (take bytes out') values ≡ missing_in_job room' list values
 compiled_names room list out {bytes} {out'} wrote room' {root} {store = store} read values =
     let s = written_from room list out wrote in

@@ -10,12 +10,12 @@ ghost use Rattle.calls.specs.Lent.{work, capacity};
 ghost use Rattle.lacks.specs.Lacking.{unless_bound, missing_in_job, NamesInJob};
 ghost use Rattle.lacks.specs.Run.{Names, NamesAt, NamesBelow};
 
-use calls::Job;
 use calls::frame::{clear_work, read_job};
+use complex::Complex;
 use complex::constants::zero;
 use expression::node::{Expression, Operands};
 use memory::layout::{DESK_WORDS, TABLE_WORDS};
-use sheet::{Counts, Found, cell, variable};
+use sheet::{Counts, cell, variable};
 use store::desk::standing;
 use store::numbers::put_number;
 use store::reading::{expression_at, operands_at};
@@ -24,23 +24,22 @@ pub mod tapes;
 
 #[derive(Clone, Copy)]
 pub enum Missing {
-    Nothing,
     Variable(u16),
     Cell(u16, u32),
 }
 
 // A name, where nothing was found under it.
-fn unless_bound(name: Missing, found: Found) -> Missing
+fn unless_bound(name: Missing, found: Option<Complex>) -> Option<Missing>
     ensures { result ≡ unless_bound name (seen_found found) }
 {
     match found {
-        Found::Value(_) => Missing::Nothing,
-        Found::Nothing => name,
+        Some(_) => None,
+        None => Some(name),
     }
 }
 
 // Of a node itself: its operands are left out.
-fn missing_at(store: &[[u64; 4]], table: &[u64], counts: Counts, node: usize) -> Missing
+fn missing_at(store: &[[u64; 4]], table: &[u64], counts: Counts, node: usize) -> Option<Missing>
     ensures { NamesAt (memory store.now) table.now counts node result }
 {
     let e = expression_at(store, node);
@@ -52,24 +51,28 @@ fn missing_at(store: &[[u64; 4]], table: &[u64], counts: Counts, node: usize) ->
             Missing::Cell(region, index),
             cell(table, counts, region, index),
         ),
-        _ => Missing::Nothing,
+        _ => None,
     }
 }
 
 // "Depth first, left before right."
 #[cycle(missing)]
-fn missing_below(store: &mut [[u64; 4]], table: &[u64], counts: Counts, node: usize) -> Missing
+fn missing_below(
+    store: &mut [[u64; 4]],
+    table: &[u64],
+    counts: Counts,
+    node: usize,
+) -> Option<Missing>
     ensures { NamesBelow (memory store.old) (memory store.new) table.now counts node result }
 {
     let operands = operands_at(store, node);
     match operands {
-        Operands::Nothing => Missing::Nothing,
+        Operands::Nothing => None,
         Operands::One(child) => first_missing(store, table, counts, child, node),
         Operands::Two(left, right) => {
-            let x = first_missing(store, table, counts, left, node);
-            let Missing::Nothing = x else {
-                return x;
-            };
+            if let Some(missing) = first_missing(store, table, counts, left, node) {
+                return Some(missing);
+            }
             first_missing(store, table, counts, right, node)
         }
     }
@@ -84,22 +87,20 @@ pub fn first_missing(
     counts: Counts,
     node: usize,
     below: usize,
-) -> Missing
+) -> Option<Missing>
     ensures { Names (memory store.old) (memory store.new) table.now counts node below result }
 {
     if below <= node {
-        return Missing::Nothing;
+        return None;
     }
-    let own = missing_at(store, table, counts, node);
-    let Missing::Nothing = own else {
-        return own;
-    };
-    let x = missing_below(store, table, counts, node);
-    let Missing::Nothing = x else {
-        return x;
-    };
+    if let Some(missing) = missing_at(store, table, counts, node) {
+        return Some(missing);
+    }
+    if let Some(missing) = missing_below(store, table, counts, node) {
+        return Some(missing);
+    }
     put_number(store, node, zero());
-    x
+    None
 }
 
 fn missing_in_texts(
@@ -108,18 +109,13 @@ fn missing_in_texts(
     store: &mut [[u64; 4]],
     desk: &mut [u64; DESK_WORDS],
     table: &mut [u64],
-) -> Missing
+) -> Option<Missing>
     requires { table_words ≤ length table.old }
     ensures { result ≡ missing_in_job (capacity (work store.old desk.old table.old)) list.now values.now }
 {
-    let job = read_job(list, values, store, desk, table);
-    match job {
-        Job::Ready { root, counts } => {
-            let nodes = standing(desk);
-            first_missing(store, table, counts, root, nodes)
-        }
-        Job::Refused(_) => Missing::Nothing,
-    }
+    let job = read_job(list, values, store, desk, table).ok()?;
+    let nodes = standing(desk);
+    first_missing(store, table, job.counts, job.root, nodes)
 }
 
 // Of an expression under a sheet, as texts; nothing where one of them is refused.
@@ -129,7 +125,7 @@ pub fn missing_in_job(
     store: &mut [[u64; 4]],
     desk: &mut [u64; DESK_WORDS],
     table: &mut [u64; TABLE_WORDS],
-) -> Missing
+) -> Option<Missing>
     ensures { NamesInJob list.now values.now (work store.old desk.old table.old) result (work store.new desk.new table.new) }
 {
     let answer = missing_in_texts(list, values, store, desk, table);

@@ -6,13 +6,12 @@ ghost use Rattle.lacks.specs.Run.{NamesStep, NamesSteps};
 
 use super::{Missing, unless_bound};
 use memory::layout::TABLE_WORDS;
-use memory::zero;
-use sheet::{Counts, Sheet, cell, read_sheet, variable};
+use sheet::{Counts, cell, read_sheet, variable};
 use steps::bytes::fields_at;
 use steps::{Step, step_of};
-use tape::{Checked, check};
+use tape::check;
 
-fn missing_step(table: &[u64], counts: Counts, s: Step) -> Missing
+fn missing_step(table: &[u64], counts: Counts, s: Step) -> Option<Missing>
     ensures { NamesStep table.now counts s result }
 {
     match s {
@@ -23,50 +22,46 @@ fn missing_step(table: &[u64], counts: Counts, s: Step) -> Missing
             Missing::Cell(region, index),
             cell(table, counts, region, index),
         ),
-        Step::Number(_) => Missing::Nothing,
-        Step::Pi => Missing::Nothing,
-        Step::Function(_) => Missing::Nothing,
-        Step::Prefix(_) => Missing::Nothing,
-        Step::Infix(_) => Missing::Nothing,
+        Step::Number(_) => None,
+        Step::Pi => None,
+        Step::Function(_) => None,
+        Step::Prefix(_) => None,
+        Step::Infix(_) => None,
     }
 }
 
-fn missing_in_steps(tape: &[u8], table: &[u64], counts: Counts) -> Missing
+fn missing_in_steps(tape: &[u8], table: &[u64], counts: Counts) -> Option<Missing>
     ensures { NamesSteps table.now counts tape.now result }
 {
     let count = tape.len() / 24;
-    let mut i: usize = 0;
-    while i < count {
-        let x = missing_step(table, counts, step_of(fields_at(tape, 24 * i)));
-        let Missing::Nothing = x else {
-            return x;
-        };
-        i += 1;
+    for i in 0..count {
+        let step = step_of(fields_at(tape, 24 * i));
+        if let Some(missing) = missing_step(table, counts, step) {
+            return Some(missing);
+        }
     }
-    Missing::Nothing
+    None
 }
 
 // "The tape is checked before the sheet is read."
-fn missing_on_bytes(tape: &[u8], values: &[u8], table: &mut [u64]) -> Missing
+fn missing_on_bytes(tape: &[u8], values: &[u8], table: &mut [u64]) -> Option<Missing>
     requires { table_words ≤ length table.old }
     ensures { result ≡ missing_on_tape tape.now values.now }
 {
-    let checked = check(tape);
-    let Checked::Sound = checked else {
-        return Missing::Nothing;
-    };
-    let read = read_sheet(values, table);
-    match read {
-        Sheet::Read(counts) => missing_in_steps(tape, table, counts),
-        Sheet::Refused(_) => Missing::Nothing,
-    }
+    check(tape).ok()?;
+    let counts = read_sheet(values, table).ok()?;
+    missing_in_steps(tape, table, counts)
 }
 
 // Of a tape under a sheet, as bytes; nothing where one of them is refused.
-pub fn missing_on_tape(tape: &[u8], values: &[u8], table: &mut [u64; TABLE_WORDS]) -> Missing
+pub fn missing_on_tape(
+    tape: &[u8],
+    values: &[u8],
+    table: &mut [u64; TABLE_WORDS],
+) -> Option<Missing>
     ensures { NamesOnTape tape.now values.now table.old result table.new }
 {
     let answer = missing_on_bytes(tape, values, table);
-    zero(table);
+    table.fill(0);
     answer
 }

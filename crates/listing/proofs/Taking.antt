@@ -1,4 +1,5 @@
 -- What one line of a listing does to the table and the store, over plain lists and trees: each return of `take_node` and `take_swap`. Assumes nothing.
+use Rattle.std.specs.Prelude.{Option, Some, None}
 use mathlib.Core.Path.{◌≡◌, refl, sym, ap, ◌∙◌, subst}
 use mathlib.Core.List.{List, [], ◌∷◌, ◌++◌}
 use mathlib.Core.Bool.{Bool, true, false}
@@ -9,18 +10,19 @@ use lib.Dec.{ltb}
 use lib.ListN.{length, get_or, set, drop, length-set}
 use lib.Seq.{get_or-set_same, get_or-set_other}
 use borrow.Author.Tests.{lt-ltb, le-ltb, ltb-true, eq-eqb, ne_eqb}
+use Rattle.std.specs.Prelude.{Result, Ok, Err}
 use Rattle.expression.specs.declared.refusal.Refusal.{Refusal}
 use Rattle.expression.specs.Trees.{Tree, leaf, pi}
 use Rattle.expression.specs.declared.node.Expression.{Expression}
 use Rattle.expression.specs.declared.node.Operands.{Operands}
-use Rattle.expression.specs.Nodes.{operands_of, with_operands, grown, Within}
+use Rattle.expression.specs.Nodes.{operands_of, with_operands, mapped_to, mapped, grown, Within}
 use Rattle.store.specs.Storing.{intern}
 use Rattle.store.specs.Memory.{Memory, tree_of}
-use Rattle.store.specs.Desk.{count, refusal_on, refused_from}
-use Rattle.store.specs.Held.{Lent, tree_in, state_in, Built, Adds}
+use Rattle.store.specs.declared.desk.Refused.{Refused}
+use Rattle.store.specs.Desk.{count, refusal_on}
+use Rattle.store.specs.Held.{Lent, tree_in, state_in, seen, Built, Adds}
 use Rattle.store.specs.Tracing.{with_mark, Traced}
 use Rattle.store.proofs.Trees.{grown_alike}
-use Rattle.store.proofs.Building.{seen_node, seen_refused}
 use Rattle.store.proofs.Tracing.{relabelled_mark, tree_relabelled, traced_step, traced_mark, sound_marked, state_marked}
 use Rattle.memory.specs.Layout.{swaps_from}
 use Rattle.memory.specs.Keys.{up_to, key_at, Ascends}
@@ -28,14 +30,11 @@ use Rattle.memory.proofs.Values.{length_up_to, at_up_to, up_to_snoc, up_to_alike
 use Rattle.memory.proofs.Ascending.{ascends_more}
 use Rattle.text.specs.Reading.{is}
 use Rattle.text.specs.Lines.{goes, stops, none, above_last}
-use Rattle.node_lines.specs.declared.Line.{Line}
 use Rattle.listing.specs.declared.Progress.{Progress}
-use Rattle.listing.specs.declared.Step as StepEnum
-use Rattle.listing.specs.declared.SwapLine.{SwapLine}
 use Rattle.listing.specs.Listings.{Known, known, Swap, swap, above_variable, stored, formed, node_line, swap_fields, swapped, swap_line, listing_line}
 use Rattle.node_lines.specs.NodeLines.{node_fields}
 use Rattle.listing.specs.Tables.{moved_to, moved, line_trees, swap_trees, known_at, Listed, Ready, Takes, FindsSwap, Above}
-use Rattle.node_lines.specs.Seen.{Finds}
+use Rattle.node_lines.specs.Seen.{Line, Finds}
 
 -- ---- whether there are values
 
@@ -52,22 +51,18 @@ none_up_to n f h = go (up_to n f) (length_up_to n f)
 
 -- ---- operands by the table
 
--- each return of `moved_by`, where `o` are the node's operands
-module _ (table : List ℕ) (e : Expression) {o : Operands} (o_is : o ≡ operands_of e) where
-  told_as : {o' : Operands} → o ≡ o' → moved_to table e o' ≡ moved table e
-  told_as told = ap (moved_to table e) (sym told ∙ o_is)
+mapped_moved : (table : List ℕ) (e : Expression) → mapped (λ k. get_or table k 0) e ≡ moved table e
+unfolding mapped_to moved_to
+mapped_moved table e = go (operands_of e)
+  where
+    go : (o : Operands) → mapped_to (λ k. get_or table k 0) e o ≡ moved_to table e o
+    go Operands.Nothing = refl
+    go (Operands.One a) = refl
+    go (Operands.Two a b) = refl
 
-  pub moved_none : o ≡ Operands.Nothing → e ≡ moved table e
-  unfolding moved_to
-  moved_none told = told_as told
-
-  pub moved_one : {a x : ℕ} {r : Expression} → o ≡ Operands.One a → x ≡ get_or table a 0 → r ≡ with_operands e 0 x → r ≡ moved table e
-  unfolding moved_to
-  moved_one told p q = q ∙ ap (with_operands e 0) p ∙ told_as told
-
-  pub moved_two : {a b x y : ℕ} {r : Expression} → o ≡ Operands.Two a b → x ≡ get_or table a 0 → y ≡ get_or table b 0 → r ≡ with_operands e x y → r ≡ moved table e
-  unfolding moved_to
-  moved_two told p p' q = q ∙ (λ i. with_operands e (p i) (p' i)) ∙ told_as told
+-- what `map_operands` gives by a look-up in a list
+pub looked_up : (table : List ℕ) (e : Expression) {r : Expression} → r ≡ mapped (λ k. get_or table k 0) e → r ≡ moved table e
+looked_up table e p = p ∙ mapped_moved table e
 
 moved_tree : (look : ℕ → Tree) (table : List ℕ) (e : Expression) → grown look (moved table e) ≡ grown (λ k. look (get_or table k 0)) e
 unfolding grown operands_of with_operands moved_to
@@ -99,12 +94,12 @@ module _ {text table : List ℕ} {p : Progress} (ready : Ready text table p) {l 
   swaps_long = length_up_to p.swaps _
 
   pub node_long : {l' : Lent} {table' : List ℕ} → 1024 ≤ p.lines
-      → Takes (node_line (known_at l table p) (get_or text p.at 0) (drop (p.at + 1) text)) text p (StepEnum.Step.Refused (Refusal.LongList (p.lines + p.swaps))) l' table'
+      → Takes (node_line (known_at l table p) (get_or text p.at 0) (drop (p.at + 1) text)) text p (Err (Refusal.LongList (p.lines + p.swaps))) l' table'
   unfolding node_line
   node_long h = record { answer = sym (rw (lines_long, le-ltb p.lines 1024 h, swaps_long)); after = tt }
 
   pub node_late : {l' : Lent} {table' : List ℕ} → p.lines < 1024 → 0 < p.swaps
-      → Takes (node_line (known_at l table p) (get_or text p.at 0) (drop (p.at + 1) text)) text p (StepEnum.Step.Refused (Refusal.BadList (p.lines + p.swaps))) l' table'
+      → Takes (node_line (known_at l table p) (get_or text p.at 0) (drop (p.at + 1) text)) text p (Err (Refusal.BadList (p.lines + p.swaps))) l' table'
   unfolding node_line formed
   node_late h q = record { answer = sym (rw (lines_long, lt-ltb p.lines 1024 h, none_up_to p.swaps _ q, lines_long, swaps_long)); after = tt }
 
@@ -114,15 +109,15 @@ module _ {text table : List ℕ} {p : Progress} (ready : Ready text table p) {l 
     unfolding up_to none
     none_yet = let z : p.swaps ≡ 0 = omega (arith, unswapped) in rw z
 
-    pub node_bad : {l' : Lent} {table' : List ℕ} → r ≡ Line.Bad
-        → Takes (node_line (known_at l table p) (get_or text p.at 0) (drop (p.at + 1) text)) text p (StepEnum.Step.Refused (Refusal.BadList (p.lines + p.swaps))) l' table'
+    pub node_bad : {l' : Lent} {table' : List ℕ} → r ≡ None
+        → Takes (node_line (known_at l table p) (get_or text p.at 0) (drop (p.at + 1) text)) text p (Err (Refusal.BadList (p.lines + p.swaps))) l' table'
     unfolding node_line formed
     node_bad e =
         let q = f.seen (line_trees l.rows table p.lines) lines_long in
         let z = rw e at q in
         record { answer = sym (rw (lines_long, lt-ltb p.lines 1024 few, none_yet, ← z, lines_long, swaps_long)); after = tt }
 
-    module _ {e : Expression} {next : ℕ} (is-node : r ≡ Line.Node e next) where
+    module _ {e : Expression} {next : ℕ} (is-node : r ≡ Some (e, next)) where
       pub operands : Within p.lines e
       operands = rw is-node at f.within
 
@@ -142,8 +137,16 @@ module _ {text table : List ℕ} {p : Progress} (ready : Ready text table p) {l 
           let z = rw (is-node, tree_is) at q in
           rw (lines_long, lt-ltb p.lines 1024 few, none_yet, ← z)
 
-      module _ {node : ℕ} {l' : Lent} (adds : Adds (moved table e) node l l') where
-        built : Built (intern (tree_of l.rows (moved table e)) (state_in l)) node l l'
+      pub node_refused : {r : Result ℕ Refused} {l' : Lent} → Adds (moved table e) r l l' → {refusal : Refused} → r ≡ Err refusal
+          → {why : Refusal} {table' : List ℕ} → why ≡ refusal_on l'.desk
+          → Takes (node_line (known_at l table p) (get_or text p.at 0) (drop (p.at + 1) text)) text p (Err why) l' table'
+      unfolding stored seen
+      node_refused adds h x =
+          let built = rw h at (adds li.lists.sound operands_stored) in
+          record { answer = ap stops x ∙ sym (found ∙ ap (stored (known_at l table p) (drop next text)) (sym built.answer)); after = tt }
+
+      module _ {node : ℕ} {l' : Lent} (adds : Adds (moved table e) (Ok node) l l') where
+        built : Built (intern (tree_of l.rows (moved table e)) (state_in l)) (Ok node) l l'
         built = adds li.lists.sound operands_stored
 
         -- the node came from this line
@@ -153,19 +156,13 @@ module _ {text table : List ℕ} {p : Progress} (ready : Ready text table p) {l 
         same_tree : (k : ℕ) → tree_in marked k ≡ tree_in l' k
         same_tree k = tree_relabelled (relabelled_mark l'.rows node p.lines) k
 
-        pub node_refused : {why : Refusal} {table' : List ℕ} → refused_from ≤ node → why ≡ refusal_on (node - refused_from) l'.desk
-            → Takes (node_line (known_at l table p) (get_or text p.at 0) (drop (p.at + 1) text)) text p (StepEnum.Step.Refused why) l' table'
-        unfolding stored
-        node_refused h e =
-            record { answer = ap stops e ∙ sym (found ∙ ap (stored (known_at l table p) (drop next text)) (sym built.answer ∙ seen_refused node l' h)); after = tt }
-
-        pub node_next : {rows : Memory} {table' : List ℕ} → node < refused_from → rows ≡ marked.rows → table' ≡ set table p.lines node
+        pub node_next : {rows : Memory} {table' : List ℕ} → rows ≡ marked.rows → table' ≡ set table p.lines node
             → Takes (node_line (known_at l table p) (get_or text p.at 0) (drop (p.at + 1) text)) text p
-            (StepEnum.Step.Next (record { at = next; lines = p.lines + 1; swaps = p.swaps })) (record { rows = rows; desk = l'.desk }) table'
-        unfolding stored
-        node_next {rows} {table'} h m w =
+            (Ok (record { at = next; lines = p.lines + 1; swaps = p.swaps })) (record { rows = rows; desk = l'.desk }) table'
+        unfolding stored seen
+        node_next {rows} {table'} m w =
             rw m (record {
-              answer = sym (found ∙ ap (stored (known_at l table p) (drop next text)) (sym built.answer ∙ seen_node node l' h)
+              answer = sym (found ∙ ap (stored (known_at l table p) (drop next text)) (sym built.answer)
                   ∙ ap (λ ts. goes (known ts (swap_trees l.rows table p.swaps) (state_in l')) (drop next text)) (sym grows)
                   ∙ ap (λ ss. goes (known (line_trees marked.rows table' (p.lines + 1)) ss (state_in l')) (drop next text)) nothing_named
                   ∙ ap (λ σ. goes (known (line_trees marked.rows table' (p.lines + 1)) (swap_trees marked.rows table' p.swaps) σ) (drop next text)) (sym (state_marked l' node p.lines)));
@@ -194,7 +191,7 @@ module _ {text table : List ℕ} {p : Progress} (ready : Ready text table p) {l 
             origins : Traced (line_trees l.rows table p.lines ++ (tree_in l' node ∷ [])) marked
             origins =
                 subst (λ line. Traced (line_trees l.rows table p.lines ++ (tree_in l' node ∷ [])) (record { rows = with_mark l'.rows node line; desk = l'.desk })) lines_long
-                (traced_mark node built.step.sound (traced_step li.lists.sound li.traced built.step) (built.inside h) (omega (arith, lines_long, few)))
+                (traced_mark node built.step.sound (traced_step li.lists.sound li.traced built.step) built.inside (omega (arith, lines_long, few)))
 
             nothing_named : swap_trees l.rows table p.swaps ≡ swap_trees marked.rows table' p.swaps
             nothing_named = up_to_alike p.swaps _ _ (λ k h. absurd (omega (arith, h, unswapped)))
@@ -204,7 +201,7 @@ module _ {text table : List ℕ} {p : Progress} (ready : Ready text table p) {l 
               where
                 go : Dec (k < p.lines) → get_or table' k 0 < count l'.desk
                 go (yes y) = rw (before k y) (omega (arith, li.lists.nodes k y, built.step.grew))
-                go (no g) = let z : k ≡ p.lines = omega arith in rw (z, at_line_law) (built.inside h)
+                go (no g) = let z : k ≡ p.lines = omega arith in rw (z, at_line_law) built.inside
 
 -- ---- an s line
 
@@ -226,19 +223,19 @@ above_later m table (suc k) v t h =
 
 module _ (substituting : Bool) {text table : List ℕ} {p : Progress} (ready : Ready text table p) {l : Lent} (li : Listed l table p.lines p.swaps) where
   pub swap_long : {l' : Lent} {table' : List ℕ} → 256 ≤ p.swaps
-      → Takes (swap_line substituting (known_at l table p) (get_or text p.at 0) (drop (p.at + 1) text)) text p (StepEnum.Step.Refused (Refusal.LongList (p.lines + p.swaps))) l' table'
+      → Takes (swap_line substituting (known_at l table p) (get_or text p.at 0) (drop (p.at + 1) text)) text p (Err (Refusal.LongList (p.lines + p.swaps))) l' table'
   unfolding swap_line
   swap_long h = record { answer = sym (rw (swaps_long ready li, le-ltb p.swaps 256 h, lines_long ready li)); after = tt }
 
-  module _ {r : SwapLine} (few : p.swaps < 256) (f : FindsSwap text p.at p.lines r) where
-    pub swap_bad : {l' : Lent} {table' : List ℕ} → r ≡ SwapLine.Bad
-        → Takes (swap_line substituting (known_at l table p) (get_or text p.at 0) (drop (p.at + 1) text)) text p (StepEnum.Step.Refused (Refusal.BadList (p.lines + p.swaps))) l' table'
+  module _ {r : Option (ℕ × ℕ × ℕ)} (few : p.swaps < 256) (f : FindsSwap text p.at p.lines r) where
+    pub swap_bad : {l' : Lent} {table' : List ℕ} → r ≡ None
+        → Takes (swap_line substituting (known_at l table p) (get_or text p.at 0) (drop (p.at + 1) text)) text p (Err (Refusal.BadList (p.lines + p.swaps))) l' table'
     unfolding swap_line swapped
     swap_bad e =
         let z = rw e at (f.seen (line_trees l.rows table p.lines) (lines_long ready li)) in
         record { answer = sym (rw (swaps_long ready li, lt-ltb p.swaps 256 few, ← z, lines_long ready li, swaps_long ready li)); after = tt }
 
-    module _ {v line next : ℕ} (is-swap : r ≡ SwapLine.Swap v line next) where
+    module _ {v line next : ℕ} (is-swap : r ≡ Some (v, line, next)) where
       operand : line < p.lines
       operand = rw is-swap at f.within
 
@@ -252,13 +249,13 @@ module _ (substituting : Bool) {text table : List ℕ} {p : Progress} (ready : R
           sym z ∙ rw (at_up_to p.lines (λ k. tree_in l (get_or table k 0)) (leaf pi) line operand)
 
       pub swap_unasked : {l' : Lent} {table' : List ℕ} → substituting ≡ false
-          → Takes (swap_line substituting (known_at l table p) (get_or text p.at 0) (drop (p.at + 1) text)) text p (StepEnum.Step.Refused (Refusal.BadList (p.lines + p.swaps))) l' table'
+          → Takes (swap_line substituting (known_at l table p) (get_or text p.at 0) (drop (p.at + 1) text)) text p (Err (Refusal.BadList (p.lines + p.swaps))) l' table'
       unfolding swap_line swapped
       swap_unasked e = record { answer = sym (rw (swaps_long ready li, lt-ltb p.swaps 256 few, found_swap, e, lines_long ready li, swaps_long ready li)); after = tt }
 
       module _ {a : Bool} (asked : substituting ≡ true) (tests : Above table p.swaps v a) where
         pub swap_low : {l' : Lent} {table' : List ℕ} → a ≡ false
-            → Takes (swap_line substituting (known_at l table p) (get_or text p.at 0) (drop (p.at + 1) text)) text p (StepEnum.Step.Refused (Refusal.BadList (p.lines + p.swaps))) l' table'
+            → Takes (swap_line substituting (known_at l table p) (get_or text p.at 0) (drop (p.at + 1) text)) text p (Err (Refusal.BadList (p.lines + p.swaps))) l' table'
         unfolding swap_line swapped named_tree
         swap_low e =
             let t : above_last above_variable (swap_trees l.rows table p.swaps) (swap v named_tree) ≡ false = sym (tests l.rows named_tree) ∙ e in
@@ -266,7 +263,7 @@ module _ (substituting : Bool) {text table : List ℕ} {p : Progress} (ready : R
 
         pub swap_next : {table₁ table' : List ℕ} {node : ℕ} → a ≡ true → node ≡ get_or table line 0 → table₁ ≡ set table (swaps_from + 2 * p.swaps) v → table' ≡ set table₁ (swaps_from + 2 * p.swaps + 1) node
             → Takes (swap_line substituting (known_at l table p) (get_or text p.at 0) (drop (p.at + 1) text)) text p
-            (StepEnum.Step.Next (record { at = next; lines = p.lines; swaps = p.swaps + 1 })) l table'
+            (Ok (record { at = next; lines = p.lines; swaps = p.swaps + 1 })) l table'
         unfolding swap_line swapped named_tree
         swap_next {table₁} {table'} {node} e n w₁ w₂ =
             let t : above_last above_variable (swap_trees l.rows table p.swaps) (swap v named_tree) ≡ true = sym (tests l.rows named_tree) ∙ e in
@@ -326,7 +323,7 @@ module _ (substituting : Bool) {text table : List ℕ} {p : Progress} (ready : R
 
 -- ---- any line
 
-module _ (substituting : Bool) (k : Known) (first : ℕ) (bs : List ℕ) {text table : List ℕ} {p : Progress} {r : StepEnum.Step} {l : Lent} where
+module _ (substituting : Bool) (k : Known) (first : ℕ) (bs : List ℕ) {text table : List ℕ} {p : Progress} {r : Result Progress Refusal} {l : Lent} where
   pub is_swap_line : first ≡ 115 → Takes (swap_line substituting k first bs) text p r l table → Takes (listing_line substituting k first bs) text p r l table
   unfolding listing_line
   is_swap_line e t = record { answer = t.answer ∙ sym (rw (eq-eqb first 115 e)); after = t.after }

@@ -6,6 +6,7 @@ use Prim.Native.Nat.{ℕ, zero, suc, ◌+◌, ◌-◌, ◌≤◌, ◌<◌}
 use native.Mathlib.Omega.{arith}
 use lib.ListN.{length, get_or, drop}
 use borrow.Author.Tests.{eq-eqb, ne_eqb}
+use Rattle.std.specs.Prelude.{Result, Ok, Err}
 use Rattle.expression.specs.declared.refusal.Refusal.{Refusal}
 use Rattle.expression.specs.Trees.{Tree}
 use Rattle.store.specs.Memory.{room}
@@ -17,29 +18,26 @@ use Rattle.memory.proofs.Values.{up_to_snoc}
 use Rattle.text.specs.Lines as Lines
 use Rattle.text.proofs.Lining.{Left, begins, ends, goes_on, stops_at}
 use Rattle.memory.specs.Layout.{table_words}
-use Rattle.listing.specs.declared.Listing.{Listing}
+use Rattle.listing.specs.declared.Listed as Code
 use Rattle.listing.specs.declared.Progress.{Progress}
-use Rattle.listing.specs.declared.Step.{Step}
 use Rattle.listing.specs.Listings.{known, Swap, accepted, last, rooted, whole, listing, listing_line, lines_of, given}
 use Rattle.listing.proofs.Shortening.{listing_shortens}
 use Rattle.listing.specs.Tables.{line_trees, swap_trees, known_at, Listed, Ready, Takes, lines_seen, Ended, ReadsLines, listing_seen, ListsAfter, TracedAfter, Reads, root_of}
 
 -- after some lines
-pub record Going (substituting : Bool) (text : List ℕ) (l₀ l : Lent) (table : List ℕ) (p : Progress) (at : ℕ) : Type 0 where
-  pub here : p.at ≡ at
+pub record Going (substituting : Bool) (text : List ℕ) (l₀ l : Lent) (table : List ℕ) (p : Progress) : Type 0 where
   pub lines : p.lines ≤ 1024
   pub swaps : p.swaps ≤ 256
   pub long : table_words ≤ length table
   pub listed : Listed l table p.lines p.swaps
-  pub left : Left (listing_line substituting) (known_at l table p) text at (Lines.lines (listing_line substituting) (known [] [] (state_in l₀)) text)
+  pub left : Left (listing_line substituting) (known_at l table p) text p.at (Lines.lines (listing_line substituting) (known [] [] (state_in l₀)) text)
 
 abbrev pub at_start : Progress
 at_start = record { at = 0; lines = 0; swaps = 0 }
 
-pub going_begins : (substituting : Bool) (text : List ℕ) (l : Lent) (table : List ℕ) → table_words ≤ length table → Sound l → Traced [] l → Going substituting text l l table at_start 0
+pub going_begins : (substituting : Bool) (text : List ℕ) (l : Lent) (table : List ℕ) → table_words ≤ length table → Sound l → Traced [] l → Going substituting text l l table at_start
 unfolding up_to
 going_begins substituting text l table o h t = record {
-  here = refl;
   lines = omega arith;
   swaps = omega arith;
   long = o;
@@ -50,38 +48,33 @@ going_begins substituting text l table o h t = record {
   left = begins (listing_line substituting) (listing_shortens substituting) (known [] [] (state_in l)) text;
 }
 
-module _ {substituting : Bool} {text : List ℕ} {l₀ l : Lent} {table : List ℕ} {p : Progress} {at : ℕ} (g : Going substituting text l₀ l table p at) where
-  pub is_ready : at < length text → Ready text table p
-  is_ready h = record { inside = omega (arith, g.here, h); lines = g.lines; swaps = g.swaps; long = g.long }
+module _ {substituting : Bool} {text : List ℕ} {l₀ l : Lent} {table : List ℕ} {p : Progress} (g : Going substituting text l₀ l table p) where
+  pub is_ready : p.at < length text → Ready text table p
+  is_ready h = record { inside = h; lines = g.lines; swaps = g.swaps; long = g.long }
 
-  pub going_ends : length text ≤ at → ReadsLines substituting text (Step.Next p) l₀ l table
+  pub going_ends : length text ≤ p.at → ReadsLines substituting text (Ok p) l₀ l table
   going_ends h = record { answer = ends g.left h; after = record { listed = g.listed; lines = g.lines; swaps = g.swaps } }
 
-  module _ {r : Step} {l' : Lent} {table' : List ℕ} (inside : at < length text)
+  module _ {r : Result Progress Refusal} {l' : Lent} {table' : List ℕ} (inside : p.at < length text)
       (t : Takes (listing_line substituting (known_at l table p) (get_or text p.at 0) (drop (p.at + 1) text)) text p r l' table') where
-    at_place : listing_line substituting (known_at l table p) (get_or text p.at 0) (drop (p.at + 1) text)
-        ≡ listing_line substituting (known_at l table p) (get_or text at 0) (drop (at + 1) text)
-    at_place = rw g.here
-
-    pub going_stops : {why : Refusal} → r ≡ Step.Refused why → ReadsLines substituting text r l₀ l' table'
+    pub going_stops : {why : Refusal} → r ≡ Err why → ReadsLines substituting text (Err why) l₀ l' table'
     going_stops {why} e =
         let a = rw e at t.answer in
-        rw e (record { answer = stops_at g.left inside (sym (a ∙ at_place)); after = tt })
+        record { answer = stops_at g.left inside (sym a); after = tt }
 
-    pub going_on : {q : Progress} → r ≡ Step.Next q → length table' ≡ length table → Going substituting text l₀ l' table' q q.at
+    pub going_on : {q : Progress} → r ≡ Ok q → length table' ≡ length table → Going substituting text l₀ l' table' q
     going_on {q} e k =
         let a = rw e at t.answer in
         let f = rw e at t.after in
         record {
-          here = refl;
           lines = f.lines;
           swaps = f.swaps;
           long = omega (arith, g.long, k);
           listed = f.listed;
-          left = goes_on g.left inside (sym (a ∙ at_place));
+          left = goes_on g.left inside (sym a);
         }
 
-    pub less : {q : Progress} → r ≡ Step.Next q → 1281 - (q.lines + q.swaps) < 1281 - (p.lines + p.swaps)
+    pub less : {q : Progress} → r ≡ Ok q → 1281 - (q.lines + q.swaps) < 1281 - (p.lines + p.swaps)
     less {q} e = let f = rw e at t.after in omega (arith, f.count, g.lines, g.swaps)
 
 -- ---- the root
@@ -96,11 +89,11 @@ unfolding rooted last
 rooted_snoc [] u ss σ = refl
 rooted_snoc (t ∷ ts) u ss σ = rw (last_snoc t u ts)
 
-pub root_none : (table : List ℕ) (p : Progress) → p.lines ≡ 0 → Listing.Refused (Refusal.BadList 0) ≡ root_of table p
+pub root_none : (table : List ℕ) (p : Progress) → p.lines ≡ 0 → ◌≡◌ {A = Result Code.Listed Refusal} (Err (Refusal.BadList 0)) (root_of table p)
 unfolding root_of
 root_none table p e = rw (eq-eqb p.lines 0 e)
 
-pub root_some : (table : List ℕ) (p : Progress) (root : ℕ) → (p.lines ≡ 0 → ⊥) → root ≡ get_or table (p.lines - 1) 0 → Listing.Read root p.swaps ≡ root_of table p
+pub root_some : (table : List ℕ) (p : Progress) (root : ℕ) → (p.lines ≡ 0 → ⊥) → root ≡ get_or table (p.lines - 1) 0 → ◌≡◌ {A = Result Code.Listed Refusal} (Ok (record { root = root; swaps = p.swaps })) (root_of table p)
 unfolding root_of
 root_some table p root e q = rw (ne_eqb p.lines 0 e, q)
 
@@ -123,7 +116,7 @@ unfolding root_of
 root_traced l table p ts t zero e = rw e tt
 root_traced l table p ts t (suc k) e = rw (e, ne_eqb (suc k) 0 (λ q. omega (arith, q))) t
 
-module _ {substituting : Bool} {text : List ℕ} {l₀ l l' : Lent} {table : List ℕ} {r : Step} (b : Begun l₀ l) (t : ReadsLines substituting text r l l' table) where
+module _ {substituting : Bool} {text : List ℕ} {l₀ l l' : Lent} {table : List ℕ} {r : Result Progress Refusal} (b : Begun l₀ l) (t : ReadsLines substituting text r l l' table) where
   from_fresh : whole (lines_seen l' table r) ≡ listing substituting text (fresh (room l₀.rows) 0)
   unfolding listing
   from_fresh = ap whole t.answer ∙ rw b.begins
@@ -131,11 +124,11 @@ module _ {substituting : Bool} {text : List ℕ} {l₀ l l' : Lent} {table : Lis
   given_is : lines_of (lines_seen l' table r) ≡ given substituting text (fresh (room l₀.rows) 0)
   given_is = ap lines_of t.answer ∙ rw b.begins
 
-  pub reads_refused : {why : Refusal} → r ≡ Step.Refused why → Reads substituting text (Listing.Refused why) l₀ l' table
+  pub reads_refused : {why : Refusal} → r ≡ Err why → Reads substituting text (Err why) l₀ l' table
   unfolding whole
   reads_refused e = record { answer = rw e at from_fresh; after = tt; traced = tt }
 
-  pub reads_root : {p : Progress} {a : Listing} → r ≡ Step.Next p → a ≡ root_of table p → Reads substituting text a l₀ l' table
+  pub reads_root : {p : Progress} {a : Result Code.Listed Refusal} → r ≡ Ok p → a ≡ root_of table p → Reads substituting text a l₀ l' table
   unfolding lines_of
   reads_root {p} {a} e q =
       let f = rw e at t.after in

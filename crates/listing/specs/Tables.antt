@@ -1,5 +1,5 @@
 -- What the code's answers and the lent table say, as trees. Only connecting.
-use Rattle.std.specs.Prelude.{◌≡◌, ℕ, ◌+◌, ◌-◌, ◌*◌, ◌≤◌, ◌<◌, List, [], Bool, cond, length, get_or, drop, eqb}
+use Rattle.std.specs.Prelude.{◌≡◌, ℕ, ◌+◌, ◌-◌, ◌*◌, ◌≤◌, ◌<◌, List, [], Option, Some, None, Result, Ok, Err, Bool, cond, length, get_or, drop, eqb}
 use Rattle.expression.specs.declared.refusal.Refusal.{Refusal}
 use Rattle.expression.specs.Trees.{Tree, leaf, pi}
 use Rattle.expression.specs.declared.node.Expression.{Expression}
@@ -15,11 +15,8 @@ use Rattle.memory.specs.Keys.{up_to, key_at, Ascends}
 use Rattle.text.specs.Reading.{Read, is, bad}
 use Rattle.text.specs.Lines as Lines
 use Rattle.text.specs.Lines.{goes, stops, above_last}
-use Rattle.listing.specs.declared.Listing.{Listing}
-use Rattle.listing.specs.declared.Swap.{Swap}
+use Rattle.listing.specs.declared.Listed as Code
 use Rattle.listing.specs.declared.Progress.{Progress}
-use Rattle.listing.specs.declared.Step.{Step}
-use Rattle.listing.specs.declared.SwapLine.{SwapLine}
 use Rattle.listing.specs.Listings as Spec
 use Rattle.listing.specs.Listings.{Known, known, accepted, swap, names, nothing, swap_for, above_variable, swap_fields, swap_line, listing_line, listing, given}
 
@@ -66,9 +63,9 @@ pub record Ready (text table : List ℕ) (p : Progress) : Type 0 where
   pub long : table_words ≤ length table
 
 -- what a step of the code says, as one on trees
-abbrev pub step_seen : (text : List ℕ) (l : Lent) (table : List ℕ) → Step → Lines.Line Known Refusal
-step_seen text l table (Step.Next q) = goes (known_at l table q) (drop q.at text)
-step_seen text l table (Step.Refused why) = stops why
+abbrev pub step_seen : (text : List ℕ) (l : Lent) (table : List ℕ) → Result Progress Refusal → Lines.Line Known Refusal
+step_seen text l table (Ok q) = goes (known_at l table q) (drop q.at text)
+step_seen text l table (Err why) = stops why
 
 pub record Advanced (l : Lent) (table : List ℕ) (p q : Progress) : Type 0 where
   pub listed : Listed l table q.lines q.swaps
@@ -76,32 +73,32 @@ pub record Advanced (l : Lent) (table : List ℕ) (p q : Progress) : Type 0 wher
   pub lines : q.lines ≤ 1024
   pub swaps : q.swaps ≤ 256
 
-abbrev pub StepAfter : (l : Lent) (table : List ℕ) → Progress → Step → Type 0
-StepAfter l table p (Step.Next q) = Advanced l table p q
-StepAfter l table p (Step.Refused why) = Unit {0}
+abbrev pub StepAfter : (l : Lent) (table : List ℕ) → Progress → Result Progress Refusal → Type 0
+StepAfter l table p (Ok q) = Advanced l table p q
+StepAfter l table p (Err why) = Unit {0}
 
-pub record Takes (want : Lines.Line Known Refusal) (text : List ℕ) (p : Progress) (r : Step) (l : Lent) (table : List ℕ) : Type 0 where
+pub record Takes (want : Lines.Line Known Refusal) (text : List ℕ) (p : Progress) (r : Result Progress Refusal) (l : Lent) (table : List ℕ) : Type 0 where
   pub answer : step_seen text l table r ≡ want
   pub after : StepAfter l table p r
 
-abbrev pub TakesLine : (want : Known → ℕ → List ℕ → Lines.Line Known Refusal) (text table : List ℕ) (p : Progress) (r : Step) (l l' : Lent) (table' : List ℕ) → Type 0
+abbrev pub TakesLine : (want : Known → ℕ → List ℕ → Lines.Line Known Refusal) (text table : List ℕ) (p : Progress) (r : Result Progress Refusal) (l l' : Lent) (table' : List ℕ) → Type 0
 TakesLine want text table p r l l' table' =
     Listed l table p.lines p.swaps → Takes (want (known_at l table p) (get_or text p.at 0) (drop (p.at + 1) text)) text p r l' table'
 
 -- an s line changes the table alone, whatever rows and desk are
-abbrev pub TakesSwap : (substituting : Bool) (text table : List ℕ) (p : Progress) (r : Step) (table' : List ℕ) → Type 0
+abbrev pub TakesSwap : (substituting : Bool) (text table : List ℕ) (p : Progress) (r : Result Progress Refusal) (table' : List ℕ) → Type 0
 TakesSwap substituting text table p r table' = (l : Lent) → TakesLine (swap_line substituting) text table p r l l table'
 
 -- an s line of the code
-abbrev pub swap_line_seen : (nodes : List Tree) (text : List ℕ) → SwapLine → Read Spec.Swap
-swap_line_seen nodes text (SwapLine.Swap v line next) = is (swap v (get_or nodes line (leaf pi))) (drop next text)
-swap_line_seen nodes text SwapLine.Bad = bad
+abbrev pub swap_line_seen : (nodes : List Tree) (text : List ℕ) → Option (ℕ × ℕ × ℕ) → Read Spec.Swap
+swap_line_seen nodes text (Some (v, line, next)) = is (swap v (get_or nodes line (leaf pi))) (drop next text)
+swap_line_seen nodes text None = bad
 
-abbrev pub SwapWithin : ℕ → SwapLine → Type 0
-SwapWithin lines (SwapLine.Swap v line next) = line < lines
-SwapWithin lines SwapLine.Bad = Unit {0}
+abbrev pub SwapWithin : ℕ → Option (ℕ × ℕ × ℕ) → Type 0
+SwapWithin lines (Some (v, line, next)) = line < lines
+SwapWithin lines None = Unit {0}
 
-pub record FindsSwap (text : List ℕ) (at lines : ℕ) (r : SwapLine) : Type 0 where
+pub record FindsSwap (text : List ℕ) (at lines : ℕ) (r : Option (ℕ × ℕ × ℕ)) : Type 0 where
   pub seen : (nodes : List Tree) → length nodes ≡ lines → swap_line_seen nodes text r ≡ swap_fields nodes (get_or text at 0) (drop (at + 1) text)
   pub within : SwapWithin lines r
 
@@ -111,59 +108,59 @@ Above table swaps variable r = (m : Memory) (t : Tree) → r ≡ above_last abov
 
 -- ---- all lines
 
-abbrev pub lines_seen : (l : Lent) (table : List ℕ) → Step → Lines.Whole Known Refusal
-lines_seen l table (Step.Next q) = Lines.read (known_at l table q)
-lines_seen l table (Step.Refused why) = Lines.refused why
+abbrev pub lines_seen : (l : Lent) (table : List ℕ) → Result Progress Refusal → Lines.Whole Known Refusal
+lines_seen l table (Ok q) = Lines.read (known_at l table q)
+lines_seen l table (Err why) = Lines.refused why
 
 pub record Ended (l : Lent) (table : List ℕ) (q : Progress) : Type 0 where
   pub listed : Listed l table q.lines q.swaps
   pub lines : q.lines ≤ 1024
   pub swaps : q.swaps ≤ 256
 
-abbrev pub LinesAfter : (l : Lent) (table : List ℕ) → Step → Type 0
-LinesAfter l table (Step.Next q) = Ended l table q
-LinesAfter l table (Step.Refused why) = Unit {0}
+abbrev pub LinesAfter : (l : Lent) (table : List ℕ) → Result Progress Refusal → Type 0
+LinesAfter l table (Ok q) = Ended l table q
+LinesAfter l table (Err why) = Unit {0}
 
-pub record ReadsLines (substituting : Bool) (text : List ℕ) (r : Step) (l l' : Lent) (table : List ℕ) : Type 0 where
+pub record ReadsLines (substituting : Bool) (text : List ℕ) (r : Result Progress Refusal) (l l' : Lent) (table : List ℕ) : Type 0 where
   pub answer : lines_seen l' table r ≡ Lines.lines (listing_line substituting) (known [] [] (state_in l)) text
   pub after : LinesAfter l' table r
 
 -- ---- a listing
 
 -- an answer of the code, as one on trees
-abbrev pub listing_seen : (l : Lent) (table : List ℕ) → Listing → Spec.Listing
-listing_seen l table (Listing.Read root swaps) = accepted (tree_in l root) (swap_trees l.rows table swaps) (state_in l)
-listing_seen l table (Listing.Refused why) = Spec.refused why
+abbrev pub listing_seen : (l : Lent) (table : List ℕ) → Result Code.Listed Refusal → Spec.Listing
+listing_seen l table (Ok a) = accepted (tree_in l a.root) (swap_trees l.rows table a.swaps) (state_in l)
+listing_seen l table (Err why) = Spec.refused why
 
-abbrev pub ListsAfter : (l : Lent) (table : List ℕ) → Listing → Type 0
-ListsAfter l table (Listing.Read root swaps) = (root < count l.desk) × (swaps ≤ 256) × Lists l table 0 swaps
-ListsAfter l table (Listing.Refused why) = Unit {0}
+abbrev pub ListsAfter : (l : Lent) (table : List ℕ) → Result Code.Listed Refusal → Type 0
+ListsAfter l table (Ok a) = (a.root < count l.desk) × (a.swaps ≤ 256) × Lists l table 0 a.swaps
+ListsAfter l table (Err why) = Unit {0}
 
-abbrev pub TracedAfter : (given : List Tree) (l : Lent) → Listing → Type 0
-TracedAfter given l (Listing.Read root swaps) = Traced given l
-TracedAfter given l (Listing.Refused why) = Unit {0}
+abbrev pub TracedAfter : (given : List Tree) (l : Lent) → Result Code.Listed Refusal → Type 0
+TracedAfter given l (Ok a) = Traced given l
+TracedAfter given l (Err why) = Unit {0}
 
 -- the root's node is that of the last line
-unfoldable pub root_of : (table : List ℕ) → Progress → Listing
+unfoldable pub root_of : (table : List ℕ) → Progress → Result Code.Listed Refusal
 root_of table p =
-    cond (eqb p.lines 0) (Listing.Refused (Refusal.BadList 0)) (Listing.Read (get_or table (p.lines - 1) 0) p.swaps)
+    cond (eqb p.lines 0) (Err (Refusal.BadList 0)) (Ok (record { root = get_or table (p.lines - 1) 0; swaps = p.swaps }))
 
 -- reading a listing, from what is lent, l, to l'
-pub record Reads (substituting : Bool) (text : List ℕ) (r : Listing) (l l' : Lent) (table : List ℕ) : Type 0 where
+pub record Reads (substituting : Bool) (text : List ℕ) (r : Result Code.Listed Refusal) (l l' : Lent) (table : List ℕ) : Type 0 where
   pub answer : listing_seen l' table r ≡ listing substituting text (fresh (room l.rows) 0)
   pub after : ListsAfter l' table r
   pub traced : TracedAfter (given substituting text (fresh (room l.rows) 0)) l' r
 
 -- the node that an s line names
-abbrev pub swap_seen : Memory → Swap → Spec.Named
-swap_seen m (Swap.Node i) = names (tree_at m i)
-swap_seen m Swap.Nothing = nothing
+abbrev pub swap_seen : Memory → Option ℕ → Spec.Named
+swap_seen m (Some i) = names (tree_at m i)
+swap_seen m None = nothing
 
-abbrev pub NodeWithin : ℕ → Swap → Type 0
-NodeWithin n (Swap.Node i) = i < n
-NodeWithin n Swap.Nothing = Unit {0}
+abbrev pub NodeWithin : ℕ → Option ℕ → Type 0
+NodeWithin n (Some i) = i < n
+NodeWithin n None = Unit {0}
 
 -- looking up a variable among the s lines that reading a listing has left in the table, whatever the store
-abbrev pub LooksUp : (table : List ℕ) (swaps variable : ℕ) → Swap → Type 0
+abbrev pub LooksUp : (table : List ℕ) (swaps variable : ℕ) → Option ℕ → Type 0
 LooksUp table swaps variable r =
     (l : Lent) → swaps ≤ 256 → Lists l table 0 swaps → (swap_seen l.rows r ≡ swap_for variable (swap_trees l.rows table swaps)) × NodeWithin (count l.desk) r

@@ -9,47 +9,33 @@ ghost use Rattle.store.specs.Tracing.{Traced};
 ghost use Rattle.listing.specs.Listings.{node_line, listing_line};
 ghost use Rattle.listing.specs.Tables.{moved, Reads, FindsSwap, Above, Ready, TakesSwap, TakesLine, ReadsLines, root_of, LooksUp};
 
-use expression::node::{Expression, Operands, operands_of, with_operands};
+use expression::node::{Expression, map_operands};
 use expression::refusal::Refusal;
 use memory::halving::search;
 use memory::layout::{DESK_WORDS, SWAPS_FROM};
 use memory::{put, read};
-use node_lines::{LF, Line, TAB, read_node};
-use store::desk::{REFUSED, refusal_of};
+use node_lines::{LF, TAB, read_node};
+use store::desk::refusal_of;
 use store::{add, mark, start};
-use text::reading::{Number, byte_at, decimal_field};
+use text::reading::{byte_at, decimal_field};
 
 // 01's counts.
 const MOST_NODE_LINES: usize = 1024;
 
 const MOST_SWAPS: usize = 256;
 
-// What reading a listing answers: the node of the root, and how many s lines the table has.
+// A listing that was read: the node of the root, and how many s lines the table has.
 #[derive(Clone, Copy)]
-pub enum Listing {
-    Read { root: usize, swaps: usize },
-    Refused(Refusal),
-}
-
-// The node that an s line names, if there is one for a variable.
-#[derive(Clone, Copy)]
-pub enum Swap {
-    Node(usize),
-    Nothing,
+pub struct Listed {
+    pub root: usize,
+    pub swaps: usize,
 }
 
 // The node of a line, whose operands are numbers of lines, with the nodes of these lines.
 fn moved_by(table: &[u64], e: Expression) -> Expression
     ensures { result ≡ moved table.now e }
 {
-    let operands = operands_of(e);
-    match operands {
-        Operands::Nothing => e,
-        Operands::One(a) => with_operands(e, 0, read(table, a) as usize),
-        Operands::Two(a, b) => {
-            with_operands(e, read(table, a) as usize, read(table, b) as usize)
-        }
-    }
+    map_operands(e, |line| read(table, line) as usize)
 }
 
 // How far reading is: the place in the text, and how many node lines and s lines are read.
@@ -60,40 +46,26 @@ struct Progress {
     swaps: usize,
 }
 
-// A line was read, or refused.
-#[derive(Clone, Copy)]
-enum Step {
-    Next(Progress),
-    Refused(Refusal),
-}
-
 // An s line: its variable, the line of its node, and the place after it.
-#[derive(Clone, Copy)]
-enum SwapLine {
-    Swap(u64, usize, usize),
-    Bad,
-}
-
-fn read_swap(s: &[u8], at: usize, lines: usize) -> SwapLine
+fn read_swap(s: &[u8], at: usize, lines: usize) -> Option<(u64, usize, usize)>
     requires { (at < length s.now) × (lines ≤ 1024) }
     ensures { FindsSwap s.now at lines result }
 {
     if byte_at(s, at + 1) != TAB {
-        return SwapLine::Bad;
+        return None;
     }
-    let x = decimal_field(s, at + 2, TAB, 65536);
-    let Number::Is(variable, p) = x else {
-        return SwapLine::Bad;
-    };
-    let y = decimal_field(s, p, LF, lines as u64);
-    let Number::Is(line, next) = y else {
-        return SwapLine::Bad;
-    };
-    SwapLine::Swap(variable, line as usize, next)
+    let (variable, p) = decimal_field(s, at + 2, TAB, 65536)?;
+    let (line, next) = decimal_field(s, p, LF, lines as u64)?;
+    Some((variable, line as usize, next))
 }
 
 // An s line: 2, then 1.
-fn take_swap(s: &[u8], substituting: bool, table: &mut [u64], p: Progress) -> Step
+fn take_swap(
+    s: &[u8],
+    substituting: bool,
+    table: &mut [u64],
+    p: Progress,
+) -> Result<Progress, Refusal>
     requires { Ready s.now table.old p }
     ensures { TakesSwap substituting s.now table.old p result table.new }
 {
@@ -102,22 +74,21 @@ fn take_swap(s: &[u8], substituting: bool, table: &mut [u64], p: Progress) -> St
     let swaps = p.swaps;
     let here = (lines + swaps) as u64;
     if MOST_SWAPS <= swaps {
-        return Step::Refused(Refusal::LongList(here));
+        return Err(Refusal::LongList(here));
     }
-    let found = read_swap(s, at, lines);
-    let SwapLine::Swap(variable, line, next) = found else {
-        return Step::Refused(Refusal::BadList(here));
+    let Some((variable, line, next)) = read_swap(s, at, lines) else {
+        return Err(Refusal::BadList(here));
     };
     if !substituting {
-        return Step::Refused(Refusal::BadList(here));
+        return Err(Refusal::BadList(here));
     }
     if !is_above(table, swaps, variable) {
-        return Step::Refused(Refusal::BadList(here));
+        return Err(Refusal::BadList(here));
     }
     let node = read(table, line);
     put(table, SWAPS_FROM + 2 * swaps, variable);
     put(table, SWAPS_FROM + 2 * swaps + 1, node);
-    Step::Next(Progress {
+    Ok(Progress {
         at: next,
         lines,
         swaps: swaps + 1,
@@ -142,7 +113,7 @@ fn take_node(
     desk: &mut [u64; DESK_WORDS],
     table: &mut [u64],
     p: Progress,
-) -> Step
+) -> Result<Progress, Refusal>
     requires { Ready s.now table.old p }
     ensures { TakesLine node_line s.now table.old p result (lent store.old desk.old) (lent store.new desk.new) table.new }
 {
@@ -151,22 +122,21 @@ fn take_node(
     let swaps = p.swaps;
     let here = (lines + swaps) as u64;
     if MOST_NODE_LINES <= lines {
-        return Step::Refused(Refusal::LongList(here));
+        return Err(Refusal::LongList(here));
     }
     if 0 < swaps {
-        return Step::Refused(Refusal::BadList(here));
+        return Err(Refusal::BadList(here));
     }
-    let found = read_node(s, at, lines);
-    let Line::Node(e, next) = found else {
-        return Step::Refused(Refusal::BadList(here));
+    let Some((e, next)) = read_node(s, at, lines) else {
+        return Err(Refusal::BadList(here));
     };
-    let node = add(store, desk, moved_by(table, e));
-    if REFUSED <= node {
-        return Step::Refused(refusal_of(desk, node));
-    }
+    let added = add(store, desk, moved_by(table, e));
+    let Ok(node) = added else {
+        return Err(refusal_of(desk));
+    };
     mark(store, node, lines);
     put(table, lines, node as u64);
-    Step::Next(Progress {
+    Ok(Progress {
         at: next,
         lines: lines + 1,
         swaps,
@@ -181,7 +151,7 @@ fn take_line(
     desk: &mut [u64; DESK_WORDS],
     table: &mut [u64],
     p: Progress,
-) -> Step
+) -> Result<Progress, Refusal>
     requires { Ready s.now table.old p }
     ensures { TakesLine (listing_line substituting) s.now table.old p result (lent store.old desk.old) (lent store.new desk.new) table.new }
 {
@@ -199,7 +169,7 @@ fn read_lines(
     store: &mut [[u64; 4]],
     desk: &mut [u64; DESK_WORDS],
     table: &mut [u64],
-) -> Step
+) -> Result<Progress, Refusal>
     requires table_words_in_bounds { table_words ≤ length table.old }
     requires sound { Sound (lent store.old desk.old) × Traced [] (lent store.old desk.old) }
     ensures { ReadsLines substituting s.now result (lent store.old desk.old) (lent store.new desk.new) table.new }
@@ -209,16 +179,11 @@ fn read_lines(
         lines: 0,
         swaps: 0,
     };
-    let mut at: usize = 0;
-    while at < s.len() {
-        let step = take_line(s, substituting, store, desk, table, p);
-        let Step::Next(q) = step else {
-            return step;
-        };
-        p = q;
-        at = q.at;
+    // No `for`: a line tells where the next one begins.
+    while p.at < s.len() {
+        p = take_line(s, substituting, store, desk, table, p)?;
     }
-    Step::Next(p)
+    Ok(p)
 }
 
 // A listing, read into a new store whatever rows and desk held; the table has the s lines then.
@@ -228,39 +193,35 @@ pub fn read_listing(
     store: &mut [[u64; 4]],
     desk: &mut [u64; DESK_WORDS],
     table: &mut [u64],
-) -> Listing
+) -> Result<Listed, Refusal>
     requires { table_words ≤ length table.old }
     ensures { Reads substituting text.now result (lent store.old desk.old) (lent store.new desk.new) table.new }
 {
     start(desk);
-    let end = read_lines(text, substituting, store, desk, table);
-    match end {
-        Step::Next(p) => root_of(table, p),
-        Step::Refused(why) => Listing::Refused(why),
-    }
+    let end = read_lines(text, substituting, store, desk, table)?;
+    root_of(table, end)
 }
 
 // "The last node line is the root"; with no node line there is none.
-fn root_of(table: &[u64], p: Progress) -> Listing
+fn root_of(table: &[u64], p: Progress) -> Result<Listed, Refusal>
     ensures { result ≡ root_of table.now p }
 {
     let lines = p.lines;
     if lines == 0 {
-        return Listing::Refused(Refusal::BadList(0));
+        return Err(Refusal::BadList(0));
     }
-    Listing::Read {
+    Ok(Listed {
         root: read(table, lines - 1) as usize,
         swaps: p.swaps,
-    }
+    })
 }
 
 // The node that the s line of this variable names, by halving.
-pub fn swap_of(table: &[u64], swaps: usize, variable: u16) -> Swap
+pub fn swap_of(table: &[u64], swaps: usize, variable: u16) -> Option<usize>
     ensures { LooksUp table.now swaps variable result }
 {
-    let j = search(table, SWAPS_FROM, 2, swaps, variable as u64);
-    if swaps <= j {
-        return Swap::Nothing;
-    }
-    Swap::Node(read(table, SWAPS_FROM + 2 * j + 1) as usize)
+    let Some(j) = search(table, SWAPS_FROM, 2, swaps, variable as u64) else {
+        return None;
+    };
+    Some(read(table, SWAPS_FROM + 2 * j + 1) as usize)
 }

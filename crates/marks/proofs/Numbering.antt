@@ -1,11 +1,12 @@
 -- How the numbers of the marked rows are written, mark by mark, over plain lists and numbers. Assumes nothing.
 use mathlib.Core.Path.{◌≡◌, refl, sym, ap, subst, ◌∙◌}
 use mathlib.Core.List.{List, [], ◌∷◌, ◌++◌, append_assoc, append-nil}
-use mathlib.Core.Bool.{Bool, true, false, cond}
+use mathlib.Core.Bool.{Bool, true, false, cond, ◌&&◌}
 use Prim.Native.Nat.{ℕ, suc, ◌+◌, ◌*◌, ◌≤◌, ◌<◌}
 use native.Mathlib.Numerals.{add-one}
 use native.Mathlib.Omega.{arith}
 use lib.Dec.{eqb}
+use Rattle.std.specs.List.{list_all}
 use lib.ListN.{length, drop, get_or, drop_of_length-le}
 use borrow.Author.Tests.{eq-eqb, ne_eqb}
 use Rattle.text.specs.Lines.{none}
@@ -88,24 +89,14 @@ line_put a (b, w) d h = (put_then a (put_then b d), omega (arith, a.place, w, d.
 
 -- ---- whether any is marked
 
--- no mark before this one is other than 0
-pub record Clear (marks : List ℕ) (k : ℕ) : Type 0 where
-  pub left : marked marks ≡ marked_from k (drop k marks)
-
-pub none_passed : (marks : List ℕ) → Clear marks 0
-none_passed marks = record { left = refl }
-
-pub clear_on : {marks : List ℕ} {k : ℕ} → Clear marks k → k < length marks → get_or marks k 0 ≡ 0 → Clear marks (k + 1)
-unfolding marked_from
-clear_on {marks} {k} g h z = record { left = g.left ∙ ap (marked_from k) (here marks k h) ∙ rw (eq-eqb (get_or marks k 0) 0 z, add-one k) }
-
-pub not_clear : {marks : List ℕ} {k : ℕ} → Clear marks k → k < length marks → (get_or marks k 0 ≡ 0 → ⊥) → false ≡ none (marked marks)
+pub none_marked : (k : ℕ) (ms : List ℕ) → list_all (λ m. eqb m 0) ms ≡ none (marked_from k ms)
 unfolding marked_from none
-not_clear {marks} {k} g h n = sym (ap none (g.left ∙ ap (marked_from k) (here marks k h)) ∙ rw (ne_eqb (get_or marks k 0) 0 n))
-
-pub all_clear : {marks : List ℕ} {k : ℕ} → Clear marks k → length marks ≤ k → true ≡ none (marked marks)
-unfolding marked_from none
-all_clear {marks} {k} g h = sym (ap none g.left ∙ rw (drop_of_length-le marks {i = k} h))
+none_marked k [] = refl
+none_marked k (m ∷ ms) = go (eqb m 0) (none_marked (suc k) ms)
+  where
+    go : (b : Bool) → list_all (λ m. eqb m 0) ms ≡ none (marked_from (suc k) ms) → b && list_all (λ m. eqb m 0) ms ≡ none (cond b (marked_from (suc k) ms) (k ∷ marked_from (suc k) ms))
+    go true more = more
+    go false more = refl
 
 module _ {e : List ℕ} {at : ℕ} (marks : List ℕ) {b : Bool} (q : b ≡ none (marked marks)) where
   pub none_used : b ≡ true → (line : List ℕ) → Put e at (cond (none (marked marks)) [] line) at e × (at ≤ at + 1040)

@@ -29,10 +29,8 @@ fn write_numbers(out: &mut [u8], at: usize, separator: u8, marks: &[u8]) -> usiz
     ensures { Put out.old at (each separator (marked marks.now)) result out.new × (result ≤ at + 1024) }
 {
     let mut next = at;
-    let mut k: usize = 0;
-    while k < marks.len() {
-        next = write_mark(out, next, marks[k], k as u64, separator);
-        k += 1;
+    for (k, mark) in marks.iter().enumerate() {
+        next = write_mark(out, next, *mark, k as u64, separator);
     }
     next
 }
@@ -58,14 +56,7 @@ pub fn write_marks(out: &mut [u8], at: usize, marks: &[u8]) -> usize
 fn is_clear(marks: &[u8]) -> bool
     ensures { result ≡ none (marked marks.now) }
 {
-    let mut k: usize = 0;
-    while k < marks.len() {
-        if marks[k] != 0 {
-            return false;
-        }
-        k += 1;
-    }
-    true
+    marks.iter().all(|mark| *mark == 0)
 }
 
 // Nothing where no row is marked.

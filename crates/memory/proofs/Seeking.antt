@@ -1,13 +1,14 @@
 -- Halving among ascending keys: what each turn needs. Assumes nothing.
 use mathlib.Core.Path.{◌≡◌, sym, ap}
 use mathlib.Core.List.{List}
+use Rattle.std.specs.Prelude.{None}
 use Prim.Native.Nat.{ℕ, ◌+◌, ◌*◌, ◌≤◌, ◌<◌}
 use native.Mathlib.Nat.{mul-le-mul_right}
 use native.Mathlib.Omega.{arith}
 use native.Mathlib.Decide.{dec_lt, ℕ_discrete}
 use lib.ListN.{get_or}
 use borrow.Author.Tests.{eq-eqb, ne_eqb}
-use Rattle.memory.specs.Keys.{key_at, Ascends, First, holds}
+use Rattle.memory.specs.Keys.{key_at, Ascends, First, FirstOf, holds}
 use Rattle.memory.proofs.Ascending.{rises}
 
 -- what stands there is above the key if it is neither it nor below it
@@ -22,15 +23,11 @@ pub first_key : (t : List ℕ) (from step : ℕ) → key_at t from step 0 ≡ ge
 first_key t from step = let e : step * 0 + from ≡ from = omega arith in ap (λ i. get_or t i 0) e
 
 -- a key below the first is none of them
-pub below_first : (keys : ℕ → ℕ) (count key : ℕ) → key < keys 0 → Ascends keys count → First (holds keys key) count count
-below_first keys count key l a = record {
-  within = omega arith;
-  hit = λ m. absurd (omega arith);
-  before = λ j m. ne_eqb key (keys j) λ q. elim (dec_lt 0 j) [
-    | yes b ↦ omega (arith, rises keys count a 0 j b m)
-    | no b ↦ let e : j ≡ 0 = omega arith in omega (arith, l, rw e at q)
-  ];
-}
+pub below_first : (keys : ℕ → ℕ) (count key : ℕ) → key < keys 0 → Ascends keys count → FirstOf (holds keys key) count None
+below_first keys count key l a = λ j m. ne_eqb key (keys j) λ q. elim (dec_lt 0 j) [
+  | yes b ↦ omega (arith, rises keys count a 0 j b m)
+  | no b ↦ let e : j ≡ 0 = omega arith in omega (arith, l, rw e at q)
+]
 
 -- before `low` the keys are below the one that is sought, from `high` on above it
 pub record Split (keys : ℕ → ℕ) (count key low high : ℕ) : Type 0 where
@@ -88,12 +85,8 @@ module _ {keys : ℕ → ℕ} {count key low high : ℕ} (h : Halving keys count
     };
   }
 
-  pub halving_ends : high ≤ low → Ascends keys count → First (holds keys key) count count
-  halving_ends g a = record {
-    within = omega arith;
-    hit = λ l. absurd (omega arith);
-    before = λ j m. ne_eqb key (keys j) λ q. elim (dec_lt j low) [
-      | yes d ↦ omega (arith, (h.split a).below j d)
-      | no d ↦ omega (arith, (h.split a).over j (omega arith) m)
-    ];
-  }
+  pub halving_ends : high ≤ low → Ascends keys count → FirstOf (holds keys key) count None
+  halving_ends g a = λ j m. ne_eqb key (keys j) λ q. elim (dec_lt j low) [
+    | yes d ↦ omega (arith, (h.split a).below j d)
+    | no d ↦ omega (arith, (h.split a).over j (omega arith) m)
+  ]

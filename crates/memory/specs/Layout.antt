@@ -1,5 +1,5 @@
 -- How long the desk and the table are that a call lends; and where things stand in them, as src/layout.rt has it, which only connects.
-use Rattle.std.specs.Prelude.{ℕ, zero, suc, List, [], ◌∷◌}
+use Rattle.std.specs.Prelude.{ℕ, List, [], ◌∷◌, Option, Some, None}
 
 abbrev pub desk_words : ℕ
 desk_words = 272
@@ -27,7 +27,7 @@ functions_from = 2816
 abbrev pub marks_from : ℕ
 marks_from = 16
 
--- a row's number plus one, as a word has it; 0 says none
-unfoldable pub numbered : ℕ → List ℕ
-numbered zero = []
-numbered (suc j) = j ∷ []
+-- a row's number, if there is one
+unfoldable pub numbered : Option ℕ → List ℕ
+numbered None = []
+numbered (Some j) = j ∷ []

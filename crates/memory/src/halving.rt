@@ -1,30 +1,32 @@
 // Where a key stands among ascending keys of rows in a lent table: at its distance from the lowest, if no key is left out, else by
 // halving.
-ghost use Rattle.std.specs.Prelude.{◌<◌, ◌≤◌};
-ghost use Rattle.memory.specs.Keys.{key_at, Ascends, First, holds};
+ghost use Rattle.std.specs.Prelude.{◌<◌, ◌≤◌, IfSome};
+ghost use Rattle.memory.specs.Keys.{key_at, Ascends, FirstOf, holds};
 
 use super::read;
 
 // No kind has more rows than this.
 const MOST: usize = 1024;
 
-// The number of the row with this key, or the count; rows of `step` words stand from `from` on, the key first.
-pub fn search(table: &[u64], from: usize, step: usize, count: usize, key: u64) -> usize
+// The number of the row with this key, if there is one; rows of `step` words stand from `from` on, the key first. So a key is no element
+// of a slice, which the library's search wants: this one halves by hand.
+pub fn search(table: &[u64], from: usize, step: usize, count: usize, key: u64) -> Option<usize>
     requires { (from ≤ 8192) × (step ≤ 7) }
-    ensures { (result < count → result < 1024) × (count ≤ 1024 → Ascends (key_at table.now from step) count → First (holds (key_at table.now from step) key) count result) }
+    ensures within { IfSome result (λ j. (j < count) × (j < 1024)) }
+    ensures first { count ≤ 1024 → Ascends (key_at table.now from step) count → FirstOf (holds (key_at table.now from step) key) count result }
 {
     if MOST < count {
-        return count;
+        return None;
     }
     let lowest = read(table, from);
     if key < lowest {
-        return count;
+        return None;
     }
     let distance = key - lowest;
     if distance < count as u64 {
         let guess = distance as usize;
         if read(table, step * guess + from) == key {
-            return guess;
+            return Some(guess);
         }
     }
     let mut low: usize = 0;
@@ -33,7 +35,7 @@ pub fn search(table: &[u64], from: usize, step: usize, count: usize, key: u64) -
         let middle = low + (high - low) / 2;
         let stands = read(table, step * middle + from);
         if stands == key {
-            return middle;
+            return Some(middle);
         }
         if stands < key {
             low = middle + 1;
@@ -41,5 +43,5 @@ pub fn search(table: &[u64], from: usize, step: usize, count: usize, key: u64) -
             high = middle;
         }
     }
-    count
+    None
 }

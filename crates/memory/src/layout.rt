@@ -1,8 +1,8 @@
 // The work memory that a call lends: rows for the nodes, a desk of single words, and a table. How long the desk and the table are and
 // where things stand in them. specs/Layout says the same for the definitions.
 
-// The desk: how many nodes stand, how many simplify calls were made, and what a refusal NEED carries, in five words: the number of its
-// operation and the bits of its operands. The words after these are free, but for the last 256.
+// The desk: how many nodes stand, how many simplify calls were made, and why nothing was built: what a refusal NEED carries, in five words, the
+// number of its operation and the bits of its operands, and the number of the refusal. The words after these are free, but for the last 256.
 pub const DESK_WORDS: usize = 272;
 
 // The marks that a call writes, a byte for each function value.

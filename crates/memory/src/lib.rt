@@ -1,12 +1,11 @@
-// Lent memory: words that are read and written at any place, cleared, and sought by halving, marks that are set, and where things
-// stand in what a call lends.
+// Lent memory: words that are read and written at any place and sought by halving, marks that are set, and where things stand in what a
+// call lends.
 
 #![tactic(auto)]
 
-ghost use Rattle.std.specs.Prelude.{◌≡◌, get_or, set, length, replicate};
+ghost use Rattle.std.specs.Prelude.{◌≡◌, get_or, set};
 ghost use Rattle.memory.specs.Layout.{numbered};
 ghost use Rattle.memory.specs.Marks.{noted};
-ghost use Rattle.memory.specs.Rows.{blank};
 
 pub mod halving;
 pub mod layout;
@@ -27,36 +26,14 @@ pub fn put(s: &mut [u64], i: usize, v: u64)
     }
 }
 
-// Zero over the whole length.
-pub fn zero(s: &mut [u64])
-    ensures { s.new ≡ replicate (length s.old) 0 }
-{
-    let mut i = 0;
-    while i < s.len() {
-        s[i] = 0;
-        i += 1;
-    }
-}
-
-// The same of rows.
-pub fn zero_rows(store: &mut [[u64; 4]])
-    ensures { store.new ≡ replicate (length store.old) blank }
-{
-    let mut row = 0;
-    while row < store.len() {
-        store[row] = [0, 0, 0, 0];
-        row += 1;
-    }
-}
-
-// The mark of a row that was used, given by its number plus one; 0 says none, and past the end there is no mark.
-pub fn mark(marks: &mut [u8], row: usize)
+// The mark of a row that was used, if one was; past the end there is no mark.
+pub fn mark(marks: &mut [u8], row: Option<usize>)
     ensures { marks.new ≡ noted (numbered row) marks.old }
 {
-    if row == 0 {
+    let Some(j) = row else {
         return;
-    }
-    if row <= marks.len() {
-        marks[row - 1] = 1;
+    };
+    if j < marks.len() {
+        marks[j] = 1;
     }
 }

@@ -10,8 +10,8 @@ use Rattle.expression.specs.Nodes.{grown}
 use Rattle.expression.proofs.OneNode.{ByTree, one_node}
 use Rattle.text.specs.Reading.{Read}
 use Rattle.text.proofs.OneAnswer.{one_place}
-use Rattle.node_lines.specs.declared.Line.{Line}
-use Rattle.node_lines.specs.Seen.{line_seen, Finds}
+use Rattle.std.specs.Prelude.{Some, None}
+use Rattle.node_lines.specs.Seen.{Line, line_seen, Finds}
 
 -- earlier lines that differ: line k is the variable k
 unfoldable variables : (from n : ℕ) → List Tree
@@ -51,17 +51,17 @@ module _ {want : List Tree → Read Tree} {text : List ℕ} {lines : ℕ} where
   seen_same : (r r' : Line) → Finds want text lines r → Finds want text lines r' → line_seen (variables 0 lines) text r ≡ line_seen (variables 0 lines) text r'
   seen_same r r' p q = p.seen (variables 0 lines) (how_many 0 lines) ∙ sym (q.seen (variables 0 lines) (how_many 0 lines))
 
-  same : (e e' : Expression) (next next' : ℕ) → Finds want text lines (Line.Node e next) → Finds want text lines (Line.Node e' next') → Same text e e' next next'
+  same : (e e' : Expression) (next next' : ℕ) → Finds want text lines (Some (e, next)) → Finds want text lines (Some (e', next')) → Same text e e' next next'
   same e e' next next' p q =
-      let s = seen_same (Line.Node e next) (Line.Node e' next') p q in
+      let s = seen_same (Some (e, next)) (Some (e', next')) p q in
       let g : grown (λ k. get_or (variables 0 lines) k (leaf pi)) e ≡ grown (λ k. get_or (variables 0 lines) k (leaf pi)) e' = cc in
       record { node = one_node (tells lines) e e' p.within q.within g; rest = cc }
 
   pub one_line : (r r' : Line) → Finds want text lines r → Finds want text lines r' → r ≡ r'
-  one_line (Line.Node e next) (Line.Node e' next') p q =
+  one_line (Some (e, next)) (Some (e', next')) p q =
       let s = same e e' next next' p q in
       let k = one_place text next next' p.inside q.inside s.rest in
-      λ i. Line.Node (s.node i) (k i)
-  one_line (Line.Node e next) Line.Bad p q = let s = seen_same (Line.Node e next) Line.Bad p q in let z : ◌≡◌ {A = ℕ} 0 1 = cc in absurd (omega arith)
-  one_line Line.Bad (Line.Node e' next') p q = let s = seen_same Line.Bad (Line.Node e' next') p q in let z : ◌≡◌ {A = ℕ} 0 1 = cc in absurd (omega arith)
-  one_line Line.Bad Line.Bad p q = refl
+      λ i. Some (s.node i, k i)
+  one_line (Some (e, next)) None p q = let s = seen_same (Some (e, next)) None p q in let z : ◌≡◌ {A = ℕ} 0 1 = cc in absurd (omega arith)
+  one_line None (Some (e', next')) p q = let s = seen_same None (Some (e', next')) p q in let z : ◌≡◌ {A = ℕ} 0 1 = cc in absurd (omega arith)
+  one_line None None p q = refl

@@ -13,131 +13,86 @@ use expression::node::Expression;
 use expression::{ExpressionFunction, InfixOperator, PrefixOperator};
 use origins::fields::end_line;
 use spelling::{function_at, infix_at, prefix_at};
-use text::reading::{Number, byte_at, decimal_field, end_field, hex_field, read_decimal, read_hex};
+use text::reading::{byte_at, decimal_field, end_field, hex_field, read_decimal, read_hex};
 
 pub const TAB: u8 = 9;
 
 pub const LF: u8 = 10;
 
-// A node and the place after its line.
-#[derive(Clone, Copy)]
-pub enum Line {
-    Node(Expression, usize),
-    Bad,
-}
+// A node and the place after its line, or none such.
+pub type Line = Option<(Expression, usize)>;
 
 // `n·re·im`, after the tab, as the others below.
 fn read_number(s: &[u8], at: usize) -> Line
     ensures { FindsLeaf (number_fields line_end (drop at s.now)) s.now result }
 {
-    let x = hex_field(s, at, TAB);
-    let Number::Is(re, p) = x else {
-        return Line::Bad;
+    let (re, p) = hex_field(s, at, TAB)?;
+    let (im, q) = end_line(s, read_hex(s, p))?;
+    let z = Complex {
+        re: from_bits(re),
+        im: from_bits(im),
     };
-    let y = end_line(s, read_hex(s, p));
-    let Number::Is(im, q) = y else {
-        return Line::Bad;
-    };
-    Line::Node(
-        Expression::Number(Complex {
-            re: from_bits(re),
-            im: from_bits(im),
-        }),
-        q,
-    )
+    Some((Expression::Number(z), q))
 }
 
 fn read_variable(s: &[u8], at: usize) -> Line
     ensures { FindsLeaf (variable_fields line_end (drop at s.now)) s.now result }
 {
-    let x = end_line(s, read_decimal(s, at, 65536));
-    let Number::Is(number, next) = x else {
-        return Line::Bad;
-    };
-    Line::Node(Expression::Variable(number as u16), next)
+    let (number, next) = end_line(s, read_decimal(s, at, 65536))?;
+    Some((Expression::Variable(number as u16), next))
 }
 
 fn read_cell(s: &[u8], at: usize) -> Line
     ensures { FindsLeaf (cell_fields line_end (drop at s.now)) s.now result }
 {
-    let x = decimal_field(s, at, TAB, 65536);
-    let Number::Is(region, p) = x else {
-        return Line::Bad;
-    };
-    let y = end_line(s, read_decimal(s, p, 4294967296));
-    let Number::Is(index, q) = y else {
-        return Line::Bad;
-    };
-    Line::Node(Expression::Address(region as u16, index as u32), q)
+    let (region, p) = decimal_field(s, at, TAB, 65536)?;
+    let (index, q) = end_line(s, read_decimal(s, p, 4294967296))?;
+    Some((Expression::Address(region as u16, index as u32), q))
 }
 
 fn read_function(s: &[u8], at: usize, lines: usize) -> Line
     requires { lines ≤ 1024 }
     ensures { Finds (λ earlier. function_fields line_end earlier (drop at s.now)) s.now lines result }
 {
-    let x = end_field(s, function_at(s, at), TAB);
-    let Number::Is(f, p) = x else {
-        return Line::Bad;
-    };
-    let y = end_line(s, read_decimal(s, p, lines as u64));
-    let Number::Is(child, q) = y else {
-        return Line::Bad;
-    };
-    Line::Node(
+    let (f, p) = end_field(s, function_at(s, at), TAB)?;
+    let (child, q) = end_line(s, read_decimal(s, p, lines as u64))?;
+    Some((
         Expression::FunctionCall(ExpressionFunction::from_code(f), child as usize),
         q,
-    )
+    ))
 }
 
 fn read_prefix(s: &[u8], at: usize, lines: usize) -> Line
     requires { lines ≤ 1024 }
     ensures { Finds (λ earlier. prefix_fields line_end earlier (drop at s.now)) s.now lines result }
 {
-    let x = end_field(s, prefix_at(s, at), TAB);
-    let Number::Is(o, p) = x else {
-        return Line::Bad;
-    };
-    let y = end_line(s, read_decimal(s, p, lines as u64));
-    let Number::Is(child, q) = y else {
-        return Line::Bad;
-    };
-    Line::Node(
+    let (o, p) = end_field(s, prefix_at(s, at), TAB)?;
+    let (child, q) = end_line(s, read_decimal(s, p, lines as u64))?;
+    Some((
         Expression::Prefix(PrefixOperator::from_code(o), child as usize),
         q,
-    )
+    ))
 }
 
 fn read_infix(s: &[u8], at: usize, lines: usize) -> Line
     requires { lines ≤ 1024 }
     ensures { Finds (λ earlier. infix_fields line_end earlier (drop at s.now)) s.now lines result }
 {
-    let x = end_field(s, infix_at(s, at), TAB);
-    let Number::Is(o, p) = x else {
-        return Line::Bad;
-    };
-    let y = decimal_field(s, p, TAB, lines as u64);
-    let Number::Is(left, q) = y else {
-        return Line::Bad;
-    };
-    let z = end_line(s, read_decimal(s, q, lines as u64));
-    let Number::Is(right, next) = z else {
-        return Line::Bad;
-    };
-    Line::Node(
+    let (o, p) = end_field(s, infix_at(s, at), TAB)?;
+    let (left, q) = decimal_field(s, p, TAB, lines as u64)?;
+    let (right, next) = end_line(s, read_decimal(s, q, lines as u64))?;
+    Some((
         Expression::Infix(InfixOperator::from_code(o), left as usize, right as usize),
         next,
-    )
+    ))
 }
 
 // p has no fields of its own.
 fn read_pi(s: &[u8], at: usize) -> Line
     ensures { FindsLeaf (pi_line line_end (drop at s.now)) s.now result }
 {
-    let x = end_line(s, Number::Is(0, at));
-    let Number::Is(_, next) = x else {
-        return Line::Bad;
-    };
-    Line::Node(Expression::PiConstant, next)
+    let (_, next) = end_line(s, Some((0, at)))?;
+    Some((Expression::PiConstant, next))
 }
 
 // The fields of any line but p's, by its first byte.
@@ -163,7 +118,7 @@ fn read_fields(s: &[u8], first: u8, at: usize, lines: usize) -> Line
     if first == b'b' {
         return read_infix(s, at, lines);
     }
-    Line::Bad
+    None
 }
 
 // The node line that starts at a place within the text, after `lines` others.
@@ -179,5 +134,5 @@ pub fn read_node(s: &[u8], at: usize, lines: usize) -> Line
     if second == TAB {
         return read_fields(s, first, at + 2, lines);
     }
-    Line::Bad
+    None
 }

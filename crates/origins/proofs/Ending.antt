@@ -8,9 +8,9 @@ use native.Mathlib.Decide.{ℕ_discrete}
 use lib.ListN.{length, get_or, length-append}
 use lib.Dec.{eqb}
 use borrow.Author.Tests.{eq-eqb, ne_eqb}
-use Rattle.text.specs.declared.reading.Number.{Number}
+use Rattle.std.specs.Prelude.{Some}
 use Rattle.text.specs.Reading.{Read, is, bad, then, lf, ended, digit_of, run, spelt, decimal}
-use Rattle.text.specs.Seen.{seen, Reads}
+use Rattle.text.specs.Seen.{Number, seen, Reads}
 use Rattle.text.specs.Writing.{in_decimal}
 use Rattle.text.proofs.Fields.{told}
 use Rattle.text.proofs.Only.{never, ended_only, decimal_only}
@@ -167,5 +167,5 @@ pub line_ends : {s : List ℕ} {want : Read ℕ} {n m : Number} → Reads (line_
 line_ends e r = record { answer = e.answer ∙ ap line_end r.answer; inside = e.inside }
 
 -- a decimal number at the end of a line is below its limit
-pub end_below : (s : List ℕ) (limit : ℕ) (bs : List ℕ) {n : Number} {v next : ℕ} → Reads (line_end (decimal limit bs)) s n → n ≡ Number.Is v next → v < limit
+pub end_below : (s : List ℕ) (limit : ℕ) (bs : List ℕ) {n : Number} {v next : ℕ} → Reads (line_end (decimal limit bs)) s n → n ≡ Some (v, next) → v < limit
 end_below s limit bs r q = let k = line_end_only (decimal limit bs) _ _ (told s r q) in (decimal_only limit _ bs _ k.read).0

@@ -19,13 +19,10 @@ fn read_after_at(s: &[u8], at: usize) -> Number
     ensures { Reads (after_at (drop at s.now)) s.now result }
 {
     if byte_at(s, at) == b'-' {
-        return Number::Is(0, at + 1);
+        return Some((0, at + 1));
     }
-    let n = read_decimal(s, at, ORIGINS);
-    let Number::Is(line, next) = n else {
-        return Number::Bad;
-    };
-    Number::Is(line + 1, next)
+    let (line, next) = read_decimal(s, at, ORIGINS)?;
+    Some((line + 1, next))
 }
 
 // The origin, without the byte that ends its field.
@@ -33,7 +30,7 @@ pub fn read_origin(s: &[u8], at: usize) -> Number
     ensures { Reads (origin (drop at s.now)) s.now result }
 {
     if byte_at(s, at) != b'@' {
-        return Number::Bad;
+        return None;
     }
     read_after_at(s, at + 1)
 }
@@ -42,21 +39,16 @@ pub fn read_origin(s: &[u8], at: usize) -> Number
 pub fn end_line(s: &[u8], n: Number) -> Number
     ensures { Reads (line_end (seen s.now n)) s.now result }
 {
-    let Number::Is(v, next) = n else {
-        return Number::Bad;
-    };
+    let (v, next) = n?;
     let stop = byte_at(s, next);
     if stop == LF {
-        return Number::Is(v, next + 1);
+        return Some((v, next + 1));
     }
     if stop != TAB {
-        return Number::Bad;
+        return None;
     }
-    let field = end_field(s, read_origin(s, next + 1), LF);
-    let Number::Is(_, end) = field else {
-        return Number::Bad;
-    };
-    Number::Is(v, end)
+    let (_, end) = end_field(s, read_origin(s, next + 1), LF)?;
+    Some((v, end))
 }
 
 pub fn origin_length(origin: u64) -> usize

@@ -6,7 +6,7 @@ ghost use Rattle.text.specs.Writing.{in_decimal};
 ghost use Rattle.origins.specs.Fields.{most_origins};
 ghost use Rattle.origins.specs.Standing.{stands_at, told, standing};
 
-use text::reading::{Number, read_decimal};
+use text::reading::read_decimal;
 use text::writing::{write_bytes, write_decimal};
 
 const LF: u8 = 10;
@@ -38,8 +38,7 @@ fn write_told(out: &mut [u8], at: usize, text: &[u8], after: usize, line: u64) -
     requires { (line < 1024) × (at + 55 ≤ length out.old) }
     ensures { Put out.old at (told line (decimal most_origins (drop after text.now))) result out.new × (result ≤ at + 55) }
 {
-    let n = read_decimal(text, after, LINES);
-    let Number::Is(job, _) = n else {
+    let Some((job, _)) = read_decimal(text, after, LINES) else {
         return at;
     };
     write_stands(out, at, job, line)
@@ -53,16 +52,13 @@ pub fn write_standing(out: &mut [u8], at: usize, text: &[u8]) -> usize
     let mut next = at;
     let mut line: u64 = 0;
     let mut passed = false;
-    let mut i: usize = 0;
-    while i < text.len() {
-        let b = text[i];
-        i += 1;
+    for (i, &b) in text.iter().enumerate() {
         if b == LF {
             line += 1;
             passed = false;
         } else if b == b'@' {
             if !passed && line < LINES {
-                next = write_told(out, next, text, i, line);
+                next = write_told(out, next, text, i + 1, line);
             }
             passed = true;
         }

@@ -1,6 +1,7 @@
 -- From outcomes to what is printed and said. Assumes nothing.
 use mathlib.Core.Path.{◌≡◌, refl, sym, ap, subst, ◌∙◌}
 use mathlib.Core.List.{List, []}
+use mathlib.Core.Logic.{◌⊎◌, ⊎_elim}
 use Prim.Native.Nat.{ℕ}
 use native.Mathlib.Omega.{arith}
 use borrow.Author.Tests.{eq-eqb, ne_eqb}
@@ -29,13 +30,17 @@ module _ (why : Refusal) {n : ℕ} (a : n ≡ number_of why) {out out' : List �
 -- ---- an outcome
 
 module _ {outcome : Outcome} {out : List ℕ} where
-  pub prints_bytes : {n : ℕ} → outcome ≡ Outcome.Printed n → Inside out outcome → Prints out outcome n out
+  prints_bytes : {n : ℕ} → outcome ≡ Outcome.Printed n → Inside out outcome → Prints out outcome n out
   unfolding output
   prints_bytes e i = record { bytes = ap (λ o. output (seen out o)) (sym e); within = subst (λ o. Inside out o) e i }
 
-  pub prints_listing : {n calls : ℕ} → outcome ≡ Outcome.Simplified n calls → Inside out outcome → Prints out outcome n out
+  prints_listing : {n calls : ℕ} → outcome ≡ Outcome.Simplified n calls → Inside out outcome → Prints out outcome n out
   unfolding output
   prints_listing e i = record { bytes = ap (λ o. output (seen out o)) (sym e); within = subst (λ o. Inside out o) e i }
+
+  -- either kind of bytes that stand there
+  pub prints_standing : {n : ℕ} → (outcome ≡ Outcome.Printed n) ⊎ ((calls : ℕ) × (outcome ≡ Outcome.Simplified n calls)) → Inside out outcome → Prints out outcome n out
+  prints_standing e i = ⊎_elim (λ p. prints_bytes p i) (λ p. prints_listing p.1 i) e
 
   pub prints_refusal : {why : Refusal} {detail : Detail} {n : ℕ} {out' : List ℕ} → outcome ≡ Outcome.Refused why detail → Line out (refused_text why) n out'
       → Prints out outcome n out'

@@ -53,8 +53,7 @@ fn print(out: &mut [u8], outcome: Outcome) -> usize
     ensures { Prints out.old outcome result out.new }
 {
     match outcome {
-        Outcome::Printed(n) => n,
-        Outcome::Simplified(n, _) => n,
+        Outcome::Printed(n) | Outcome::Simplified(n, _) => n,
         Outcome::Refused(why, _) => print_refusal(out, why),
         Outcome::TooLong => write_refused(out, 0, 0),
     }
@@ -99,10 +98,8 @@ fn bytes_of(outcome: Outcome) -> usize
     ensures { result ≡ bytes_of outcome }
 {
     match outcome {
-        Outcome::Printed(n) => n,
-        Outcome::Simplified(n, _) => n,
-        Outcome::Refused(_, _) => 0,
-        Outcome::TooLong => 0,
+        Outcome::Printed(n) | Outcome::Simplified(n, _) => n,
+        Outcome::Refused(_, _) | Outcome::TooLong => 0,
     }
 }
 

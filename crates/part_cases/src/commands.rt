@@ -8,12 +8,11 @@ use complex::bits::from_bits;
 use expression::node::Expression;
 use expression::{ExpressionFunction, InfixOperator, PrefixOperator};
 use memory::layout::DESK_WORDS;
-use memory::{zero, zero_rows};
 use replay::line::{Line, next_line};
 use replay::lists::{List, MOST};
 use replay::say::{count, word};
 use replay::slices::{is_zero, part};
-use store::desk::{REFUSED, calls_made, refusal_of, set_calls, standing};
+use store::desk::{Refused, calls_made, refusal_of, set_calls, standing};
 
 // With its line feed.
 const LINE: usize = 38;
@@ -41,13 +40,12 @@ fn node_of(line: Line) -> Expression {
     }
 }
 
-// What a command gives. Of a node that was to be added all is said at once; what is recalled is the number of a node plus
-// one, or 0.
+// What a command gives. Of a node that was to be added all is said at once; what is recalled is a node, or none.
 #[derive(Clone, Copy)]
 enum Given {
     Nothing,
     Added,
-    Recalled(usize),
+    Recalled(Option<usize>),
     Compared(bool),
 }
 
@@ -60,19 +58,19 @@ fn add(
     calls: u64,
 ) {
     set_calls(desk, calls);
-    let at = store::add(store, desk, node_of(line));
-    if REFUSED <= at {
-        refused_text(rt, refusal_of(desk, at));
-        return;
+    match store::add(store, desk, node_of(line)) {
+        Ok(at) => {
+            nodes::added(rt, at, standing(desk), calls_made(desk));
+            nodes::read(rt, store, at);
+        }
+        Err(Refused) => refused_text(rt, refusal_of(desk)),
     }
-    nodes::added(rt, at, standing(desk), calls_made(desk));
-    nodes::read(rt, store, at);
 }
 
 // As a call clears what it was lent.
 fn clear(store: &mut [[u64; 4]], desk: &mut [u64; DESK_WORDS]) {
-    zero_rows(store);
-    zero(desk);
+    store.fill([0; 4]);
+    desk.fill(0);
 }
 
 // Obeys a command on what is lent. Every letter but these asks to add a node.
@@ -111,12 +109,13 @@ fn say_obeyed(rt: &impl Print, kind: u8) {
     }
 }
 
-fn say_recalled(rt: &impl Print, answer: usize) {
-    if answer == 0 {
-        word(rt, b"nothing");
-    } else {
-        word(rt, b"result");
-        count(rt, (answer - 1) as u64);
+fn say_recalled(rt: &impl Print, answer: Option<usize>) {
+    match answer {
+        None => word(rt, b"nothing"),
+        Some(node) => {
+            word(rt, b"result");
+            count(rt, node as u64);
+        }
     }
 }
 
@@ -142,15 +141,7 @@ fn say_given(rt: &impl Print, kind: u8, given: Given) {
 fn others(store: &[[u64; 4]; 4096], k: usize) -> u64
     requires { k < 4 }
 {
-    let mut count: u64 = 0;
-    let mut i = 0;
-    while i < 4096 {
-        if store[i][k] != 0 {
-            count += 1;
-        }
-        i += 1;
-    }
-    count
+    store.iter().filter(|row| row[k] != 0).count() as u64
 }
 
 // Says of each of the four words in how many of all rows it is not zero after those that are lent were cleared, and if the
@@ -179,8 +170,7 @@ pub fn run(rt: &impl Print, list: &mut List) {
     let mut store = [[JUNK; 4]; 4096];
     let mut desk = [JUNK; DESK_WORDS];
     let mut rows = 0;
-    let mut calls = 0;
-    while calls < MOST {
+    for calls in 0..MOST {
         let line = next_line(list, LINE);
         if line.is_none() {
             break;
@@ -197,6 +187,5 @@ pub fn run(rt: &impl Print, list: &mut List) {
             say_cleared(rt, &store, &desk);
         }
         say_given(rt, line.kind, given);
-        calls += 1;
     }
 }

@@ -3,35 +3,25 @@
 use super::say::{refused, refused_text};
 use super::texts;
 use super::texts::next;
-use listing::{Listing, Swap, read_listing, swap_of};
+use expression::refusal::Refusal;
+use listing::{Listed, read_listing, swap_of};
 use memory::layout::{DESK_WORDS, TABLE_WORDS};
 use replay::lent::BLANK;
 use replay::line::Line;
 use replay::lists::List;
 use replay::say::{count, word};
-use replay::slices::{is_all, is_same, part_of_bytes};
+use replay::slices::{is_all, is_same, part};
 use store::desk::standing;
-use writing::{Written, write_listing};
+use writing::write_listing;
 
 // What a table holds before it is used for writing.
 const JUNK: u64 = 0xdead_beef_0001_0001;
-
-// No node.
-const NONE: usize = 4096;
 
 fn say_read(rt: &impl Print, nodes: usize, swaps: usize) {
     word(rt, b"read");
     count(rt, nodes as u64);
     count(rt, swaps as u64);
     word(rt, b"\n");
-}
-
-// How many bytes were written, 0 after a refusal.
-fn length_of(answer: Written) -> usize {
-    match answer {
-        Written::Bytes(n) => n,
-        Written::Refused(_) => 0,
-    }
 }
 
 // How much of the output is lent.
@@ -48,15 +38,15 @@ fn say_compared(rt: &impl Print, is_same: bool) {
 }
 
 // Says what was written on a paper, and whether the bytes beside it are as they were before.
-fn say_written(rt: &impl Print, answer: Written, paper: &[u8]) {
-    let n = part_of_bytes(paper, length_of(answer));
+fn say_written(rt: &impl Print, answer: Result<usize, Refusal>, paper: &[u8]) {
+    let n = part(paper, answer.unwrap_or(0));
     word(rt, &paper[..n]);
     match answer {
-        Written::Bytes(length) => {
+        Ok(length) => {
             word(rt, b"wrote");
             count(rt, length as u64);
         }
-        Written::Refused(why) => refused(rt, why),
+        Err(why) => refused(rt, why),
     }
     if is_all(paper, n, BLANK) {
         word(rt, b"\tkept\n");
@@ -75,10 +65,10 @@ fn write(
     paper: &mut [u8],
     room: usize,
 ) -> usize {
-    let lent = part_of_bytes(paper, room);
+    let lent = part(paper, room);
     let answer = write_listing(store, at, table, &mut paper[..lent]);
     say_written(rt, answer, paper);
-    length_of(answer)
+    answer.unwrap_or(0)
 }
 
 // Writes a node with a table of its own, so that the s lines stay where they are.
@@ -89,10 +79,10 @@ fn write_apart(rt: &impl Print, store: &mut [[u64; 4]], at: usize, room: usize) 
 }
 
 // Writes the node that a line asks for, if there is one.
-fn write_swap(rt: &impl Print, found: Swap, store: &mut [[u64; 4]], room: usize) {
+fn write_swap(rt: &impl Print, found: Option<usize>, store: &mut [[u64; 4]], room: usize) {
     match found {
-        Swap::Node(at) => write_apart(rt, store, at, room),
-        Swap::Nothing => word(rt, b"nothing\n"),
+        Some(at) => write_apart(rt, store, at, room),
+        None => word(rt, b"nothing\n"),
     }
 }
 
@@ -106,34 +96,32 @@ fn write_swaps(
     table: &[u64],
     swaps: usize,
 ) {
-    let mut i = 0;
-    while i < asked {
+    for _ in 0..asked {
         let line = next(list);
         let found = swap_of(table, swaps, (line.fields[1] % 65536) as u16);
         write_swap(rt, found, store, room);
-        i += 1;
     }
 }
 
-// Says what was read, and writes what the lines ask for that follow. Answers the root, or none.
+// Says what was read, and writes what the lines ask for that follow. Answers the root, if there is one.
 fn say_listing(
     rt: &impl Print,
     list: &mut List,
     line: Line,
-    answer: Listing,
+    answer: Result<Listed, Refusal>,
     store: &mut [[u64; 4]],
     desk: &[u64; DESK_WORDS],
     table: &[u64],
-) -> usize {
+) -> Option<usize> {
     match answer {
-        Listing::Read { root, swaps } => {
+        Ok(Listed { root, swaps }) => {
             say_read(rt, standing(desk), swaps);
             write_swaps(rt, list, line.fields[4], room_of(line), store, table, swaps);
-            root
+            Some(root)
         }
-        Listing::Refused(why) => {
+        Err(why) => {
             refused_text(rt, why);
-            NONE
+            None
         }
     }
 }
@@ -141,23 +129,23 @@ fn say_listing(
 // Says whether what was read back is written as the bytes that it was read from.
 fn say_same(
     rt: &impl Print,
-    answer: Listing,
+    answer: Result<Listed, Refusal>,
     written: &[u8],
     store: &mut [[u64; 4]],
     table: &mut [u64; TABLE_WORDS],
 ) {
     let mut paper = [BLANK; 40960];
     match answer {
-        Listing::Read { root, swaps: _ } => {
-            let n = length_of(write_listing(store, root, table, &mut paper));
-            let m = part_of_bytes(&paper, n);
+        Ok(listed) => {
+            let n = write_listing(store, listed.root, table, &mut paper).unwrap_or(0);
+            let m = part(&paper, n);
             say_compared(rt, is_same(written, &paper[..m]));
         }
-        Listing::Refused(why) => refused_text(rt, why),
+        Err(why) => refused_text(rt, why),
     }
 }
 
-// Writes the root, if there is one, and reads back what was written, in the same rows.
+// Writes the root and reads back what was written, in the same rows.
 fn write_back(
     rt: &impl Print,
     root: usize,
@@ -166,13 +154,10 @@ fn write_back(
     desk: &mut [u64; DESK_WORDS],
     table: &mut [u64; TABLE_WORDS],
 ) {
-    if NONE <= root {
-        return;
-    }
     let mut paper = [BLANK; 40960];
     let n = write(rt, store, root, table, &mut paper, room);
     if 0 < n {
-        let m = part_of_bytes(&paper, n);
+        let m = part(&paper, n);
         let answer = read_listing(&paper[..m], false, store, desk, table);
         say_same(rt, answer, &paper[..m], store, table);
     }
@@ -189,6 +174,7 @@ pub fn run(
     let mut text = [0u8; 81920];
     let n = texts::read(list, line, &mut text);
     let answer = read_listing(&text[..n], line.kind == b's', store, desk, table);
-    let root = say_listing(rt, list, line, answer, store, desk, table);
-    write_back(rt, root, room_of(line), store, desk, table);
+    if let Some(root) = say_listing(rt, list, line, answer, store, desk, table) {
+        write_back(rt, root, room_of(line), store, desk, table);
+    }
 }

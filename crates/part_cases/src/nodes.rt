@@ -1,7 +1,7 @@
 // What is written of a node: where it stands, and all that is read of it.
 use expression::node::Expression;
 use replay::say::{count, word};
-use replay::slices::part_of_bytes;
+use replay::slices::part;
 use store::reading::{class_at, depth_at, expression_at, size_at};
 use writing::line::{line_length, write_line};
 
@@ -24,7 +24,7 @@ fn line(rt: &impl Print, e: Expression) {
     let mut paper = [0u8; 64];
     let length = line_length(e);
     write_line(&mut paper, 0, e);
-    let n = part_of_bytes(&paper, length);
+    let n = part(&paper, length);
     word(rt, b"\t");
     word(rt, &paper[..n]);
 }

@@ -9,17 +9,17 @@ use memory::layout::TABLE_WORDS;
 use replay::line::Line;
 use replay::lists::List;
 use replay::say::{count, word};
-use sheet::{Counts, Found, FoundRow, Sheet, cell, function_row, read_sheet, variable};
+use sheet::{Counts, cell, function_row, read_sheet, variable};
 
 pub fn run(rt: &impl Print, list: &mut List, line: Line, table: &mut [u64; TABLE_WORDS]) {
     let mut text = [0u8; 81920];
     let n = texts::read(list, line, &mut text);
     match read_sheet(&text[..n], table) {
-        Sheet::Read(counts) => {
+        Ok(counts) => {
             say_read(rt, counts);
             look_up(rt, list, line.fields[4], table, counts);
         }
-        Sheet::Refused(why) => refused_text(rt, why),
+        Err(why) => refused_text(rt, why),
     }
 }
 
@@ -33,14 +33,12 @@ fn say_read(rt: &impl Print, counts: Counts) {
 
 // Answers the lines that ask for values.
 fn look_up(rt: &impl Print, list: &mut List, asked: u64, table: &[u64], counts: Counts) {
-    let mut i = 0;
-    while i < asked {
+    for _ in 0..asked {
         say_found(rt, found(table, counts, next(list)));
-        i += 1;
     }
 }
 
-fn found(table: &[u64], counts: Counts, line: Line) -> Found {
+fn found(table: &[u64], counts: Counts, line: Line) -> Option<Complex> {
     let mark = line.mark;
     let a = line.fields[1];
     let b = line.fields[2];
@@ -63,11 +61,9 @@ fn found(table: &[u64], counts: Counts, line: Line) -> Found {
     }
 }
 
-fn value_in(row: FoundRow) -> Found {
-    match row {
-        FoundRow::At(_, z) => Found::Value(z),
-        FoundRow::Nothing => Found::Nothing,
-    }
+fn value_in(row: Option<(usize, Complex)>) -> Option<Complex> {
+    let (_, z) = row?;
+    Some(z)
 }
 
 fn operation_of(mark: u8) -> Operation {
@@ -80,14 +76,14 @@ fn operation_of(mark: u8) -> Operation {
     }
 }
 
-fn say_found(rt: &impl Print, answer: Found) {
+fn say_found(rt: &impl Print, answer: Option<Complex>) {
     match answer {
-        Found::Value(z) => {
+        Some(z) => {
             word(rt, b"value");
             double(rt, z.re);
             double(rt, z.im);
             word(rt, b"\n");
         }
-        Found::Nothing => word(rt, b"nothing\n"),
+        None => word(rt, b"nothing\n"),
     }
 }

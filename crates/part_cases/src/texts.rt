@@ -51,13 +51,12 @@ pub fn run(rt: &impl Print, list: &mut List) {
     let mut store = [[0; 4]; 4096];
     let mut desk = [0; DESK_WORDS];
     let mut table = [0; TABLE_WORDS];
-    let mut cases = 0;
-    while cases < MOST {
+    for number in 0..MOST {
         let line = next(list);
         if line.is_none() {
-            break;
+            return;
         }
-        say_case(rt, cases);
+        say_case(rt, number);
         if line.mark == b'1' {
             let junk = line.fields[1];
             store = [[junk; 4]; 4096];
@@ -66,6 +65,5 @@ pub fn run(rt: &impl Print, list: &mut List) {
         }
         let rows = part(&store, line.fields[2] as usize);
         run_case(rt, list, line, &mut store[..rows], &mut desk, &mut table);
-        cases += 1;
     }
 }

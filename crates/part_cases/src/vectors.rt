@@ -28,12 +28,8 @@ fn parts(z: Complex) -> [u64; 6] {
     words(to_bits(z.re), to_bits(z.im))
 }
 
-fn flag(yes: bool) -> u64 {
-    if yes { 1 } else { 0 }
-}
-
 fn flags(a: bool, b: bool) -> [u64; 6] {
-    words(flag(a), flag(b))
+    words(u64::from(a), u64::from(b))
 }
 
 // The threshold as the number that has it on the real line.
@@ -54,11 +50,11 @@ fn constant(k: u64) -> Complex {
 
 fn result(op: u8, x: Complex, y: Complex) -> Complex {
     match op {
-        b'+' => complex::add(x, y),
-        b'-' => complex::sub(x, y),
-        b'*' => complex::mul(x, y),
-        b'/' => complex::div(x, y),
-        _ => complex::neg(x),
+        b'+' => x + y,
+        b'-' => x - y,
+        b'*' => x * y,
+        b'/' => x / y,
+        _ => -x,
     }
 }
 
@@ -88,6 +84,7 @@ fn is_right(rt: &impl Print, line: Line) -> bool {
 pub fn run(rt: &(impl Print + Env), list: &mut List, k: usize) {
     let mut count = 0;
     let mut wrong = 0;
+    // No `for`: how many there were is said after the loop, which ends where the list does.
     while count < MOST {
         let line = next_line(list, LINE);
         if line.is_none() {

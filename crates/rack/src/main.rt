@@ -7,7 +7,7 @@ ghost use Rattle.std.specs.Prelude.{◌≡◌, ◌≤◌, length};
 
 use commands::answer;
 use commands::words::{Asked, read_words};
-use console::input::Input;
+use console::input::Unread;
 use console::{input, output};
 use line::gather;
 use opening::{open, say_unopened};
@@ -51,14 +51,13 @@ fn with_file<R: Read>(rt: &HostRuntime, words: &[u8], file: &mut R)
     requires { length words.now ≤ 8192 }
 {
     let mut space = input_room();
-    let read = input::read(file, &mut space);
-    match read {
-        Input::Whole(length) => {
+    match input::read(file, &mut space) {
+        Ok(length) => {
             let n = input::part(&space, length);
             finish(rt, words, &space[..n]);
         }
-        Input::TooLong => finish(rt, words, &space),
-        Input::Failed => input::say_unread(rt),
+        Err(Unread::TooLong) => finish(rt, words, &space),
+        Err(Unread::Failed) => input::say_unread(rt),
     }
 }
 

@@ -6,6 +6,7 @@ use Prim.Native.Nat.{ℕ, ◌≤◌}
 use native.Mathlib.Omega.{arith}
 use lib.Dec.{ltb}
 use lib.ListN.{length, get_or, take, drop}
+use Rattle.std.specs.Prelude.{Result, Ok, Err}
 use Rattle.expression.specs.declared.refusal.Refusal.{Refusal}
 use Rattle.calls.specs.declared.Simplified.{Simplified}
 use Rattle.calls.proofs.OutRoom.{simplify_not_13, simplify_room}
@@ -16,14 +17,14 @@ use Rattle.console.proofs.Refusals.{refused_first, refused_number, refusal_numbe
 use Rattle.reduce.specs.Reducing.{simplified_text, printed, reduction, Reduces}
 
 module _ (room : ℕ) (text out : List ℕ) (n : ℕ) (enough : 36864 ≤ length out) where
-  pub never_out_of_room : (simplified_text room text out n).0 ≡ Simplified.Refused Refusal.OutRoom → ⊥
+  pub never_out_of_room : (simplified_text room text out n).0 ≡ Err Refusal.OutRoom → ⊥
   never_out_of_room = simplify_room room 10 (take n text) (drop 1 (drop n text)) out enough
 
-  printed_other : (at : ℕ) (r : Simplified) → (simplified_text room text out n).0 ≡ r → printed r (simplified_text room text out n).1 ≡ refused_line 13 at → ⊥
+  printed_other : (at : ℕ) (r : Result Simplified Refusal) → (simplified_text room text out n).0 ≡ r → printed r (simplified_text room text out n).1 ≡ refused_line 13 at → ⊥
   unfolding printed
-  printed_other at (Simplified.Bytes bytes calls) e p =
+  printed_other at (Ok a) e p =
       simplified_begins room 10 (take n text) (drop 1 (drop n text)) out e (ap (λ bs. get_or bs 0 0) p ∙ refused_first 13 at)
-  printed_other at (Simplified.Refused why) e p = simplify_not_13 room 10 (take n text) (drop 1 (drop n text)) out enough e (refusal_number why 13 at p)
+  printed_other at (Err why) e p = simplify_not_13 room 10 (take n text) (drop 1 (drop n text)) out enough e (refusal_number why 13 at p)
 
   never_13 : (at : ℕ) → reduction room text out n ≡ refused_line 13 at → ⊥
   unfolding reduction

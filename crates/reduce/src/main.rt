@@ -3,7 +3,7 @@
 
 #![tactic(auto)]
 
-use console::input::Input;
+use console::input::Unread;
 use console::{input, output};
 use reduction::reduce;
 
@@ -21,13 +21,12 @@ fn run(rt: &(impl Print + Eprint), text: &[u8]) {
 
 fn main(rt: HostRuntime) {
     let mut space = [0u8; ROOM];
-    let read = input::read(&mut rt.stdin(), &mut space);
-    match read {
-        Input::Whole(length) => {
+    match input::read(&mut rt.stdin(), &mut space) {
+        Ok(length) => {
             let n = input::part(&space, length);
             run(&rt, &space[..n]);
         }
-        Input::TooLong => run(&rt, &space),
-        Input::Failed => input::say_unread(&rt),
+        Err(Unread::TooLong) => run(&rt, &space),
+        Err(Unread::Failed) => input::say_unread(&rt),
     }
 }

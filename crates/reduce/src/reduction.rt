@@ -7,6 +7,7 @@ ghost use Rattle.reduce.specs.Reducing.{SimplifiesText, Reduces};
 use calls::Simplified;
 use console::input::{listing_length, part, sheet_of};
 use console::line::{write_refusal, write_refused};
+use expression::refusal::Refusal;
 use memory::layout::{DESK_WORDS, TABLE_WORDS};
 
 // The longest input.
@@ -20,7 +21,7 @@ fn simplify_text(
     desk: &mut [u64; DESK_WORDS],
     table: &mut [u64; TABLE_WORDS],
     out: &mut [u8],
-) -> Simplified
+) -> Result<Simplified, Refusal>
     ensures { SimplifiesText text.now (work store.old desk.old table.old) out.old result out.new }
 {
     let n = listing_length(text);
@@ -42,17 +43,10 @@ fn reduce_with(
     if MOST < text.len() {
         return write_refused(out, 0, 0);
     }
-    let answer = simplify_text(text, store, desk, table, out);
-    match answer {
-        Simplified::Bytes { bytes, calls: _ } => part(out, bytes),
-        Simplified::Refused(why) => write_refusal(out, why),
+    match simplify_text(text, store, desk, table, out) {
+        Ok(made) => part(out, made.bytes),
+        Err(why) => write_refusal(out, why),
     }
-}
-
-fn rows_of_the_store() -> [[u64; 4]; 4096]
-    ensures { 4096 ≡ length result }
-{
-    [[0; 4]; 4096]
 }
 
 // How many bytes at the start of the output are to be printed. An output of 65,536 bytes has room for every result.
@@ -61,7 +55,7 @@ pub fn reduce(text: &[u8], out: &mut [u8]) -> usize
     ensures reduces { Reduces 4096 text.now out.old result out.new }
     ensures within { IsPrefixLen result out.new }
 {
-    let mut store = rows_of_the_store();
+    let mut store = [[0; 4]; 4096];
     let mut desk = [0; DESK_WORDS];
     let mut table = [0; TABLE_WORDS];
     reduce_with(text, &mut store, &mut desk, &mut table, out)

@@ -1,13 +1,17 @@
 -- A test at each of the first places, the steps of the judges' loops, and what it means that a judge says yes. Assumes nothing.
 use mathlib.Core.Path.{◌≡◌, refl, sym, ap, ◌∙◌}
-use Prim.Native.Nat.{ℕ, zero, suc, ◌+◌, ◌-◌, ◌%◌, ◌≤◌, ◌<◌, min}
+use Prim.Native.Nat.{ℕ, zero, suc, ◌+◌, ◌%◌, ◌≤◌, ◌<◌, min}
 use mathlib.Core.Bool.{Bool, true, false, not, ◌&&◌}
 use mathlib.Core.List.{List, [], ◌∷◌, map}
 use native.Mathlib.Omega.{arith}
 use native.Mathlib.Decide.{dec_lt}
-use lib.ListN.{length, get_or, take, drop, replicate, length-drop, drop_of_length-le, length-replicate, get_or-replicate}
-use lib.Seq.{get_or-drop, take-length, take_all}
-use lib.Dec.{eqb}
+use lib.ListN.{length, get_or, take, drop, replicate, drop_of_length-le, length-replicate, get_or-replicate}
+use lib.Seq.{take-length, take_all}
+use Rattle.std.proofs.lemmas.List.{get_or-take, length-take-le}
+use lib.Dec.{eqb, compare_is_eq}
+use Prim.Native.Nat.compare
+use lib.Pointwise.{pointwise}
+use Rattle.std.specs.List.{list_all}
 use borrow.Author.Tests.{eqb-true, eq-eqb, ne_eqb, le-leb, lt-leb, not-true, not-false}
 use Rattle.replay.specs.Judges.{every, same, same_up_to, all_are, blank, blank_rows, written, digit_of}
 
@@ -55,77 +59,60 @@ module _ (test : ℕ → Bool) where
   fewer n zero l e = refl
   fewer n (suc k) l e = rw (holds_at n k (omega arith) e, fewer n k (omega arith) e) refl
 
--- ---- `is_zero` and `is_all`
+-- ---- `is_zero`, `is_all` and `is_zero_in`: a test of each element
 
-module _ (x : ℕ) (s : List ℕ) where
-  pub all_more : (i : ℕ) → every (λ k. eqb (get_or s k 0) x) i ≡ true → get_or s i 0 ≡ x → every (λ k. eqb (get_or s k 0) x) (i + 1) ≡ true
-  all_more i e t = one_more_lem (λ k. eqb (get_or s k 0) x) i e (eq-eqb (get_or s i 0) x t)
+and_swap : (a b c : Bool) → a && (b && c) ≡ b && (a && c)
+and_swap true true c = refl
+and_swap true false c = refl
+and_swap false true c = refl
+and_swap false false c = refl
 
-  pub all_no : (i : ℕ) → i < length s → (get_or s i 0 ≡ x → ⊥) → false ≡ all_are x s
-  all_no i l f = sym (fails (λ k. eqb (get_or s k 0) x) (length s) i l (ne_eqb (get_or s i 0) x f))
+-- the first place, and the others
+every_front : (test : ℕ → Bool) (n : ℕ) → every test (suc n) ≡ test 0 && every (λ k. test (suc k)) n
+unfolding every
+every_front test zero = refl
+every_front test (suc n) = ap (λ b. test (suc n) && b) (every_front test n) ∙ and_swap (test (suc n)) (test 0) (every (λ k. test (suc k)) n)
 
-  pub all_yes : (i : ℕ) → length s ≤ i → every (λ k. eqb (get_or s k 0) x) i ≡ true → true ≡ all_are x s
-  all_yes i l e = sym (fewer (λ k. eqb (get_or s k 0) x) i (length s) l e)
+pub listed : {X : Type 0} (p : X → Bool) (d : X) (s : List X) → list_all p s ≡ every (λ k. p (get_or s k d)) (length s)
+unfolding every
+listed p d [] = refl
+listed p d (x ∷ s) = ap (λ b. p x && b) (listed p d s) ∙ sym (every_front (λ k. p (get_or (x ∷ s) k d)) (length s))
 
--- the same from a place on, the place i of a list as place i - from of its rest
-module _ (x : ℕ) (s : List ℕ) (from : ℕ) where
-  at_place : (i : ℕ) → from ≤ i → get_or (drop from s) (i - from) 0 ≡ get_or s i 0
-  at_place i l = let e : from + (i - from) ≡ i = omega arith in get_or-drop from s (i - from) 0 ∙ ap (λ k. get_or s k 0) e
+same_tests : (f g : ℕ → Bool) (n : ℕ) → ((k : ℕ) → k < n → f k ≡ g k) → every f n ≡ every g n
+unfolding every
+same_tests f g zero h = refl
+same_tests f g (suc n) h = rw (h n (omega arith), same_tests f g n λ k l. h k (omega (arith, l))) refl
 
-  pub from_none : every (λ k. eqb (get_or (drop from s) k 0) x) (from - from) ≡ true
-  from_none = let z : from - from ≡ 0 = omega arith in rw z (none_yet (λ k. eqb (get_or (drop from s) k 0) x))
+-- of the first rows, at most all
+pub rows_listed : (n : ℕ) (rows : List (List ℕ)) {most : ℕ} → most ≡ min n (length rows) → list_all blank (take most rows) ≡ blank_rows n rows
+rows_listed n rows {most} e =
+    listed blank [] (take most rows)
+    ∙ ap (every (λ k. blank (get_or (take most rows) k []))) (length-take-le most rows (omega (arith, e)) ∙ e)
+    ∙ same_tests _ _ (min n (length rows)) (λ k l. ap blank (get_or-take most rows k [] (omega (arith, e, l))))
 
-  pub from_more : (i : ℕ) → from ≤ i → every (λ k. eqb (get_or (drop from s) k 0) x) (i - from) ≡ true → get_or s i 0 ≡ x
-      → every (λ k. eqb (get_or (drop from s) k 0) x) (i + 1 - from) ≡ true
-  from_more i l e t = let z : i + 1 - from ≡ i - from + 1 = omega arith in rw z (all_more x (drop from s) (i - from) e (at_place i l ∙ t))
+-- ---- `is_same`, `is_same_answer` and `is_blank`: two lists, element by element
 
-  pub from_no : (i : ℕ) → from ≤ i → i < length s → (get_or s i 0 ≡ x → ⊥) → false ≡ all_are x (drop from s)
-  from_no i l o f = all_no x (drop from s) (i - from) (let d = length-drop from s in omega arith) λ e. f (sym (at_place i l) ∙ e)
+eqb_suc : (m n : ℕ) → eqb (suc m) (suc n) ≡ eqb m n
+eqb_suc m n = ap compare_is_eq (compare.suc-suc m n)
 
-  pub from_yes : (i : ℕ) → length s ≤ i → every (λ k. eqb (get_or (drop from s) k 0) x) (i - from) ≡ true → true ≡ all_are x (drop from s)
-  from_yes i l e = all_yes x (drop from s) (i - from) (let d = length-drop from s in omega arith) e
+pub same_pointwise : (a b : List ℕ) → pointwise eqb a b ≡ same a b
+unfolding every
+same_pointwise [] [] = refl
+same_pointwise [] (y ∷ b) = rw (ne_eqb 0 (suc (length b)) λ p. omega (arith, p)) refl
+same_pointwise (x ∷ a) [] = rw (ne_eqb (suc (length a)) 0 λ p. omega (arith, p)) refl
+same_pointwise (x ∷ a) (y ∷ b) =
+    ap (λ c. eqb x y && c) (same_pointwise a b)
+    ∙ and_swap (eqb x y) (eqb (length a) (length b)) (same_up_to (length a) a b)
+    ∙ ap (λ c. eqb (length a) (length b) && c) (sym (every_front (λ k. eqb (get_or (x ∷ a) k 0) (get_or (y ∷ b) k 0)) (length a)))
+    ∙ ap (λ c. c && every (λ k. eqb (get_or (x ∷ a) k 0) (get_or (y ∷ b) k 0)) (suc (length a))) (sym (eqb_suc (length a) (length b)))
 
--- ---- `is_same` and `is_same_answer`
+pub same_long : (n : ℕ) (a b : List ℕ) → n ≡ length a → n ≡ length b → pointwise eqb a b ≡ same_up_to n a b
+same_long n a b p q = same_pointwise a b ∙ rw (sym p, sym q, eq-eqb n n refl) refl
 
-module _ (a b : List ℕ) where
-  pub same_more : (i : ℕ) → same_up_to i a b ≡ true → get_or a i 0 ≡ get_or b i 0 → same_up_to (i + 1) a b ≡ true
-  same_more i e t = one_more_lem (λ k. eqb (get_or a k 0) (get_or b k 0)) i e (eq-eqb (get_or a i 0) (get_or b i 0) t)
-
-  pub differ : (n i : ℕ) → i < n → (get_or a i 0 ≡ get_or b i 0 → ⊥) → false ≡ same_up_to n a b
-  differ n i l f = sym (fails (λ k. eqb (get_or a k 0) (get_or b k 0)) n i l (ne_eqb (get_or a i 0) (get_or b i 0) f))
-
-  pub agree : (n i : ℕ) → n ≤ i → same_up_to i a b ≡ true → true ≡ same_up_to n a b
-  agree n i l e = sym (fewer (λ k. eqb (get_or a k 0) (get_or b k 0)) i n l e)
-
-  pub same_no_length : (length a ≡ length b → ⊥) → false ≡ same a b
-  same_no_length f = rw (ne_eqb (length a) (length b) f) refl
-
-  pub same_no : (i : ℕ) → i < length a → (get_or a i 0 ≡ get_or b i 0 → ⊥) → false ≡ same a b
-  same_no i l f = rw (← differ (length a) i l f) (sym (no_and (eqb (length a) (length b))))
-
-  pub same_yes : (i : ℕ) → length a ≡ length b → length a ≤ i → same_up_to i a b ≡ true → true ≡ same a b
-  same_yes i q l e = rw (eq-eqb (length a) (length b) q) (agree (length a) i l e)
-
--- ---- `is_blank` and `is_zero_in`
-
-and_true : (b : Bool) → b ≡ b && true
-and_true true = refl
-and_true false = refl
-
-module _ (row : List ℕ) where
-  pub blank_no : (k : ℕ) → k < 4 → (get_or row k 0 ≡ 0 → ⊥) → false ≡ blank row
-  blank_no k l f = sym (fails (λ j. eqb (get_or row j 0) 0) 4 k l (ne_eqb (get_or row k 0) 0 f))
-
-  pub blank_last : get_or row 0 0 ≡ 0 → get_or row 1 0 ≡ 0 → get_or row 2 0 ≡ 0 → eqb (get_or row 3 0) 0 ≡ blank row
-  unfolding every
-  blank_last a b c = rw (eq-eqb (get_or row 0 0) 0 a, eq-eqb (get_or row 1 0) 0 b, eq-eqb (get_or row 2 0) 0 c) (and_true (eqb (get_or row 3 0) 0))
-
-module _ (n : ℕ) (rows : List (List ℕ)) {most : ℕ} (e : most ≡ min n (length rows)) where
-  pub rows_no : (i : ℕ) → i < most → blank (get_or rows i []) ≡ false → false ≡ blank_rows n rows
-  rows_no i l f = sym (fails (λ k. blank (get_or rows k [])) (min n (length rows)) i (omega (arith, l, e)) f)
-
-  pub rows_yes : (i : ℕ) → most ≤ i → every (λ k. blank (get_or rows k [])) i ≡ true → true ≡ blank_rows n rows
-  rows_yes i l h = sym (fewer (λ k. blank (get_or rows k [])) i (min n (length rows)) (omega (arith, l, e)) h)
+pub blank_pointwise : (row : List ℕ) → length row ≡ 4 → pointwise eqb row (replicate 4 0) ≡ blank row
+blank_pointwise row p =
+    same_long 4 row (replicate 4 0) (sym p) refl
+    ∙ same_tests _ (λ k. eqb (get_or row k 0) 0) 4 λ k l. ap (eqb (get_or row k 0)) (get_or-replicate 4 k 0 0 l)
 
 -- ---- `is_clear` and `is_written`: one answer after another, each tested for no
 

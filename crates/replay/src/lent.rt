@@ -3,7 +3,7 @@ ghost use Rattle.std.specs.Prelude.{◌≡◌};
 ghost use Rattle.replay.specs.Judges.{clear, written};
 
 use super::say;
-use super::slices::{is_all, is_same, is_zero, is_zero_in, part_of_bytes};
+use super::slices::{is_all, is_same, is_zero, is_zero_in, part};
 use memory::layout::{DESK_WORDS, TABLE_WORDS};
 
 // What the paper of an output has everywhere before something is written there.
@@ -18,20 +18,14 @@ pub fn is_clear(
 ) -> bool
     ensures { result ≡ clear rows store.now desk.now table.now }
 {
-    if !is_zero_in(store, rows) {
-        return false;
-    }
-    if !is_zero(desk) {
-        return false;
-    }
-    is_zero(table)
+    is_zero_in(store, rows) && is_zero(desk) && is_zero(table)
 }
 
 // Whether a paper begins with the wanted bytes, and the others are blank.
 pub fn is_written(rt: &impl Print, wanted: &[u8], paper: &[u8]) -> bool
     ensures { result ≡ written wanted.now paper.now }
 {
-    let n = part_of_bytes(paper, wanted.len());
+    let n = part(paper, wanted.len());
     if !is_same(wanted, &paper[..n]) {
         say::fault(rt, b"the port has written something else");
         return false;

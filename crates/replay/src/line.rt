@@ -4,10 +4,11 @@ ghost use Rattle.std.specs.Prelude.{◌<◌, ◌≡◌, eqb};
 ghost use Rattle.replay.specs.Judges.{digit_of};
 ghost use Rattle.io.specs.Counts.{IsPrefixLen};
 
-use super::slices::part_of_bytes;
+use super::slices::part;
 use std::io::Read;
 
-// The first two bytes, and the fields by their numbers from 1 on; a field that the line does not have is 0.
+// The first two bytes, and the fields by their numbers from 1 on; a field that the line does not have is 0. No Option where the list has
+// ended: a case that a list cut short asks for is read as zeros, and what is printed of it stays the same.
 #[derive(Clone, Copy)]
 pub struct Line {
     pub kind: u8,
@@ -70,11 +71,9 @@ fn line_of(bytes: &[u8]) -> Line {
     let mark = bytes[1];
     let mut fields = [0; 12];
     let mut k = 0;
-    let mut i = 0;
-    while i < bytes.len() {
-        k = field_after(k, bytes[i]);
-        fields[k] = with_digit(fields[k], bytes[i]);
-        i += 1;
+    for byte in bytes {
+        k = field_after(k, *byte);
+        fields[k] = with_digit(fields[k], *byte);
     }
     Line { kind, mark, fields }
 }
@@ -94,6 +93,7 @@ fn read_full<R: Read>(list: &mut R, text: &mut [u8]) -> usize
     ensures { IsPrefixLen result text.new }
 {
     let mut done = 0;
+    // No `for`: how far it goes on is what a read gave.
     while done < text.len() {
         let n = list.read(&mut text[done..]).unwrap_or(0);
         if n == 0 {
@@ -108,9 +108,9 @@ fn read_full<R: Read>(list: &mut R, text: &mut [u8]) -> usize
 pub fn read_text<R: Read>(list: &mut R, text: &mut [u8], length: usize) -> usize
     ensures { IsPrefixLen result text.new }
 {
-    let most = part_of_bytes(text, length);
+    let most = part(text, length);
     let n = read_full(list, &mut text[..most]);
-    part_of_bytes(text, n)
+    part(text, n)
 }
 
 #[cfg(test)]
@@ -118,7 +118,8 @@ mod tests {
     use super::*;
     use std::io;
 
-    // Gives one byte a call. The call after `whole` of them fails, and those after it go on.
+    // Gives one byte a call. The call after `whole` of them fails, and those after it go on. `console` tests with the same reader: no crate
+    // of this repository stands below both, and a test's helper is not exported.
     #[derive(Drop)]
     struct Broken {
         calls: usize,

@@ -43,14 +43,7 @@ fn answer(rt: &impl Print, whose: &[u8], words: &[u64; 6]) {
 fn is_same_answer(a: &[u64; 6], b: &[u64; 6]) -> bool
     ensures { result ≡ same_up_to 6 a.now b.now }
 {
-    let mut i = 0;
-    while i < 6 {
-        if a[i] != b[i] {
-            return false;
-        }
-        i += 1;
-    }
-    true
+    a == b
 }
 
 // Whether an answer is the wanted one; prints both if it is not. `whose` is the one that it was wanted from.

@@ -1,8 +1,6 @@
 -- Which line of the table a refusal has. Assumes nothing.
-use mathlib.Core.Path.{◌≡◌, refl, sym, ap, ◌∙◌}
-use mathlib.Core.Bool.{cond}
-use Prim.Native.Nat.{ℕ, zero, suc}
-use lib.Dec.{eqb}
+use mathlib.Core.Path.{◌≡◌, sym, ap, ◌∙◌}
+use Prim.Native.Nat.{ℕ}
 use denote.Enum.Declared.{tag_of}
 use types.Run.{OneOf}
 use Rattle.complex.specs.declared.Complex.{Complex}
@@ -13,17 +11,11 @@ use Rattle.expression.proofs.Carrying.{others, is_placed}
 use Rattle.expression.specs.Refusals.{number_of, place_of, carries, place}
 use Rattle.faults.specs.declared.Fault.{Fault}
 use Rattle.lacks.specs.declared.Missing.{Missing}
+use Rattle.std.specs.Prelude.{Option}
 use Rattle.sentences.specs.declared.Detail.{Detail}
 use Rattle.sentences.specs.declared.Entry.{Entry}
 use Rattle.sentences.specs.Sentences.{from_one}
 use Rattle.sentences.specs.Table.{of, need_line, placed_line, plain_line, fault_line, missing_entry, entry}
-
-pub at_zero : {k : ℕ} (number : ℕ) → k ≡ 0 → cond (eqb number 2) 42 (cond (eqb number 15) 43 number) ≡ placed_line number k
-at_zero number e = ap (placed_line number) (sym e)
-
-pub not_zero : (number k : ℕ) → (k ≡ 0 → ⊥) → number ≡ placed_line number k
-not_zero number zero n = absurd (n refl)
-not_zero number (suc k) n = refl
 
 pub by_place : (why : Refusal) {r n p : ℕ} → OneOf others (tag_of the_type why) → r ≡ placed_line n p → n ≡ number_of why → p ≡ place_of why
     → r ≡ plain_line (number_of why) (carries why)
@@ -43,7 +35,7 @@ module _ (why : Refusal) {detail : Detail} where
       → of l f 0 ≡ entry why detail
   entry_fault {fault} told n e q o = (λ i. of ((e ∙ ap (λ k. fault_line k fault) n) i) ((o ∙ ap from_one q) i) 0) ∙ ap (entry why) (sym told)
 
-  pub entry_missing : {missing : Missing} {r : Entry} → detail ≡ Detail.Missing missing → r ≡ missing_entry missing → r ≡ entry why detail
+  pub entry_missing : {missing : Option Missing} {r : Entry} → detail ≡ Detail.Missing missing → r ≡ missing_entry missing → r ≡ entry why detail
   entry_missing told e = e ∙ ap (entry why) (sym told)
 
   pub entry_sheet : {p f : ℕ} → detail ≡ Detail.Sheet → p ≡ place_of why → f ≡ from_one p → of 46 f 0 ≡ entry why detail

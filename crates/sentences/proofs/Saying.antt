@@ -11,6 +11,7 @@ use Rattle.expression.specs.Refusals.{number_of, place_of}
 use Rattle.faults.specs.declared.Fault.{Fault}
 use Rattle.faults.specs.Faulting.{after_line, from_line}
 use Rattle.lacks.specs.declared.Missing.{Missing}
+use Rattle.std.specs.Prelude.{Option, Some, None}
 use Rattle.console.proofs.Lines.{Line}
 use Rattle.sentences.specs.declared.Detail.{Detail}
 use Rattle.sentences.specs.declared.Entry.{Entry}
@@ -81,11 +82,11 @@ says_fault : (listing : Bool) (place : ℕ) (fault : Fault)
 says_fault true place fault = says_listing place fault
 says_fault false place fault = says_sheet place fault
 
-says_missing : (missing : Missing) → says (missing_entry missing) ≡ missing_sentence missing
+says_missing : (missing : Option Missing) → says (missing_entry missing) ≡ missing_sentence missing
 unfolding filled from_line after_line missing_sentence
-says_missing Missing.Nothing = refl
-says_missing (Missing.Variable v) = refl
-says_missing (Missing.Cell region index) = refl
+says_missing None = refl
+says_missing (Some (Missing.Variable v)) = refl
+says_missing (Some (Missing.Cell region index)) = refl
 
 says_no_sheet : (why : Refusal) → says (entry why Detail.Sheet) ≡ sentence why Detail.Sheet
 unfolding filled from_line after_line sentence

@@ -1,5 +1,5 @@
 -- What is said on standard error: which sentence belongs to which refusal. Lines and steps count from 1 there. Definitions only.
-use Rattle.std.specs.Prelude.{ℕ, zero, suc, List, ◌++◌, Bool, cond, ltb, eqb}
+use Rattle.std.specs.Prelude.{ℕ, Option, Some, None, zero, suc, List, ◌++◌, Bool, cond, ltb, eqb}
 use Rattle.expression.specs.declared.refusal.Operation.{Operation}
 use Rattle.expression.specs.declared.refusal.Refusal.{Refusal}
 use Rattle.expression.specs.Refusals.{number_of, place_of}
@@ -82,10 +82,10 @@ sheet_sentence line Fault.NoLine = placed (bytes "The sheet's line ") line (byte
 
 -- ---- of 10, what the sheet does not bind; and where an empty line stands in a text that is a listing alone, that no sheet is taken
 
-unfoldable pub missing_sentence : Missing → List ℕ
-missing_sentence Missing.Nothing = bytes "The sheet does not bind every variable and memory cell that the expression has.\n"
-missing_sentence (Missing.Variable v) = numbered (bytes "The sheet does not bind variable ") v (bytes ".\n")
-missing_sentence (Missing.Cell region index) = numbered (bytes "The sheet does not bind the memory cell of region ") region (numbered (bytes " and index ") index (bytes ".\n"))
+unfoldable pub missing_sentence : Option Missing → List ℕ
+missing_sentence None = bytes "The sheet does not bind every variable and memory cell that the expression has.\n"
+missing_sentence (Some (Missing.Variable v)) = numbered (bytes "The sheet does not bind variable ") v (bytes ".\n")
+missing_sentence (Some (Missing.Cell region index)) = numbered (bytes "The sheet does not bind the memory cell of region ") region (numbered (bytes " and index ") index (bytes ".\n"))
 
 unfoldable pub sentence : Refusal → Detail → List ℕ
 sentence why Detail.Plain = plain_sentence why

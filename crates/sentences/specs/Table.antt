@@ -1,5 +1,5 @@
 -- The sentences as the code keeps them: a text of lines, with % for a first number and & for a second. Only connecting.
-use Rattle.std.specs.Prelude.{ℕ, zero, suc, ◌+◌, List, [], ◌∷◌, ◌++◌, cond, eqb}
+use Rattle.std.specs.Prelude.{ℕ, Option, Some, None, zero, suc, ◌+◌, List, [], ◌∷◌, ◌++◌, cond, eqb}
 use Rattle.expression.specs.declared.refusal.Refusal.{Refusal}
 use Rattle.expression.specs.declared.refusal.Operation.{Operation}
 use Rattle.expression.specs.Refusals.{number_of, Carried, place, lacking, carries, place_of}
@@ -102,10 +102,10 @@ fault_code Fault.Order = 4
 fault_code Fault.NoLineFeed = 5
 fault_code Fault.NoLine = 6
 
-abbrev pub missing_entry : Missing → Entry
-missing_entry Missing.Nothing = of 10 0 0
-missing_entry (Missing.Variable v) = of 35 v 0
-missing_entry (Missing.Cell region index) = of 36 region index
+abbrev pub missing_entry : Option Missing → Entry
+missing_entry None = of 10 0 0
+missing_entry (Some (Missing.Variable v)) = of 35 v 0
+missing_entry (Some (Missing.Cell region index)) = of 36 region index
 
 abbrev pub fault_line : (number : ℕ) → Fault → ℕ
 fault_line number fault = cond (eqb number 1) 21 28 + fault_code fault

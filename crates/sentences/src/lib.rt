@@ -22,7 +22,7 @@ const LF: u8 = b'\n';
 pub enum Detail {
     Plain,
     Fault(Fault),
-    Missing(Missing),
+    Missing(Option<Missing>),
     Sheet,
 }
 
@@ -38,26 +38,18 @@ struct Entry {
 fn from_one(place: u64) -> u64
     ensures { result ≡ from_one place }
 {
-    if place < 18_446_744_073_709_551_615 {
-        place + 1
-    } else {
-        place
-    }
+    place.saturating_add(1)
 }
 
 // Of 2 and 15 the place 0 has a sentence of its own.
 fn placed_line(number: u64, place: u64) -> u64
     ensures { result ≡ placed_line number place }
 {
-    if place == 0 {
-        if number == 2 {
-            return 42;
-        }
-        if number == 15 {
-            return 43;
-        }
+    match (number, place) {
+        (2, 0) => 42,
+        (15, 0) => 43,
+        _ => number,
     }
-    number
 }
 
 fn need_line(operation: Operation) -> u64
@@ -98,27 +90,25 @@ fn fault_code(fault: Fault) -> u64
 fn fault_line(number: u64, fault: Fault) -> u64
     ensures { result ≡ fault_line number fault }
 {
-    if number == 1 {
-        return 21 + fault_code(fault);
-    }
-    28 + fault_code(fault)
+    let first = if number == 1 { 21 } else { 28 };
+    first + fault_code(fault)
 }
 
-fn missing_entry(missing: Missing) -> Entry
+fn missing_entry(missing: Option<Missing>) -> Entry
     ensures { result ≡ missing_entry missing }
 {
     match missing {
-        Missing::Nothing => Entry {
+        None => Entry {
             line: 10,
             first: 0,
             second: 0,
         },
-        Missing::Variable(v) => Entry {
+        Some(Missing::Variable(v)) => Entry {
             line: 35,
             first: v as u64,
             second: 0,
         },
-        Missing::Cell(region, index) => Entry {
+        Some(Missing::Cell(region, index)) => Entry {
             line: 36,
             first: region as u64,
             second: index as u64,
@@ -154,13 +144,11 @@ fn write_piece(out: &mut [u8], at: usize, b: u8, first: u64, second: u64) -> usi
     requires { at + 20 ≤ length out.old }
     ensures { Put out.old at (piece first second b) result out.new × (result ≤ at + 20) }
 {
-    if b == b'%' {
-        return write_decimal(out, at, first);
+    match b {
+        b'%' => write_decimal(out, at, first),
+        b'&' => write_decimal(out, at, second),
+        _ => write_byte(out, at, b),
     }
-    if b == b'&' {
-        return write_decimal(out, at, second);
-    }
-    write_byte(out, at, b)
 }
 
 // The line of a table that begins at a place, to its end.
@@ -169,14 +157,13 @@ fn write_line(out: &mut [u8], table: &[u8], from: usize, first: u64, second: u64
     ensures put { Put out.old 0 (filled first second (drop from table.now)) result out.new }
     ensures within { IsPrefixLen result out.new }
 {
-    let mut i = from;
     let mut at: usize = 0;
-    while i < table.len() {
+    // By places, since `from` may be past the end: the definition then fills nothing.
+    for i in from..table.len() {
         at = write_piece(out, at, table[i], first, second);
         if table[i] == LF {
             return at;
         }
-        i += 1;
     }
     at
 }

@@ -1,13 +1,15 @@
 -- A function value more, with its entry in the index: what `put_row` leaves. Assumes nothing.
-use mathlib.Core.Path.{◌≡◌, sym, ap, ◌∙◌, subst}
+use mathlib.Core.Bool.{true, false, true≢false, false≢true}
+use mathlib.Core.Path.{◌≡◌, refl, sym, ap, ◌∙◌, subst}
 use mathlib.Core.List.{List}
 use Prim.Native.Nat.{ℕ, ◌+◌, ◌*◌, ◌%◌, ◌≤◌, ◌<◌}
 use native.Mathlib.Omega.{arith}
 use native.Mathlib.Decide.{dec_lt, ℕ_discrete}
 use lib.ListN.{length, get_or, set}
 use lib.Seq.{get_or-set_same, get_or-set_other}
+use Rattle.std.specs.Prelude.{Option, Some, None, is_some}
 use Rattle.expression.specs.Codes.{operation_of}
-use Rattle.memory.specs.Keys.{First}
+use Rattle.memory.specs.Keys.{FirstOf}
 use Rattle.memory.specs.Layout.{table_words, functions_from}
 use Rattle.sheet.specs.declared.fields.Words.{Words}
 use Rattle.sheet.specs.Seen.{number_of}
@@ -98,20 +100,20 @@ module _ (t : List ℕ) (b head : ℕ) where
 alike_then : {t t' t'' : List ℕ} {j : ℕ} → Alike t t' j → Alike t' t'' j → Alike t t'' j
 alike_then p q = record { low = q.low ∙ p.low; rest = λ i l m. q.rest i l m ∙ p.rest i l m }
 
-module _ {t t' : List ℕ} {n name next b : ℕ} {x y z : Words} (w : Written t t' n name next b x y z) (s : ℕ)
-    (f : Indexed t n → First (row_matches t name (canonical_words x) (canonical_words y)) n s) where
+module _ {t t' : List ℕ} {n name next b : ℕ} {x y z : Words} (w : Written t t' n name next b x y z) where
   -- a row with its name and operands stands
-  stands_entered : s < n → Entered t t' n name x y z
-  stands_entered l = record {
+  stands_entered : (s : ℕ) → (Indexed t n → FirstOf (row_matches t name (canonical_words x) (canonical_words y)) n (Some s)) → Entered t t' n name x y z
+  stands_entered s f = record {
     outside = w.outside;
     kept = w.kept;
     there = w.there;
     comparable = w.comparable;
-    indexed = λ h. stands_indexed h w.kept w.owns s l ((f h).hit l) w.heads;
+    indexed = λ h. stands_indexed h w.kept w.owns s (f h).0 ((f h).1.hit (f h).0) w.heads;
   }
 
   -- none does, and the new one is the head of its bucket
-  module _ (few : n < 256) (room : table_words ≤ length t) (small : b < 256) (q : b ≡ bucket_of name (canonical_words x) (canonical_words y)) (u : next ≡ head_for t n b) where
+  module _ (few : n < 256) (room : table_words ≤ length t) (small : b < 256) (q : b ≡ bucket_of name (canonical_words x) (canonical_words y)) (u : next ≡ head_for t n b)
+      (f : Indexed t n → FirstOf (row_matches t name (canonical_words x) (canonical_words y)) n None) where
     place : 7 * b + functions_from < length t'
     place = omega (arith, w.long)
 
@@ -133,9 +135,9 @@ module _ {t t' : List ℕ} {n name next b : ℕ} {x y z : Words} (w : Written t 
     unfolding new
     new_head = entry_head t' b (n + 1) place (omega arith)
 
-    new_indexed : n ≤ s → Indexed t n → Indexed new (n + 1)
-    new_indexed l h =
-        fresh_indexed h (λ j k. alike_then (w.kept j k) (alike j)) new_owns (λ j k. (f h).before j (omega arith)) (λ c a. new_others c λ e. a (e ∙ q)) (rw (sym q) new_head)
+    new_indexed : Indexed t n → Indexed new (n + 1)
+    new_indexed h =
+        fresh_indexed h (λ j k. alike_then (w.kept j k) (alike j)) new_owns (f h) (λ c a. new_others c λ e. a (e ∙ q)) (rw (sym q) new_head)
         (same_home (alike n) ∙ w.home_is ∙ q)
         (same_next (alike n) ∙ w.next_is ∙ u ∙ ap (λ c. head_for t n c) q)
 
@@ -143,30 +145,39 @@ module _ {t t' : List ℕ} {n name next b : ℕ} {x y z : Words} (w : Written t 
     unfolding new
     new_outside = set_outside t' (7 * b + functions_from) (headed (word_at t' b) (n + 1)) functions_from table_words (omega arith) (omega arith)
 
-    fresh_entered : n ≤ s → Entered t (set t' (7 * b + functions_from) (headed (word_at t' b) (n + 1))) n name x y z
+    fresh_entered : Entered t (set t' (7 * b + functions_from) (headed (word_at t' b) (n + 1))) n name x y z
     unfolding new
-    fresh_entered l = record {
+    fresh_entered = record {
       outside = then_outside w.outside new_outside;
       kept = λ j k. alike_then (w.kept j k) (alike j);
       there = same_row (alike n) ∙ w.there;
       comparable = same_comparable (alike n) w.comparable;
-      indexed = new_indexed l;
+      indexed = new_indexed;
     }
 
 -- ---- what `put_row` does
 
-module _ (t : List ℕ) (n name next b s : ℕ) (x y z : Words) (few : n < 256) (room : table_words ≤ length t) (named : (0 < name) × (name < 6)) (small : b < 256)
-    (q : b ≡ bucket_of name (canonical_words x) (canonical_words y)) (u : next ≡ head_for t n b)
-    (f : Indexed t n → next ≡ head_for t n (bucket_of name (canonical_words x) (canonical_words y)) → First (row_matches t name (canonical_words x) (canonical_words y)) n s) where
-  found : Indexed t n → First (row_matches t name (canonical_words x) (canonical_words y)) n s
+module _ (t : List ℕ) (n name next b : ℕ) (x y z : Words) (few : n < 256) (room : table_words ≤ length t) (named : (0 < name) × (name < 6)) (small : b < 256)
+    (q : b ≡ bucket_of name (canonical_words x) (canonical_words y)) (u : next ≡ head_for t n b) (stands : Option ℕ)
+    (f : Indexed t n → next ≡ head_for t n (bucket_of name (canonical_words x) (canonical_words y)) → FirstOf (row_matches t name (canonical_words x) (canonical_words y)) n stands) where
+  found : Indexed t n → FirstOf (row_matches t name (canonical_words x) (canonical_words y)) n stands
   found h = f h (u ∙ ap (λ c. head_for t n c) q)
 
   row_written : Written t (with_row t n (linked (word_at t n) name next b) x y z) n name next b x y z
   row_written = written t n name next b x y z (omega arith) few named (omega (arith, head_within t n b u)) small
 
-  pub put_stands : s < n → Entered t (with_row t n (linked (word_at t n) name next b) x y z) n name x y z
-  put_stands l = stands_entered row_written s found l
+  pub put_stands : is_some stands ≡ true → Entered t (with_row t n (linked (word_at t n) name next b) x y z) n name x y z
+  put_stands e = go stands refl e
+    where
+      go : (r : Option ℕ) → stands ≡ r → is_some r ≡ true → Entered t (with_row t n (linked (word_at t n) name next b) x y z) n name x y z
+      go (Some s) i e = stands_entered row_written s λ h. rw i at (found h)
+      go None i e = absurd (false≢true e)
 
-  pub put_fresh : n ≤ s
+  pub put_fresh : is_some stands ≡ false
       → Entered t (set (with_row t n (linked (word_at t n) name next b) x y z) (7 * b + functions_from) (headed (word_at (with_row t n (linked (word_at t n) name next b) x y z) b) (n + 1))) n name x y z
-  put_fresh l = fresh_entered row_written s found few room small q u l
+  put_fresh e = go stands refl e
+    where
+      go : (r : Option ℕ) → stands ≡ r → is_some r ≡ false
+          → Entered t (set (with_row t n (linked (word_at t n) name next b) x y z) (7 * b + functions_from) (headed (word_at (with_row t n (linked (word_at t n) name next b) x y z) b) (n + 1))) n name x y z
+      go None i e = fresh_entered row_written few room small q u λ h. rw i at (found h)
+      go (Some s) i e = absurd (true≢false e)

@@ -2,7 +2,7 @@
 use mathlib.Core.Path.{◌≡◌, refl, sym, ap, ◌∙◌}
 use mathlib.Core.List.{List, [], ◌∷◌}
 use mathlib.Core.Bool.{Bool, true, false, ◌&&◌}
-use Prim.Native.Nat.{ℕ, zero, suc, ◌+◌, ◌*◌, ◌/◌, ◌%◌, ◌≤◌, ◌<◌}
+use Prim.Native.Nat.{ℕ, zero, suc, ◌+◌, ◌*◌, ◌/◌, ◌%◌, ◌<◌}
 use native.Mathlib.Omega.{arith}
 use native.Mathlib.Decide.{ℕ_discrete}
 use lib.ListN.{get_or}
@@ -12,7 +12,8 @@ use Rattle.complex.specs.declared.Complex.{Complex}
 use Rattle.complex.specs.Bits.{bits_of, double_of}
 use Rattle.complex.proofs.Doubles.{bits_back}
 use Rattle.expression.specs.declared.refusal.Operation.{Operation}
-use Rattle.memory.specs.Keys.{up_to, key_at, First, holds}
+use Rattle.std.specs.Prelude.{Some, None}
+use Rattle.memory.specs.Keys.{up_to, key_at, FirstOf, holds}
 use Rattle.memory.proofs.Values.{first, first_found, first_missing_lem}
 use Rattle.memory.specs.Layout.{cells_from, functions_from}
 use Rattle.sheet.specs.declared.Counts.{Counts}
@@ -87,35 +88,37 @@ row_test t o x y j c =
 
 -- ---- what a search found
 
-module _ (t : List ℕ) (n : Counts) (h : Held t n) (r : ℕ) where
-  module _ (k : ℕ) (s : First (holds (key_at t 0 3) k) n.variables r) where
-    pub variable_found : r < n.variables → found (number_at t (3 * r + 1)) ≡ value_of k (up_to n.variables (variable_at t))
+module _ (t : List ℕ) (n : Counts) (h : Held t n) where
+  module _ (k : ℕ) where
+    pub variable_found : (r : ℕ) → FirstOf (holds (key_at t 0 3) k) n.variables (Some r) → found (number_at t (3 * r + 1)) ≡ value_of k (up_to n.variables (variable_at t))
     unfolding named valued
-    variable_found l = first_found (named k) valued missing n.variables (variable_at t) r l (ap (eqb k) (sym (plain_key t r)) ∙ s.hit l) (λ j m. ap (eqb k) (sym (plain_key t j)) ∙ s.before j m) ∙ values_first k _
+    variable_found r s = first_found (named k) valued missing n.variables (variable_at t) r s.0 (ap (eqb k) (sym (plain_key t r)) ∙ s.1.hit s.0) (λ j m. ap (eqb k) (sym (plain_key t j)) ∙ s.1.before j m) ∙ values_first k _
 
-    pub variable_missing : n.variables ≤ r → missing ≡ value_of k (up_to n.variables (variable_at t))
+    pub variable_missing : FirstOf (holds (key_at t 0 3) k) n.variables None → missing ≡ value_of k (up_to n.variables (variable_at t))
     unfolding named
-    variable_missing l = first_missing_lem (named k) valued missing n.variables (variable_at t) (λ j m. ap (eqb k) (sym (plain_key t j)) ∙ s.before j (omega arith)) ∙ values_first k _
+    variable_missing s = first_missing_lem (named k) valued missing n.variables (variable_at t) (λ j m. ap (eqb k) (sym (plain_key t j)) ∙ s j m) ∙ values_first k _
 
-  module _ (region index : ℕ) (small : index < 4294967296) (s : First (holds (key_at t cells_from 2) (region * 4294967296 + index)) n.cells r) where
-    pub cell_found : r < n.cells → found (record { re = double_of (get_or t (2 * r + cells_from + 1) 0); im = double_of 0 }) ≡ cell_value region index (up_to n.cells (cell_at t))
+  module _ (region index : ℕ) (small : index < 4294967296) where
+    pub cell_found : (r : ℕ) → FirstOf (holds (key_at t cells_from 2) (region * 4294967296 + index)) n.cells (Some r)
+        → found (record { re = double_of (get_or t (2 * r + cells_from + 1) 0); im = double_of 0 }) ≡ cell_value region index (up_to n.cells (cell_at t))
     unfolding placed real_of
-    cell_found l =
-        first_found (placed region index) real_of missing n.cells (cell_at t) r l (sym (pair_key_lem region index (get_or t (2 * r + cells_from) 0) small) ∙ s.hit l)
-        (λ j m. sym (pair_key_lem region index (get_or t (2 * j + cells_from) 0) small) ∙ s.before j m) ∙ cells_first region index _
+    cell_found r s =
+        first_found (placed region index) real_of missing n.cells (cell_at t) r s.0 (sym (pair_key_lem region index (get_or t (2 * r + cells_from) 0) small) ∙ s.1.hit s.0)
+        (λ j m. sym (pair_key_lem region index (get_or t (2 * j + cells_from) 0) small) ∙ s.1.before j m) ∙ cells_first region index _
 
-    pub cell_missing : n.cells ≤ r → missing ≡ cell_value region index (up_to n.cells (cell_at t))
+    pub cell_missing : FirstOf (holds (key_at t cells_from 2) (region * 4294967296 + index)) n.cells None → missing ≡ cell_value region index (up_to n.cells (cell_at t))
     unfolding placed
-    cell_missing l =
-        first_missing_lem (placed region index) real_of missing n.cells (cell_at t) (λ j m. sym (pair_key_lem region index (get_or t (2 * j + cells_from) 0) small) ∙ s.before j (omega arith))
+    cell_missing s =
+        first_missing_lem (placed region index) real_of missing n.cells (cell_at t) (λ j m. sym (pair_key_lem region index (get_or t (2 * j + cells_from) 0) small) ∙ s j m)
         ∙ cells_first region index _
 
-  module _ (o : Operation) (x y : Complex) (s : First (row_matches t (operation_code o) (words_of x) (words_of y)) n.functions r) where
-    pub row_found : r < n.functions → at r (number_at t (7 * r + functions_from + 5)) ≡ function_row o x y (up_to n.functions (row_at t))
+  module _ (o : Operation) (x y : Complex) where
+    pub row_found : (r : ℕ) → FirstOf (row_matches t (operation_code o) (words_of x) (words_of y)) n.functions (Some r)
+        → at r (number_at t (7 * r + functions_from + 5)) ≡ function_row o x y (up_to n.functions (row_at t))
     unfolding value_in
-    row_found l =
-        row_first o x y n.functions (row_at t) 0 r r (omega arith) l (sym (row_test t o x y r (h.operands r l)) ∙ s.hit l)
-        (λ j m. sym (row_test t o x y j (h.operands j (omega arith))) ∙ s.before j m)
+    row_found r s =
+        row_first o x y n.functions (row_at t) 0 r r (omega arith) s.0 (sym (row_test t o x y r (h.operands r s.0)) ∙ s.1.hit s.0)
+        (λ j m. sym (row_test t o x y j (h.operands j (omega (arith, s.0)))) ∙ s.1.before j m)
 
-    pub row_missing : n.functions ≤ r → nowhere ≡ function_row o x y (up_to n.functions (row_at t))
-    row_missing l = row_nowhere o x y n.functions (row_at t) 0 λ j m. sym (row_test t o x y j (h.operands j m)) ∙ s.before j (omega arith)
+    pub row_missing : FirstOf (row_matches t (operation_code o) (words_of x) (words_of y)) n.functions None → nowhere ≡ function_row o x y (up_to n.functions (row_at t))
+    row_missing s = row_nowhere o x y n.functions (row_at t) 0 λ j m. sym (row_test t o x y j (h.operands j m)) ∙ s j m

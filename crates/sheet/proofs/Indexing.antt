@@ -82,11 +82,11 @@ module _ (n h o b : ℕ) where
   unfolding counting
   counting_past l = rw (lt-ltb n h l) refl
 
-  pub counting_home : h ≤ n → o ≡ b → h ≡ counting n h o b
+  counting_home : h ≤ n → o ≡ b → h ≡ counting n h o b
   unfolding counting
   counting_home l e = rw (le-ltb n h l, eq-eqb o b e) refl
 
-  pub counting_elsewhere : h ≤ n → (o ≡ b → ⊥) → ◌≡◌ {A = ℕ} 0 (counting n h o b)
+  counting_elsewhere : h ≤ n → (o ≡ b → ⊥) → ◌≡◌ {A = ℕ} 0 (counting n h o b)
   unfolding counting
   counting_elsewhere l e = rw (le-ltb n h l, ne_eqb o b e) refl
 
@@ -98,6 +98,17 @@ module _ (n h o b : ℕ) where
       go true x d y q = absurd (q refl)
       go false x true y q = (omega (arith, q), ltb-false n h x, eqb-true o b y)
       go false x false y q = absurd (q refl)
+
+-- the head is row j
+module _ (t : List ℕ) (n b j : ℕ) (e : j + 1 ≡ head_in (word_at t b)) (l : j < n) where
+  head_row : head_in (word_at t b) - 1 ≡ j
+  head_row = omega (arith, e)
+
+  pub head_home : home_in (word_at t j) ≡ b → j + 1 ≡ head_for t n b
+  head_home o = e ∙ counting_home n _ _ b (omega (arith, e)) (rw head_row o)
+
+  pub head_elsewhere : (home_in (word_at t j) ≡ b → ⊥) → ◌≡◌ {A = ℕ} 0 (head_for t n b)
+  head_elsewhere o = counting_elsewhere n _ _ b (omega (arith, e)) (rw head_row o)
 
 pub head_within : (t : List ℕ) (n b : ℕ) {r : ℕ} → r ≡ head_for t n b → r ≤ n
 head_within t n b e = rw e (counting_within n _ _ b)

@@ -1,10 +1,12 @@
 -- Two answers that the contract of `read_sheet` allows are equal, and so are two that those of the look-ups, of a line and of its fields allow.
 -- Assumes nothing.
+use Rattle.std.specs.Prelude.{Option, Some, None}
 use mathlib.Core.Path.{◌≡◌, refl, sym, ap, ◌∙◌, subst}
 use mathlib.Core.List.{List}
 use Prim.Native.Nat.{ℕ}
 use native.Mathlib.Omega.{arith}
 use lib.ListN.{length}
+use Rattle.std.specs.Prelude.{Option, Some, None, Result, Ok, Err}
 use Rattle.complex.specs.declared.Complex.{Complex}
 use Rattle.complex.specs.Bits.{double_of}
 use Rattle.expression.specs.declared.refusal.Refusal.{Refusal}
@@ -16,14 +18,11 @@ use Rattle.text.proofs.Only.{never}
 use Rattle.text.proofs.OneAnswer.{one_place}
 use Rattle.memory.proofs.Values.{length_up_to}
 use Rattle.sheet.specs.declared.Counts.{Counts}
-use Rattle.sheet.specs.declared.Sheet.{Sheet}
-use Rattle.sheet.specs.declared.Found.{Found}
-use Rattle.sheet.specs.declared.FoundRow.{FoundRow}
 use Rattle.sheet.specs.declared.fields.VariableFields.{VariableFields}
 use Rattle.sheet.specs.declared.fields.CellFields.{CellFields}
 use Rattle.sheet.specs.declared.fields.RowFields.{RowFields}
-use Rattle.sheet.specs.declared.lines.Step.{Step}
 use Rattle.sheet.specs.Rows.{Variable, Cell, Row, Rows, Lookup, found, missing, Numbered, at, nowhere, sheet}
+use Rattle.sheet.specs.Index.{link_of}
 use Rattle.sheet.specs.Seen.{number_of, seen_variable, seen_cell, seen_row, small_cell, small_row, VariableInside, CellInside, RowInside}
 use Rattle.sheet.specs.Table.{rows_of, seen, seen_found, seen_found_row, Takes}
 use Rattle.sheet.proofs.Finding.{number_back}
@@ -49,24 +48,24 @@ IsRead : Whole Rows Refusal → Type 0
 IsRead (Lines.read s) = Unit {0}
 IsRead (Lines.refused why) = ⊥
 
-pub one_sheet : (text t₁ t₂ : List ℕ) (r r' : Sheet) → seen t₁ r ≡ sheet text → seen t₂ r' ≡ sheet text → r ≡ r'
+pub one_sheet : (text t₁ t₂ : List ℕ) (r r' : Result Counts Refusal) → seen t₁ r ≡ sheet text → seen t₂ r' ≡ sheet text → r ≡ r'
 unfolding counts_in why_in IsRead
-one_sheet text t₁ t₂ (Sheet.Read n) (Sheet.Read k) p q =
+one_sheet text t₁ t₂ (Ok n) (Ok k) p q =
     let e = p ∙ sym q in
     let v = sym (length_up_to n.variables _) ∙ ap (counts_in (λ s. length s.variables)) e ∙ length_up_to k.variables _ in
     let c = sym (length_up_to n.cells _) ∙ ap (counts_in (λ s. length s.cells)) e ∙ length_up_to k.cells _ in
     let f = sym (length_up_to n.functions _) ∙ ap (counts_in (λ s. length s.functions)) e ∙ length_up_to k.functions _ in
-    λ i. Sheet.Read (record { variables = v i; cells = c i; functions = f i })
-one_sheet text t₁ t₂ (Sheet.Read n) (Sheet.Refused why) p q = absurd (subst IsRead (p ∙ sym q) tt)
-one_sheet text t₁ t₂ (Sheet.Refused why) (Sheet.Read k) p q = absurd (subst IsRead (q ∙ sym p) tt)
-one_sheet text t₁ t₂ (Sheet.Refused why) (Sheet.Refused why') p q = ap (λ x. Sheet.Refused (why_in x why)) (p ∙ sym q)
+    λ i. Ok (record { variables = v i; cells = c i; functions = f i })
+one_sheet text t₁ t₂ (Ok n) (Err why) p q = absurd (subst IsRead (p ∙ sym q) tt)
+one_sheet text t₁ t₂ (Err why) (Ok k) p q = absurd (subst IsRead (q ∙ sym p) tt)
+one_sheet text t₁ t₂ (Err why) (Err why') p q = ap (λ x. Err (why_in x why)) (p ∙ sym q)
 
 -- and the rows that the table then holds
 rows_in : Whole Rows Refusal → Rows → Rows
 rows_in (Lines.read s) other = s
 rows_in (Lines.refused why) other = other
 
-pub one_table : (text t₁ t₂ : List ℕ) (n k : Counts) → seen t₁ (Sheet.Read n) ≡ sheet text → seen t₂ (Sheet.Read k) ≡ sheet text → rows_of t₁ n ≡ rows_of t₂ k
+pub one_table : (text t₁ t₂ : List ℕ) (n k : Counts) → seen t₁ (Ok n) ≡ sheet text → seen t₂ (Ok k) ≡ sheet text → rows_of t₁ n ≡ rows_of t₂ k
 unfolding rows_in
 one_table text t₁ t₂ n k p q = ap (λ w. rows_in w (rows_of t₁ n)) (p ∙ sym q)
 
@@ -78,12 +77,12 @@ IsFound : Lookup → Type 0
 IsFound (found z) = Unit {0}
 IsFound missing = ⊥
 
-pub one_found : {want : Lookup} (r r' : Found) → seen_found r ≡ want → seen_found r' ≡ want → r ≡ r'
+pub one_found : {want : Lookup} (r r' : Option Complex) → seen_found r ≡ want → seen_found r' ≡ want → r ≡ r'
 unfolding value_in IsFound
-one_found (Found.Value x) (Found.Value y) p q = ap (λ l. Found.Value (value_in l x)) (p ∙ sym q)
-one_found (Found.Value x) Found.Nothing p q = absurd (subst IsFound (p ∙ sym q) tt)
-one_found Found.Nothing (Found.Value y) p q = absurd (subst IsFound (q ∙ sym p) tt)
-one_found Found.Nothing Found.Nothing p q = refl
+one_found (Some x) (Some y) p q = ap (λ l. Some (value_in l x)) (p ∙ sym q)
+one_found (Some x) None p q = absurd (subst IsFound (p ∙ sym q) tt)
+one_found None (Some y) p q = absurd (subst IsFound (q ∙ sym p) tt)
+one_found None None p q = refl
 
 row_in : Numbered → ℕ → ℕ
 row_in (at j z) other = j
@@ -97,77 +96,84 @@ IsAt : Numbered → Type 0
 IsAt (at j z) = Unit {0}
 IsAt nowhere = ⊥
 
-pub one_found_row : {want : Numbered} (r r' : FoundRow) → seen_found_row r ≡ want → seen_found_row r' ≡ want → r ≡ r'
+pub one_found_row : {want : Numbered} (r r' : Option (ℕ × Complex)) → seen_found_row r ≡ want → seen_found_row r' ≡ want → r ≡ r'
 unfolding row_in row_value_in IsAt
-one_found_row (FoundRow.At j x) (FoundRow.At k y) p q = ap (λ l. FoundRow.At (row_in l j) (row_value_in l x)) (p ∙ sym q)
-one_found_row (FoundRow.At j x) FoundRow.Nothing p q = absurd (subst IsAt (p ∙ sym q) tt)
-one_found_row FoundRow.Nothing (FoundRow.At k y) p q = absurd (subst IsAt (q ∙ sym p) tt)
-one_found_row FoundRow.Nothing FoundRow.Nothing p q = refl
+one_found_row (Some (j, x)) (Some (k, y)) p q = ap (λ l. Some (row_in l j, row_value_in l x)) (p ∙ sym q)
+one_found_row (Some (j, x)) None p q = absurd (subst IsAt (p ∙ sym q) tt)
+one_found_row None (Some (k, y)) p q = absurd (subst IsAt (q ∙ sym p) tt)
+one_found_row None None p q = refl
+
+-- what heads a bucket or follows a row
+pub one_link : (r r' : Option ℕ) → link_of r ≡ link_of r' → r ≡ r'
+one_link (Some j) (Some k) e = ap Some (omega (arith, e))
+one_link (Some j) None e = absurd (omega (arith, e))
+one_link None (Some k) e = absurd (omega (arith, e))
+one_link None None e = refl
 
 -- ---- the fields of a line: the numbers, the doubles and the place. The words of a double that is a NaN are not told, so that the doubles are
 -- compared and not their words
 
-pub SameVariable : VariableFields → VariableFields → Type 0
-SameVariable (VariableFields.Are k w i) (VariableFields.Are l v j) = (k ≡ l) × (number_of w ≡ number_of v) × (i ≡ j)
-SameVariable (VariableFields.Are k w i) VariableFields.Bad = ⊥
-SameVariable VariableFields.Bad (VariableFields.Are l v j) = ⊥
-SameVariable VariableFields.Bad VariableFields.Bad = Unit {0}
+pub SameVariable : Option (VariableFields × ℕ) → Option (VariableFields × ℕ) → Type 0
+SameVariable (Some (v, i)) (Some (w, j)) = (v.number ≡ w.number) × (number_of v.value ≡ number_of w.value) × (i ≡ j)
+SameVariable (Some (v, i)) None = ⊥
+SameVariable None (Some (w, j)) = ⊥
+SameVariable None None = Unit {0}
 
-pub one_variable : {want : Read Variable} (text : List ℕ) (r r' : VariableFields) → (seen_variable text r ≡ want) × VariableInside text r
+pub one_variable : {want : Read Variable} (text : List ℕ) (r r' : Option (VariableFields × ℕ)) → (seen_variable text r ≡ want) × VariableInside text r
     → (seen_variable text r' ≡ want) × VariableInside text r' → SameVariable r r'
 unfolding SameVariable
-one_variable text (VariableFields.Are k w i) (VariableFields.Are l v j) p q =
+one_variable text (Some (v, i)) (Some (w, j)) p q =
     let e = p.0 ∙ sym q.0 in
-    let a : k ≡ l = cc in
-    let b : number_of w ≡ number_of v = cc in
+    let a : v.number ≡ w.number = cc in
+    let b : number_of v.value ≡ number_of w.value = cc in
     let c : i ≡ j = one_place text i j p.1 q.1 cc in
     (a, b, c)
-one_variable text (VariableFields.Are k w i) VariableFields.Bad p q = never (q.0 ∙ sym p.0)
-one_variable text VariableFields.Bad (VariableFields.Are l v j) p q = never (p.0 ∙ sym q.0)
-one_variable text VariableFields.Bad VariableFields.Bad p q = tt
+one_variable text (Some (v, i)) None p q = never (q.0 ∙ sym p.0)
+one_variable text None (Some (w, j)) p q = never (p.0 ∙ sym q.0)
+one_variable text None None p q = tt
 
-pub SameCell : CellFields → CellFields → Type 0
-SameCell (CellFields.Are a b x i) (CellFields.Are c d y j) = (a ≡ c) × (b ≡ d) × (double_of x ≡ double_of y) × (i ≡ j)
-SameCell (CellFields.Are a b x i) CellFields.Bad = ⊥
-SameCell CellFields.Bad (CellFields.Are c d y j) = ⊥
-SameCell CellFields.Bad CellFields.Bad = Unit {0}
+pub SameCell : Option (CellFields × ℕ) → Option (CellFields × ℕ) → Type 0
+SameCell (Some (a, i)) (Some (b, j)) = (a.region ≡ b.region) × (a.index ≡ b.index) × (double_of a.real ≡ double_of b.real) × (i ≡ j)
+SameCell (Some (a, i)) None = ⊥
+SameCell None (Some (b, j)) = ⊥
+SameCell None None = Unit {0}
 
-pub one_cell : {want : Read Cell} (text : List ℕ) (r r' : CellFields) → (seen_cell text r ≡ want) × small_cell r × CellInside text r
+pub one_cell : {want : Read Cell} (text : List ℕ) (r r' : Option (CellFields × ℕ)) → (seen_cell text r ≡ want) × small_cell r × CellInside text r
     → (seen_cell text r' ≡ want) × small_cell r' × CellInside text r' → SameCell r r'
 unfolding SameCell
-one_cell text (CellFields.Are a b x i) (CellFields.Are c d y j) p q =
+one_cell text (Some (a, i)) (Some (b, j)) p q =
     let e = p.0 ∙ sym q.0 in
-    let region : a ≡ c = cc in
-    let index : b ≡ d = cc in
-    let real : double_of x ≡ double_of y = cc in
+    let region : a.region ≡ b.region = cc in
+    let index : a.index ≡ b.index = cc in
+    let real : double_of a.real ≡ double_of b.real = cc in
     let place : i ≡ j = one_place text i j p.2 q.2 cc in
     (region, index, real, place)
-one_cell text (CellFields.Are a b x i) CellFields.Bad p q = never (q.0 ∙ sym p.0)
-one_cell text CellFields.Bad (CellFields.Are c d y j) p q = never (p.0 ∙ sym q.0)
-one_cell text CellFields.Bad CellFields.Bad p q = tt
+one_cell text (Some (a, i)) None p q = never (q.0 ∙ sym p.0)
+one_cell text None (Some (b, j)) p q = never (p.0 ∙ sym q.0)
+one_cell text None None p q = tt
 
-pub SameRow : RowFields → RowFields → Type 0
-SameRow (RowFields.Are k x y z i) (RowFields.Are l x' y' z' j) =
-    (k ≡ l) × (number_of x ≡ number_of x') × (number_of y ≡ number_of y') × (number_of z ≡ number_of z') × (i ≡ j)
-SameRow (RowFields.Are k x y z i) RowFields.Bad = ⊥
-SameRow RowFields.Bad (RowFields.Are l x' y' z' j) = ⊥
-SameRow RowFields.Bad RowFields.Bad = Unit {0}
+pub SameRow : Option (RowFields × ℕ) → Option (RowFields × ℕ) → Type 0
+SameRow (Some (a, i)) (Some (b, j)) =
+    (a.name ≡ b.name) × (number_of a.x ≡ number_of b.x) × (number_of a.y ≡ number_of b.y) × (number_of a.value ≡ number_of b.value) × (i ≡ j)
+SameRow (Some (a, i)) None = ⊥
+SameRow None (Some (b, j)) = ⊥
+SameRow None None = Unit {0}
 
-pub one_row : {want : Read Row} (text : List ℕ) (r r' : RowFields) → (seen_row text r ≡ want) × small_row r × RowInside text r
+pub one_row : {want : Read Row} (text : List ℕ) (r r' : Option (RowFields × ℕ)) → (seen_row text r ≡ want) × small_row r × RowInside text r
     → (seen_row text r' ≡ want) × small_row r' × RowInside text r' → SameRow r r'
 unfolding SameRow
-one_row text (RowFields.Are k x y z i) (RowFields.Are l x' y' z' j) p q =
+one_row text (Some (a, i)) (Some (b, j)) p q =
     let e = p.0 ∙ sym q.0 in
-    let o : operation_of k ≡ operation_of l = cc in
-    let name : k ≡ l = sym (number_back k p.1.0 p.1.1) ∙ ap operation_code o ∙ number_back l q.1.0 q.1.1 in
-    let first : number_of x ≡ number_of x' = cc in
-    let second : number_of y ≡ number_of y' = cc in
-    let value : number_of z ≡ number_of z' = cc in
+    let o : operation_of a.name ≡ operation_of b.name = cc in
+    let name : a.name ≡ b.name = sym (number_back a.name p.1.0 p.1.1) ∙ ap operation_code o ∙ number_back b.name q.1.0 q.1.1 in
+    let first : number_of a.x ≡ number_of b.x = cc in
+    let second : number_of a.y ≡ number_of b.y = cc in
+    let value : number_of a.value ≡ number_of b.value = cc in
     let place : i ≡ j = one_place text i j p.2 q.2 cc in
     (name, first, second, value, place)
-one_row text (RowFields.Are k x y z i) RowFields.Bad p q = never (q.0 ∙ sym p.0)
-one_row text RowFields.Bad (RowFields.Are l x' y' z' j) p q = never (p.0 ∙ sym q.0)
-one_row text RowFields.Bad RowFields.Bad p q = tt
+one_row text (Some (a, i)) None p q = never (q.0 ∙ sym p.0)
+one_row text None (Some (b, j)) p q = never (p.0 ∙ sym q.0)
+one_row text None None p q = tt
 
 -- ---- a line: the counts and the place, or the refusal; and the rows that the table then holds
 
@@ -175,16 +181,16 @@ goes_on : {A : Type 0} {s : Rows} {rest : List ℕ} {why : Refusal} → ◌≡�
 goes_on e = let z : ◌≡◌ {A = ℕ} 0 1 = cc in absurd (omega arith)
 
 module _ {line : Line Rows Refusal} (text : List ℕ) {t₁ t₂ : List ℕ} {n : Counts} where
-  pub one_line : (r r' : Step) → Takes text t₁ n line r → Takes text t₂ n line r' → r ≡ r'
-  one_line (Step.Next a i) (Step.Next b j) p q =
+  pub one_line : (r r' : Result (Counts × ℕ) Refusal) → Takes text t₁ n line r → Takes text t₂ n line r' → r ≡ r'
+  one_line (Ok (a, i)) (Ok (b, j)) p q =
       let e = p.answer ∙ sym q.answer in
       let s : rows_of t₁ a ≡ rows_of t₂ b = cc in
       let place : i ≡ j = one_place text i j p.inside q.inside cc in
       let counts : a ≡ b = one_counts t₁ t₂ a b s in
-      λ x. Step.Next (counts x) (place x)
-  one_line (Step.Next a i) (Step.Stop why) p q = goes_on (q.answer ∙ sym p.answer)
-  one_line (Step.Stop why) (Step.Next b j) p q = goes_on (p.answer ∙ sym q.answer)
-  one_line (Step.Stop why) (Step.Stop why') p q = let e = p.answer ∙ sym q.answer in let w : why ≡ why' = cc in ap Step.Stop w
+      λ x. Ok (counts x, place x)
+  one_line (Ok (a, i)) (Err why) p q = goes_on (q.answer ∙ sym p.answer)
+  one_line (Err why) (Ok (b, j)) p q = goes_on (p.answer ∙ sym q.answer)
+  one_line (Err why) (Err why') p q = let e = p.answer ∙ sym q.answer in let w : why ≡ why' = cc in ap Err w
 
-  pub one_rows : (a b : Counts) (i j : ℕ) → Takes text t₁ n line (Step.Next a i) → Takes text t₂ n line (Step.Next b j) → rows_of t₁ a ≡ rows_of t₂ b
+  pub one_rows : (a b : Counts) (i j : ℕ) → Takes text t₁ n line (Ok (a, i)) → Takes text t₂ n line (Ok (b, j)) → rows_of t₁ a ≡ rows_of t₂ b
   one_rows a b i j p q = let e = p.answer ∙ sym q.answer in cc

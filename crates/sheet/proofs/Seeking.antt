@@ -6,7 +6,8 @@ use native.Mathlib.Omega.{arith}
 use native.Mathlib.Decide.{dec_lt}
 use lib.Dec.{T, eqb}
 use borrow.Author.Tests.{ne_eqb}
-use Rattle.memory.specs.Keys.{First}
+use Rattle.std.specs.Prelude.{Some, None}
+use Rattle.memory.specs.Keys.{First, FirstOf}
 use Rattle.sheet.specs.Index.{Leads, hits, steps}
 
 pub other : {a b c : ℕ} → (a ≡ b → ⊥) → a ≡ c → eqb b c ≡ false
@@ -66,8 +67,8 @@ pub record Walking (next : ℕ → ℕ) (test : ℕ → Bool) (n at : ℕ) : Typ
   pub leads : (r : ℕ) → First test n r → r < n → Leads next test at r
 
 module _ {next : ℕ → ℕ} {test : ℕ → Bool} {n at : ℕ} (w : Walking next test n at) where
-  pub walking_hits : (k : ℕ) → k < n → at ≡ k + 1 → test k ≡ true → First test n k
-  walking_hits k l e t = go (sought test n)
+  pub walking_hits : (k : ℕ) → k < n → at ≡ k + 1 → test k ≡ true → FirstOf test n (Some k)
+  walking_hits k l e t = (l, go (sought test n))
     where
       go : Sought test n → First test n k
       go (none f) = both_ways t (f k l)
@@ -76,34 +77,9 @@ module _ {next : ℕ → ℕ} {test : ℕ → Bool} {n at : ℕ} (w : Walking ne
   pub walking_on : (k : ℕ) → at ≡ k + 1 → test k ≡ false → Walking next test n (min (next k) k)
   walking_on k e t = record { leads = λ r f m. leads_on k e t (w.leads r f m) }
 
-  pub walking_ends : at ≡ 0 → First test n n
+  pub walking_ends : at ≡ 0 → FirstOf test n None
   walking_ends z = go (sought test n)
     where
-      go : Sought test n → First test n n
-      go (none f) = record { within = omega arith; hit = λ l. absurd (omega arith); before = f }
+      go : Sought test n → FirstOf test n None
+      go (none f) = f
       go (some r m f) = absurd (leads_some (w.leads r f m) z)
-
--- ---- from the front
-
-pub record Passed (test : ℕ → Bool) (count j : ℕ) : Type 0 where
-  pub inside : j ≤ count
-  pub before : (i : ℕ) → i < j → test i ≡ false
-
-pub passed_begins : (test : ℕ → Bool) (count : ℕ) → Passed test count 0
-passed_begins test count = record { inside = omega arith; before = λ i l. absurd (omega arith) }
-
-module _ {test : ℕ → Bool} {count j : ℕ} (h : Passed test count j) where
-  pub passed_hits : j < count → test j ≡ true → First test count j
-  passed_hits l e = record { within = omega arith; hit = λ _. e; before = h.before }
-
-  pub passed_more : j < count → test j ≡ false → Passed test count (j + 1)
-  passed_more l e = record {
-    inside = omega arith;
-    before = λ i m. elim (dec_lt i j) [
-      | yes b ↦ h.before i b
-      | no b ↦ let q : i ≡ j = omega arith in rw q e
-    ];
-  }
-
-  pub passed_ends : count ≤ j → First test count j
-  passed_ends l = record { within = h.inside; hit = λ m. absurd (omega arith); before = h.before }

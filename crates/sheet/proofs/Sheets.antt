@@ -4,13 +4,13 @@ use mathlib.Core.List.{List}
 use Prim.Native.Nat.{ℕ, ◌+◌, ◌-◌, ◌≤◌, ◌<◌}
 use native.Mathlib.Omega.{arith}
 use lib.ListN.{length, get_or, drop}
+use Rattle.std.specs.Prelude.{Ok, Err}
 use Rattle.expression.specs.declared.refusal.Refusal.{Refusal}
 use Rattle.memory.specs.Keys.{up_to}
 use Rattle.text.specs.Lines.{read, refused}
 use Rattle.text.proofs.Lining.{Left, begins, ends, goes_on, stops_at}
 use Rattle.memory.specs.Layout.{table_words}
 use Rattle.sheet.specs.declared.Counts.{Counts}
-use Rattle.sheet.specs.declared.lines.Step.{Step}
 use Rattle.sheet.specs.Rows.{sheet, sheet_line}
 use Rattle.sheet.specs.Table.{rows_of, line_of, Held, Takes}
 use Rattle.sheet.proofs.Shortening.{sheet_shortens}
@@ -43,10 +43,10 @@ module _ {text t₀ t : List ℕ} {at : ℕ} {n : Counts} (r : Reading text t₀
   few = omega (arith, r.held.variables, r.held.cells, r.held.functions)
 
   module _ {t' : List ℕ} {n' : Counts} {next : ℕ} where
-    pub reading_less : Takes text t' n (sheet_line (rows_of t n) (get_or text at 0) (drop (at + 1) text)) (Step.Next n' next) → 1537 - line_of n' < 1537 - line_of n
+    pub reading_less : Takes text t' n (sheet_line (rows_of t n) (get_or text at 0) (drop (at + 1) text)) (Ok (n', next)) → 1537 - line_of n' < 1537 - line_of n
     reading_less s = omega (arith, few, s.held.1)
 
-    pub reading_goes_on : at < length text → length t' ≡ length t → Takes text t' n (sheet_line (rows_of t n) (get_or text at 0) (drop (at + 1) text)) (Step.Next n' next) → Reading text t₀ t' next n'
+    pub reading_goes_on : at < length text → length t' ≡ length t → Takes text t' n (sheet_line (rows_of t n) (get_or text at 0) (drop (at + 1) text)) (Ok (n', next)) → Reading text t₀ t' next n'
     reading_goes_on l e s = record {
       same = e ∙ r.same;
       room = omega (arith, r.room, e);
@@ -54,7 +54,7 @@ module _ {text t₀ t : List ℕ} {at : ℕ} {n : Counts} (r : Reading text t₀
       left = goes_on r.left l (sym s.answer);
     }
 
-  pub reading_stops : {t' : List ℕ} {why : Refusal} → at < length text → Takes text t' n (sheet_line (rows_of t n) (get_or text at 0) (drop (at + 1) text)) (Step.Stop why) → refused why ≡ sheet text
+  pub reading_stops : {t' : List ℕ} {why : Refusal} → at < length text → Takes text t' n (sheet_line (rows_of t n) (get_or text at 0) (drop (at + 1) text)) (Err why) → refused why ≡ sheet text
   reading_stops l s = stops_at r.left l (sym s.answer)
 
   pub reading_ends : length text ≤ at → read (rows_of t n) ≡ sheet text

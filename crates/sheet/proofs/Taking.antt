@@ -9,6 +9,7 @@ use lib.ListN.{length, get_or, drop}
 use lib.Dec.{eqb}
 use lib.Ieee.{Float}
 use borrow.Author.Tests.{lt-ltb, le-ltb, ne_eqb}
+use Rattle.std.specs.Prelude.{Result, Ok, Err}
 use Rattle.complex.specs.declared.Complex.{Complex}
 use Rattle.complex.specs.Bits.{double_of}
 use Rattle.expression.specs.declared.refusal.Refusal.{Refusal}
@@ -20,7 +21,6 @@ use Rattle.memory.proofs.Ascending.{ascends_same, ascends_more}
 use Rattle.memory.specs.Layout.{table_words, cells_from}
 use Rattle.sheet.specs.declared.fields.Words.{Words}
 use Rattle.sheet.specs.declared.Counts.{Counts}
-use Rattle.sheet.specs.declared.lines.Step.{Step}
 use Rattle.sheet.specs.Seen.{number_of}
 use Rattle.sheet.specs.Rows.{variable, cell, row, Rows, rows, above_number, above_pair, line_number, formed, counted, variable_fields, cell_fields, row_fields, fields_after, variable_line, cell_line, function_line, sheet_line}
 use Rattle.expression.specs.Codes.{operation_of}
@@ -34,10 +34,10 @@ abbrev counts : ℕ → ℕ → ℕ → Counts
 counts v m f = record { variables = v; cells = m; functions = f }
 
 -- a line that is refused
-pub refuses : {text t : List ℕ} {n : Counts} {line : Line Rows Refusal} {why : Refusal} → stops why ≡ line → Takes text t n line (Step.Stop why)
+pub refuses : {text t : List ℕ} {n : Counts} {line : Line Rows Refusal} {why : Refusal} → stops why ≡ line → Takes text t n line (Err why)
 refuses e = record { answer = e; held = tt; inside = tt }
 
-pub as_line : {text t : List ℕ} {n : Counts} {line line' : Line Rows Refusal} {r : Step} → Takes text t n line r → line ≡ line' → Takes text t n line' r
+pub as_line : {text t : List ℕ} {n : Counts} {line line' : Line Rows Refusal} {r : Result (Counts × ℕ) Refusal} → Takes text t n line r → line ≡ line' → Takes text t n line' r
 as_line p e = record { answer = p.answer ∙ e; held = p.held; inside = p.inside }
 
 module _ (t : List ℕ) (n : Counts) where
@@ -149,7 +149,7 @@ module _ (text t : List ℕ) (n : Counts) (h : Held t n) (room : table_words ≤
         index = indexed_same h.index λ i l. changed.beyond i (omega arith);
       }
 
-      pub variable_taken : next ≤ length text → Takes text (with_variable t n.variables k w) n (variable_line (rows_of t n) first bs) (Step.Next (counts (n.variables + 1) n.cells n.functions) next)
+      pub variable_taken : next ≤ length text → Takes text (with_variable t n.variables k w) n (variable_line (rows_of t n) first bs) (Ok (counts (n.variables + 1) n.cells n.functions, next))
       unfolding variable_line
       variable_taken inside = record {
         answer = ap (λ s. goes s (drop next text)) variable_rows ∙ taken _ 256 n.variables _ _ _ line (number_is t n line here first bs) (length_up_to n.variables (variable_at t)) _ _ (drop next text) few e (f ∙ variable_order t n k (number_of w));
@@ -187,7 +187,7 @@ module _ (text t : List ℕ) (n : Counts) (h : Held t n) (room : table_words ≤
         index = indexed_same h.index λ i l. p.beyond i (omega arith);
       }
 
-      pub cell_taken : next ≤ length text → Takes text (with_cell t n.cells (region * 4294967296 + index) real) n (cell_line (rows_of t n) first bs) (Step.Next (counts n.variables (n.cells + 1) n.functions) next)
+      pub cell_taken : next ≤ length text → Takes text (with_cell t n.cells (region * 4294967296 + index) real) n (cell_line (rows_of t n) first bs) (Ok (counts n.variables (n.cells + 1) n.functions, next))
       unfolding cell_line key
       cell_taken inside = record {
         answer = ap (λ s. goes s (drop next text)) cell_rows ∙ taken _ 1024 n.cells _ _ _ line (number_is t n line here first bs) (length_up_to n.cells (cell_at t)) _ _ (drop next text) few e (f ∙ cell_order t n region index (double_of real) small);
@@ -221,7 +221,7 @@ module _ (text t : List ℕ) (n : Counts) (h : Held t n) (room : table_words ≤
       index = q.indexed h.index;
     }
 
-    pub row_taken : next ≤ length text → Takes text t' n (function_line (rows_of t n) first bs) (Step.Next (counts n.variables n.cells (n.functions + 1)) next)
+    pub row_taken : next ≤ length text → Takes text t' n (function_line (rows_of t n) first bs) (Ok (counts n.variables n.cells (n.functions + 1), next))
     unfolding function_line
     row_taken inside = record {
       answer = ap (λ s. goes s (drop next text)) row_rows ∙ taken _ 256 n.functions _ _ _ line (number_is t n line here first bs) (length_up_to n.functions (row_at t)) _ _ (drop next text) few e refl;

@@ -1,6 +1,6 @@
 -- The index of the function values: chains of rows whose names and operands fall in one bucket, the newest first, in the first word of
 -- each row. Only connecting.
-use Rattle.std.specs.Prelude.{ℕ, ◌+◌, ◌-◌, ◌*◌, ◌/◌, ◌%◌, min, ◌≡◌, List, Bool, true, false, cond, get_or, ltb, eqb}
+use Rattle.std.specs.Prelude.{ℕ, ◌+◌, ◌-◌, ◌*◌, ◌/◌, ◌%◌, min, ◌≡◌, List, Bool, true, false, cond, get_or, ltb, eqb, Option, Some, None}
 use Rattle.memory.specs.Layout.{functions_from}
 use Rattle.sheet.specs.declared.fields.Words.{Words}
 
@@ -21,6 +21,11 @@ home_in w = w / 4096 % 256
 
 abbrev pub head_in : ℕ → ℕ
 head_in w = w / 1048576
+
+-- a row as a word has it
+abbrev pub link_of : Option ℕ → ℕ
+link_of None = 0
+link_of (Some j) = j + 1
 
 -- the word of a new row: the head in it stays
 unfoldable pub linked : (w name next home : ℕ) → ℕ

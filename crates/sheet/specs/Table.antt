@@ -1,5 +1,5 @@
 -- What a table of words holds, read as the rows of a sheet, when it is one, and how a row is added. Only connecting.
-use Rattle.std.specs.Prelude.{ℕ, zero, suc, ◌+◌, ◌*◌, ◌/◌, ◌%◌, ◌≤◌, ◌<◌, ◌≡◌, List, ◌++◌, Bool, true, ◌&&◌, length, get_or, set, drop, ltb, eqb}
+use Rattle.std.specs.Prelude.{ℕ, zero, suc, ◌+◌, ◌*◌, ◌/◌, ◌%◌, ◌≤◌, ◌<◌, ◌≡◌, List, ◌++◌, Bool, true, ◌&&◌, length, get_or, set, drop, ltb, eqb, Option, Some, None, Result, Ok, Err}
 use Rattle.complex.specs.declared.Complex.{Complex}
 use Rattle.complex.specs.Bits.{bits_of, double_of, Canonical}
 use Rattle.complex.specs.Constants.{of_parts}
@@ -8,12 +8,8 @@ use Rattle.memory.specs.Keys.{up_to, key_at, Ascends, First}
 use Rattle.text.specs.Lines.{Line, goes, stops, Whole, read, refused}
 use Rattle.memory.specs.Layout.{table_words, cells_from, functions_from, numbered}
 use Rattle.sheet.specs.declared.Counts.{Counts}
-use Rattle.sheet.specs.declared.Sheet.{Sheet}
-use Rattle.sheet.specs.declared.Found.{Found}
-use Rattle.sheet.specs.declared.FoundRow.{FoundRow}
 use Rattle.sheet.specs.declared.Used.{Used}
 use Rattle.sheet.specs.declared.fields.Words.{Words}
-use Rattle.sheet.specs.declared.lines.Step.{Step}
 use Rattle.sheet.specs.Rows.{Variable, variable, Cell, cell, Row, row, Rows, rows, most_variables, most_cells, most_functions, Lookup, found, missing, Numbered, at, nowhere}
 use Rattle.expression.specs.Codes.{operation_of}
 use Rattle.sheet.specs.Seen.{number_of}
@@ -80,30 +76,30 @@ pub record Held (t : List ℕ) (n : Counts) : Type 0 where
 
 -- ---- the answer of the reader
 
-abbrev pub seen : List ℕ → Sheet → Whole Rows Refusal
-seen t (Sheet.Read n) = read (rows_of t n)
-seen t (Sheet.Refused why) = refused why
+abbrev pub seen : List ℕ → Result Counts Refusal → Whole Rows Refusal
+seen t (Ok n) = read (rows_of t n)
+seen t (Err why) = refused why
 
 -- a sheet that was read stands in the table
-abbrev pub held_by : List ℕ → Sheet → Type 0
-held_by t (Sheet.Read n) = Held t n
-held_by t (Sheet.Refused why) = Unit {0}
+abbrev pub held_by : List ℕ → Result Counts Refusal → Type 0
+held_by t (Ok n) = Held t n
+held_by t (Err why) = Unit {0}
 
 -- the same of one line
-abbrev pub seen_step : (text t : List ℕ) → Step → Line Rows Refusal
-seen_step text t (Step.Next n next) = goes (rows_of t n) (drop next text)
-seen_step text t (Step.Stop why) = stops why
+abbrev pub seen_step : (text t : List ℕ) → Result (Counts × ℕ) Refusal → Line Rows Refusal
+seen_step text t (Ok (n, next)) = goes (rows_of t n) (drop next text)
+seen_step text t (Err why) = stops why
 
-abbrev pub held_after : List ℕ → (line : ℕ) → Step → Type 0
-held_after t line (Step.Next n next) = Held t n × (line_of n ≡ line + 1)
-held_after t line (Step.Stop why) = Unit {0}
+abbrev pub held_after : List ℕ → (line : ℕ) → Result (Counts × ℕ) Refusal → Type 0
+held_after t line (Ok (n, next)) = Held t n × (line_of n ≡ line + 1)
+held_after t line (Err why) = Unit {0}
 
 -- the next line's place is one of the text or its end
-abbrev pub StepInside : List ℕ → Step → Type 0
-StepInside text (Step.Next n next) = next ≤ length text
-StepInside text (Step.Stop why) = Unit {0}
+abbrev pub StepInside : List ℕ → Result (Counts × ℕ) Refusal → Type 0
+StepInside text (Ok (n, next)) = next ≤ length text
+StepInside text (Err why) = Unit {0}
 
-pub record Takes (text t : List ℕ) (n : Counts) (line : Line Rows Refusal) (r : Step) : Type 0 where
+pub record Takes (text t : List ℕ) (n : Counts) (line : Line Rows Refusal) (r : Result (Counts × ℕ) Refusal) : Type 0 where
   pub answer : seen_step text t r ≡ line
   pub held : held_after t (line_of n) r
   pub inside : StepInside text r
@@ -157,18 +153,18 @@ cell_may t n key = eqb n.functions 0 && above (pair_key t) n.cells key
 
 -- ---- what is found
 
-abbrev pub seen_found : Found → Lookup
-seen_found (Found.Value z) = found z
-seen_found Found.Nothing = missing
+abbrev pub seen_found : Option Complex → Lookup
+seen_found (Some z) = found z
+seen_found None = missing
 
-abbrev pub seen_found_row : FoundRow → Numbered
-seen_found_row (FoundRow.At j z) = at j z
-seen_found_row FoundRow.Nothing = nowhere
+abbrev pub seen_found_row : Option (ℕ × Complex) → Numbered
+seen_found_row (Some (j, z)) = at j z
+seen_found_row None = nowhere
 
 -- its number is one of 256
-abbrev pub FewRows : FoundRow → Type 0
-FewRows (FoundRow.At j z) = j < most_functions
-FewRows FoundRow.Nothing = Unit {0}
+abbrev pub FewRows : Option (ℕ × Complex) → Type 0
+FewRows (Some (j, z)) = j < most_functions
+FewRows None = Unit {0}
 
 -- the rows that an operation used, by their numbers
 abbrev pub used_in : Used → List ℕ

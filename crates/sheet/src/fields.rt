@@ -5,7 +5,7 @@ ghost use Rattle.sheet.specs.Rows.{complex_field, second_operand, fields_after, 
 ghost use Rattle.sheet.specs.Seen.{seen_pair, seen_variable, seen_cell, seen_row, small_cell, small_row, PairInside, VariableInside, CellInside, RowInside};
 
 use spelling::operation_at;
-use text::reading::{Number, decimal_field, end_field, hex_field};
+use text::reading::{decimal_field, end_field, hex_field};
 
 const TAB: u8 = 9;
 
@@ -21,135 +21,92 @@ pub struct Words {
     pub im: u64,
 }
 
+// Each kind's values.
 #[derive(Clone, Copy)]
-pub enum Pair {
-    Are(Words, usize),
-    Bad,
-}
-
-// Each kind's values, and the place after the line.
-#[derive(Clone, Copy)]
-pub enum VariableFields {
-    Are(u64, Words, usize),
-    Bad,
+pub struct VariableFields {
+    pub number: u64,
+    pub value: Words,
 }
 
 #[derive(Clone, Copy)]
-pub enum CellFields {
-    Are(u64, u64, u64, usize),
-    Bad,
+pub struct CellFields {
+    pub region: u64,
+    pub index: u64,
+    pub real: u64,
 }
 
 #[derive(Clone, Copy)]
-pub enum RowFields {
-    Are(u64, Words, Words, Words, usize),
-    Bad,
+pub struct RowFields {
+    pub name: u64,
+    pub x: Words,
+    pub y: Words,
+    pub value: Words,
 }
 
-fn pair_field(text: &[u8], at: usize, stop: u8) -> Pair
+// A complex number and the place after its fields, as with the lines below.
+fn pair_field(text: &[u8], at: usize, stop: u8) -> Option<(Words, usize)>
     requires { 0 < stop }
     ensures { (seen_pair text.now result ≡ complex_field stop (drop at text.now)) × PairInside text.now result }
 {
-    let first = hex_field(text, at, TAB);
-    let Number::Is(re, second) = first else {
-        return Pair::Bad;
-    };
-    let last = hex_field(text, second, stop);
-    let Number::Is(im, next) = last else {
-        return Pair::Bad;
-    };
-    Pair::Are(Words { re, im }, next)
+    let (re, second) = hex_field(text, at, TAB)?;
+    let (im, next) = hex_field(text, second, stop)?;
+    Some((Words { re, im }, next))
 }
 
 // v: a number and its value.
-pub fn read_variable(text: &[u8], at: usize) -> VariableFields
+pub fn read_variable(text: &[u8], at: usize) -> Option<(VariableFields, usize)>
     ensures { (seen_variable text.now result ≡ fields_after 118 (drop at text.now) variable_fields) × VariableInside text.now result }
 {
-    let kind = end_field(text, Number::Is(118, at), TAB);
-    let Number::Is(_, start) = kind else {
-        return VariableFields::Bad;
-    };
-    let name = decimal_field(text, start, TAB, 65536);
-    let Number::Is(number, middle) = name else {
-        return VariableFields::Bad;
-    };
-    let value = pair_field(text, middle, LF);
-    let Pair::Are(words, next) = value else {
-        return VariableFields::Bad;
-    };
-    VariableFields::Are(number, words, next)
+    let (_, start) = end_field(text, Some((118, at)), TAB)?;
+    let (number, middle) = decimal_field(text, start, TAB, 65536)?;
+    let (value, next) = pair_field(text, middle, LF)?;
+    Some((VariableFields { number, value }, next))
 }
 
 // m: region, index and a real.
-pub fn read_cell(text: &[u8], at: usize) -> CellFields
+pub fn read_cell(text: &[u8], at: usize) -> Option<(CellFields, usize)>
     ensures { (seen_cell text.now result ≡ fields_after 109 (drop at text.now) cell_fields) × small_cell result × CellInside text.now result }
 {
-    let kind = end_field(text, Number::Is(109, at), TAB);
-    let Number::Is(_, start) = kind else {
-        return CellFields::Bad;
-    };
-    let area = decimal_field(text, start, TAB, 65536);
-    let Number::Is(region, middle) = area else {
-        return CellFields::Bad;
-    };
-    let place = decimal_field(text, middle, TAB, 4294967296);
-    let Number::Is(index, last) = place else {
-        return CellFields::Bad;
-    };
-    let value = hex_field(text, last, LF);
-    let Number::Is(real, next) = value else {
-        return CellFields::Bad;
-    };
-    CellFields::Are(region, index, real, next)
+    let (_, start) = end_field(text, Some((109, at)), TAB)?;
+    let (region, middle) = decimal_field(text, start, TAB, 65536)?;
+    let (index, last) = decimal_field(text, middle, TAB, 4294967296)?;
+    let (real, next) = hex_field(text, last, LF)?;
+    Some((
+        CellFields {
+            region,
+            index,
+            real,
+        },
+        next,
+    ))
 }
 
 // For all but pow two fields of zeros; the bits of -0 are none.
-fn second_operand(text: &[u8], at: usize, name: u64) -> Pair
+fn second_operand(text: &[u8], at: usize, name: u64) -> Option<(Words, usize)>
     ensures { (seen_pair text.now result ≡ second_operand name (drop at text.now)) × PairInside text.now result }
 {
-    let first = hex_field(text, at, TAB);
-    let Number::Is(re, middle) = first else {
-        return Pair::Bad;
-    };
-    let last = hex_field(text, middle, TAB);
-    let Number::Is(im, next) = last else {
-        return Pair::Bad;
-    };
+    let (re, middle) = hex_field(text, at, TAB)?;
+    let (im, next) = hex_field(text, middle, TAB)?;
     if name == POWER {
-        return Pair::Are(Words { re, im }, next);
+        return Some((Words { re, im }, next));
     }
     if re != 0 {
-        return Pair::Bad;
+        return None;
     }
     if im != 0 {
-        return Pair::Bad;
+        return None;
     }
-    Pair::Are(Words { re, im }, next)
+    Some((Words { re, im }, next))
 }
 
 // t: a name, two operands and the value.
-pub fn read_row(text: &[u8], at: usize) -> RowFields
+pub fn read_row(text: &[u8], at: usize) -> Option<(RowFields, usize)>
     ensures { (seen_row text.now result ≡ fields_after 116 (drop at text.now) row_fields) × small_row result × RowInside text.now result }
 {
-    let kind = end_field(text, Number::Is(116, at), TAB);
-    let Number::Is(_, start) = kind else {
-        return RowFields::Bad;
-    };
-    let word = end_field(text, operation_at(text, start), TAB);
-    let Number::Is(name, operands) = word else {
-        return RowFields::Bad;
-    };
-    let first = pair_field(text, operands, TAB);
-    let Pair::Are(x, middle) = first else {
-        return RowFields::Bad;
-    };
-    let second = second_operand(text, middle, name);
-    let Pair::Are(y, last) = second else {
-        return RowFields::Bad;
-    };
-    let value = pair_field(text, last, LF);
-    let Pair::Are(words, next) = value else {
-        return RowFields::Bad;
-    };
-    RowFields::Are(name, x, y, words, next)
+    let (_, start) = end_field(text, Some((116, at)), TAB)?;
+    let (name, operands) = end_field(text, operation_at(text, start), TAB)?;
+    let (x, middle) = pair_field(text, operands, TAB)?;
+    let (y, last) = second_operand(text, middle, name)?;
+    let (value, next) = pair_field(text, last, LF)?;
+    Some((RowFields { name, x, y, value }, next))
 }

@@ -1,9 +1,9 @@
 // The index of the function values: chains of rows by a hash of name and operands, newest first. It stands in the first words of the
 // rows. That of row j has the number of the row's name (3 bits), the next row of its chain (9), the bucket that is its home (8), and above
 // these the head of bucket j. Heads and nexts are numbers of rows plus one, so that 0 says none.
-ghost use Rattle.std.specs.Prelude.{◌≡◌, ◌+◌, ◌*◌, ◌<◌, ◌≤◌, min, set};
+ghost use Rattle.std.specs.Prelude.{◌≡◌, ◌+◌, ◌*◌, ◌%◌, ◌<◌, ◌≤◌, min, set};
 ghost use Rattle.memory.specs.Layout.{functions_from};
-ghost use Rattle.sheet.specs.Index.{word_at, next_in, bucket_of, head_for};
+ghost use Rattle.sheet.specs.Index.{word_at, next_in, link_of, bucket_of, head_for};
 ghost use Rattle.sheet.specs.Index as Index;
 
 use super::fields::Words;
@@ -42,49 +42,57 @@ pub fn word_at(table: &[u64], j: usize) -> u64
 
 // The head of a bucket, of so many rows. Where no row was entered the word may hold anything: a number counts if it is a row's whose
 // home is this bucket. So nothing is cleared before the first row.
-pub fn head_of(table: &[u64], count: usize, bucket: usize) -> usize
+pub fn head_of(table: &[u64], count: usize, bucket: usize) -> Option<usize>
     requires { (count ≤ 256) × (bucket < 256) }
-    ensures { result ≡ head_for table.now count bucket }
+    ensures { link_of result ≡ head_for table.now count bucket }
 {
     let head = (word_at(table, bucket) / 1048576) as usize;
-    if head == 0 {
-        return 0;
+    let j = head.checked_sub(1)?;
+    if count <= j {
+        return None;
     }
-    if count < head {
-        return 0;
-    }
-    if word_at(table, head - 1) / 4096 % 256 == bucket as u64 {
-        head
+    if word_at(table, j) / 4096 % 256 == bucket as u64 {
+        Some(j)
     } else {
-        0
+        None
     }
 }
 
-// What follows row j in its chain, plus one: in any memory an older row, or none.
-pub fn next_of(table: &[u64], j: usize) -> usize
+// What follows row j in its chain: in any memory an older row, or none.
+pub fn next_of(table: &[u64], j: usize) -> Option<usize>
     requires { j < 256 }
-    ensures { result ≡ min (next_in (word_at table.now j)) j }
+    ensures { link_of result ≡ min (next_in (word_at table.now j)) j }
 {
     let next = (word_at(table, j) / 8 % 512) as usize;
-    if next < j { next } else { j }
+    next.min(j).checked_sub(1)
+}
+
+// A row as a word has it, in nine bits.
+fn link_of(row: Option<usize>) -> u64
+    ensures { result ≡ link_of row % 512 }
+{
+    match row {
+        Some(j) => (j as u64 % 512 + 1) % 512,
+        None => 0,
+    }
 }
 
 // The first word of a new row; the head in it stays.
-pub fn linked(word: u64, name: u64, next: usize, home: usize) -> u64
-    ensures { result ≡ Index.linked word name next home }
+pub fn linked(word: u64, name: u64, next: Option<usize>, home: usize) -> u64
+    ensures { result ≡ Index.linked word name (link_of next) home }
 {
-    name % 8 + 8 * (next as u64 % 512) + 4096 * (home as u64 % 256) + 1048576 * (word / 1048576)
+    name % 8 + 8 * link_of(next) + 4096 * (home as u64 % 256) + 1048576 * (word / 1048576)
 }
 
-// Row `head - 1` becomes the head of a bucket.
-pub fn put_head(table: &mut [u64], bucket: usize, head: usize)
+// A row becomes the head of a bucket.
+pub fn put_head(table: &mut [u64], bucket: usize, row: usize)
     requires { bucket < 256 }
-    ensures { table.new ≡ set table.old (7 * bucket + functions_from) (Index.headed (word_at table.old bucket) head) }
+    ensures { table.new ≡ set table.old (7 * bucket + functions_from) (Index.headed (word_at table.old bucket) (row + 1)) }
 {
     let word = word_at(table, bucket);
     put(
         table,
         7 * bucket + FUNCTIONS_FROM,
-        word % 1048576 + 1048576 * (head as u64 % 512),
+        word % 1048576 + 1048576 * link_of(Some(row)),
     );
 }

@@ -79,10 +79,9 @@ pub fn put_row(table: &mut [u64], count: usize, name: u64, x: Words, y: Words, v
     let stands = walk(table, count, head, name, first, second);
     let word = linked(word_at(table, count), name, head, bucket);
     write_row(table, count, word, x, y, value);
-    if stands < count {
-        return;
+    if stands.is_none() {
+        put_head(table, bucket, count);
     }
-    put_head(table, bucket, count + 1);
 }
 
 // Variables stand before all other lines, each above the last.

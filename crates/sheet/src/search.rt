@@ -1,8 +1,8 @@
 // The first function value for a name and operands: a walk through the chain of their bucket.
-ghost use Rattle.std.specs.Prelude.{◌≡◌, ◌<◌, ◌≤◌};
+ghost use Rattle.std.specs.Prelude.{◌≡◌, ◌<◌, ◌≤◌, IfSome};
 ghost use Rattle.memory.specs.Layout.{table_words};
-ghost use Rattle.memory.specs.Keys.{First};
-ghost use Rattle.sheet.specs.Index.{bucket_of, head_for};
+ghost use Rattle.memory.specs.Keys.{FirstOf};
+ghost use Rattle.sheet.specs.Index.{link_of, bucket_of, head_for};
 ghost use Rattle.sheet.specs.Table.{words_of, pair_matches, row_matches, Indexed};
 
 use super::fields::Words;
@@ -51,48 +51,46 @@ fn row_matches(table: &[u64], j: usize, name: u64, x: Words, y: Words) -> bool
 }
 
 // Row by row from the first on. No row has to wait for the one before, as in a chain.
-fn scan(table: &[u64], count: usize, name: u64, x: Words, y: Words) -> usize
+fn scan(table: &[u64], count: usize, name: u64, x: Words, y: Words) -> Option<usize>
     requires { count ≤ 256 }
-    ensures { First (row_matches table.now name x y) count result }
+    ensures { FirstOf (row_matches table.now name x y) count result }
 {
-    let mut j: usize = 0;
-    while j < count {
-        if row_matches(table, j, name, x, y) {
-            return j;
-        }
-        j += 1;
-    }
-    j
+    (0..count).find(|j| row_matches(table, *j, name, x, y))
 }
 
-// From the head of a chain on to the row for this name and these operands, or the count. Each step leads to an older row, so the walk ends
-// in any memory. A long chain is left: rows that were searched until they fell in one bucket cost no more than a look at all rows.
-pub fn walk(table: &[u64], count: usize, head: usize, name: u64, x: Words, y: Words) -> usize
-    requires { (count ≤ 256) × (head ≤ count) }
-    ensures { (result ≤ count) × (Indexed table.now count → head ≡ head_for table.now count (bucket_of name x y) → First (row_matches table.now name x y) count result) }
+// From the head of a chain on to the row for this name and these operands. Each step leads to an older row, so the walk ends in any
+// memory. A long chain is left: rows that were searched until they fell in one bucket cost no more than a look at all rows.
+pub fn walk(
+    table: &[u64],
+    count: usize,
+    head: Option<usize>,
+    name: u64,
+    x: Words,
+    y: Words,
+) -> Option<usize>
+    requires { (count ≤ 256) × (link_of head ≤ count) }
+    ensures within { IfSome result (λ j. j < count) }
+    ensures first { Indexed table.now count → link_of head ≡ head_for table.now count (bucket_of name x y) → FirstOf (row_matches table.now name x y) count result }
 {
     let mut at = head;
-    let mut steps: usize = 0;
-    while at != 0 {
-        if LONGEST <= steps {
-            return scan(table, count, name, x, y);
-        }
-        let j = at - 1;
+    for _ in 0..LONGEST {
+        let j = at?;
         if row_matches(table, j, name, x, y) {
-            return j;
+            return Some(j);
         }
         at = next_of(table, j);
-        steps += 1;
     }
-    count
+    at?;
+    scan(table, count, name, x, y)
 }
 
-// The number of the first row for this name and these operands, or the count.
-pub fn find_row(table: &[u64], count: usize, name: u64, x: Words, y: Words) -> usize
-    ensures { (result < count → result < 256) × (count ≤ 256 → Indexed table.now count → First (row_matches table.now name x y) count result) }
+// The first row for this name and these operands.
+pub fn find_row(table: &[u64], count: usize, name: u64, x: Words, y: Words) -> Option<usize>
+    ensures within { IfSome result (λ j. (j < count) × (j < 256)) }
+    ensures first { count ≤ 256 → Indexed table.now count → FirstOf (row_matches table.now name x y) count result }
 {
     if MOST_FUNCTIONS < count {
-        return count;
+        return None;
     }
     let bucket = bucket_of(name, x, y);
     let head = head_of(table, count, bucket);

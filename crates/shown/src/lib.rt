@@ -104,11 +104,9 @@ pub fn write_steps(out: &mut [u8], tape: &[u8]) -> usize
 {
     let count = tape.len() / STEP;
     let mut at: usize = 0;
-    let mut i: usize = 0;
-    while i < count {
+    for i in 0..count {
         let step = step_of(fields_at(tape, STEP * i));
         at = write_line(out, at, i as u64, step);
-        i += 1;
     }
     at
 }

@@ -1,6 +1,7 @@
 -- Plans carried out in steps, with what is lent after each step: each return of the carriers. Assumes nothing.
 use mathlib.Core.Path.{◌≡◌, refl, sym, ap, ◌∙◌}
-use Prim.Native.Nat.{ℕ, ◌≤◌, ◌<◌}
+use Prim.Native.Nat.{ℕ, ◌<◌}
+use Rattle.std.specs.Prelude.{Result, Ok, Err, IsErr}
 use Rattle.complex.specs.declared.Complex.{Complex}
 use Rattle.expression.specs.declared.InfixOperator.{InfixOperator}
 use Rattle.expression.specs.Trees.{Tree, number, leaf, function_call, prefixed, infixed}
@@ -8,7 +9,8 @@ use Rattle.expression.specs.declared.node.Expression.{Expression}
 use Rattle.expression.specs.Nodes.{Within, grown}
 use Rattle.store.specs.Storing.{State, Answer, gives, refused, and_then, intern}
 use Rattle.store.specs.Memory.{Memory, tree_at, tree_of}
-use Rattle.store.specs.Desk.{count, refused_from}
+use Rattle.store.specs.declared.desk.Refused.{Refused}
+use Rattle.store.specs.Desk.{count}
 use Rattle.store.specs.Held.{Lent, tree_in, state_in, Sound, Built}
 use Rattle.store.proofs.Building.{Got, older, named, stays, then_node, then_refused}
 use Rattle.sheet.specs.Rows.{Rows}
@@ -114,24 +116,24 @@ module _ (R : Rows) (σ : Simplifier) where
   -- ---- the returns
 
   -- S(t) of a new tree
-  pub again_refused : (t : Tree) (s : State) {o : ℕ} {l l₁ : Lent}
-      → Built (intern t s) o l l₁ → refused_from ≤ o → Built (carry_out R σ (S (new t)) s) o l l₁
+  pub again_refused : (t : Tree) (s : State) {o r : Result ℕ Refused} {why : Refused} {l l₁ : Lent}
+      → Built (intern t s) o l l₁ → o ≡ Err why → IsErr r → Built (carry_out R σ (S (new t)) s) r l l₁
   unfolding carry_out
-  again_refused t s b e = then_refused σ b e
+  again_refused t s b e v = then_refused σ b e v
 
-  pub again_node : (t : Tree) (s : State) {o r : ℕ} {l l₁ l₂ : Lent}
-      → Built (intern t s) o l l₁ → o < refused_from
+  pub again_node : (t : Tree) (s : State) {o : ℕ} {o' r : Result ℕ Refused} {l l₁ l₂ : Lent}
+      → Built (intern t s) o' l l₁ → o' ≡ Ok o
       → (Got l o l₁ → Built (σ (tree_in l₁ o) (state_in l₁)) r l₁ l₂) → Built (carry_out R σ (S (new t)) s) r l l₂
   unfolding carry_out
   again_node t s b e f = then_node σ b e f
 
   -- S(1/o)
-  pub inverse_refused : (z : Complex) (x : Tree) (s : State) {o : ℕ} {l l₁ : Lent}
-      → Built (intern (leaf (number z)) s) o l l₁ → refused_from ≤ o → Built (carry_out R σ (S (combined InfixOperator.Slash (constant z) (the x))) s) o l l₁
-  inverse_refused z x s b e = named (sym (with_number InfixOperator.Slash z x s)) (then_refused (λ t s. carry_out R σ (S (new (quotient t x))) s) b e)
+  pub inverse_refused : (z : Complex) (x : Tree) (s : State) {o r : Result ℕ Refused} {why : Refused} {l l₁ : Lent}
+      → Built (intern (leaf (number z)) s) o l l₁ → o ≡ Err why → IsErr r → Built (carry_out R σ (S (combined InfixOperator.Slash (constant z) (the x))) s) r l l₁
+  inverse_refused z x s b e v = named (sym (with_number InfixOperator.Slash z x s)) (then_refused (λ t s. carry_out R σ (S (new (quotient t x))) s) b e v)
 
-  pub inverse_node : (z : Complex) (a : ℕ) (s : State) {o r : ℕ} {l l₁ l₂ : Lent}
-      → a < count l.desk → Built (intern (leaf (number z)) s) o l l₁ → o < refused_from
+  pub inverse_node : (z : Complex) (a : ℕ) (s : State) {o : ℕ} {o' r : Result ℕ Refused} {l l₁ l₂ : Lent}
+      → a < count l.desk → Built (intern (leaf (number z)) s) o' l l₁ → o' ≡ Ok o
       → (Got l o l₁ → Built (carry_out R σ (S (new (tree_of l₁.rows (Expression.Infix InfixOperator.Slash o a)))) (state_in l₁)) r l₁ l₂)
       → Built (carry_out R σ (S (combined InfixOperator.Slash (constant z) (the (tree_in l a)))) s) r l l₂
   unfolding grown
@@ -141,12 +143,12 @@ module _ (R : Rows) (σ : Simplifier) where
       λ p. named (ap (λ u. carry_out R σ (S (new (quotient (tree_in l₁ o) u))) (state_in l₁)) (p.stays a lt)) (f p))
 
   -- S around S
-  pub regroup_refused : (l : Lent) (inner : Expression) (outer : Outer) (s : State) {o : ℕ} {l₁ : Lent}
-      → Built (carry_out R σ (S (new (tree_of l.rows inner))) s) o l l₁ → refused_from ≤ o → Built (carry_out R σ (regroup_plan l.rows inner outer) s) o l l₁
-  regroup_refused l inner outer s b e = named (sym (regrouped l.rows outer (S (new (tree_of l.rows inner))) s)) (then_refused (λ t s. and_then (intern (wrapped l.rows outer t) s) σ) b e)
+  pub regroup_refused : (l : Lent) (inner : Expression) (outer : Outer) (s : State) {o r : Result ℕ Refused} {why : Refused} {l₁ : Lent}
+      → Built (carry_out R σ (S (new (tree_of l.rows inner))) s) o l l₁ → o ≡ Err why → IsErr r → Built (carry_out R σ (regroup_plan l.rows inner outer) s) r l l₁
+  regroup_refused l inner outer s b e v = named (sym (regrouped l.rows outer (S (new (tree_of l.rows inner))) s)) (then_refused (λ t s. and_then (intern (wrapped l.rows outer t) s) σ) b e v)
 
-  pub regroup_node : (l : Lent) (inner : Expression) (outer : Outer) (s : State) {o r : ℕ} {e : Expression} {l₁ l₂ : Lent}
-      → OuterIn (count l.desk) outer → e ≡ applied_to outer o → Built (carry_out R σ (S (new (tree_of l.rows inner))) s) o l l₁ → o < refused_from
+  pub regroup_node : (l : Lent) (inner : Expression) (outer : Outer) (s : State) {o : ℕ} {o' r : Result ℕ Refused} {e : Expression} {l₁ l₂ : Lent}
+      → OuterIn (count l.desk) outer → e ≡ applied_to outer o → Built (carry_out R σ (S (new (tree_of l.rows inner))) s) o' l l₁ → o' ≡ Ok o
       → (Got l o l₁ → Within (count l₁.desk) e → Built (carry_out R σ (S (new (tree_of l₁.rows e))) (state_in l₁)) r l₁ l₂)
       → Built (carry_out R σ (regroup_plan l.rows inner outer) s) r l l₂
   unfolding carry_out
@@ -160,23 +162,23 @@ module _ (R : Rows) (σ : Simplifier) where
     next : Simplifier
     next u s = and_then (carry_out R σ P s) λ v s. gives (smaller u v) s
 
-    pub lesser_refused : {o : ℕ} {l l₁ : Lent}
-        → Built (intern t s) o l l₁ → refused_from ≤ o → Built (carry_out R σ (lesser (new t) P) s) o l l₁
+    pub lesser_refused : {o r : Result ℕ Refused} {why : Refused} {l l₁ : Lent}
+        → Built (intern t s) o l l₁ → o ≡ Err why → IsErr r → Built (carry_out R σ (lesser (new t) P) s) r l l₁
     unfolding carry_out next
-    lesser_refused b e = then_refused next b e
+    lesser_refused b e v = then_refused next b e v
 
-    pub lesser_second : {o q : ℕ} {l l₁ l₂ : Lent}
-        → Built (intern t s) o l l₁ → o < refused_from
-        → (Got l o l₁ → Built (carry_out R σ P (state_in l₁)) q l₁ l₂) → refused_from ≤ q
-        → Built (carry_out R σ (lesser (new t) P) s) q l l₂
-    unfolding carry_out next
-    lesser_second {o} {l₁ = l₁} b e f g = then_node next b e λ p. then_refused (λ v s. gives (smaller (tree_in l₁ o) v) s) (f p) g
-
-    pub lesser_node : {o q r : ℕ} {l l₁ l₂ : Lent}
-        → Built (intern t s) o l l₁ → o < refused_from
-        → (Got l o l₁ → Built (carry_out R σ P (state_in l₁)) q l₁ l₂) → q < refused_from
-        → (Sound l₂ → o < count l₂.desk → q < count l₂.desk → At l₂.rows (count l₂.desk) r (smaller (tree_in l₂ o) (tree_in l₂ q)))
+    pub lesser_second : {o : ℕ} {o' q r : Result ℕ Refused} {why : Refused} {l l₁ l₂ : Lent}
+        → Built (intern t s) o' l l₁ → o' ≡ Ok o
+        → (Got l o l₁ → Built (carry_out R σ P (state_in l₁)) q l₁ l₂) → q ≡ Err why → IsErr r
         → Built (carry_out R σ (lesser (new t) P) s) r l l₂
+    unfolding carry_out next
+    lesser_second {o} {l₁ = l₁} b e f g v = then_node next b e λ p. then_refused (λ v s. gives (smaller (tree_in l₁ o) v) s) (f p) g v
+
+    pub lesser_node : {o q i : ℕ} {o' q' : Result ℕ Refused} {l l₁ l₂ : Lent}
+        → Built (intern t s) o' l l₁ → o' ≡ Ok o
+        → (Got l o l₁ → Built (carry_out R σ P (state_in l₁)) q' l₁ l₂) → q' ≡ Ok q
+        → (Sound l₂ → o < count l₂.desk → q < count l₂.desk → At l₂.rows (count l₂.desk) i (smaller (tree_in l₂ o) (tree_in l₂ q)))
+        → Built (carry_out R σ (lesser (new t) P) s) (Ok i) l l₂
     unfolding carry_out next
     lesser_node {o} {q} {l₁ = l₁} {l₂} b e f g a =
         then_node next b e λ p.
@@ -195,23 +197,23 @@ module _ (R : Rows) (σ : Simplifier) where
   added_later p a b w v s = λ i. carry_out R σ (S (combined InfixOperator.Plus (S (new (node_stays p a w i))) (S (new (node_stays p b v i))))) s
 
   -- S(S(a)+S(b))
-  pub added_refused : (a b : Tree) (s : State) {o : ℕ} {l l₁ : Lent}
-      → Built (carry_out R σ (S (new a)) s) o l l₁ → refused_from ≤ o
-      → Built (carry_out R σ (S (combined InfixOperator.Plus (S (new a)) (S (new b)))) s) o l l₁
-  added_refused a b s x e = named (sym (added (S (new a)) (S (new b)) s)) (then_refused (λ t s. and_then (carry_out R σ (S (new b)) s) λ u s. and_then (intern (sum t u) s) σ) x e)
+  pub added_refused : (a b : Tree) (s : State) {o r : Result ℕ Refused} {why : Refused} {l l₁ : Lent}
+      → Built (carry_out R σ (S (new a)) s) o l l₁ → o ≡ Err why → IsErr r
+      → Built (carry_out R σ (S (combined InfixOperator.Plus (S (new a)) (S (new b)))) s) r l l₁
+  added_refused a b s x e v = named (sym (added (S (new a)) (S (new b)) s)) (then_refused (λ t s. and_then (carry_out R σ (S (new b)) s) λ u s. and_then (intern (sum t u) s) σ) x e v)
 
-  pub added_second : (a : Tree) (b : Expression) (s : State) {o q : ℕ} {l l₁ l₂ : Lent}
-      → Within (count l.desk) b → Built (carry_out R σ (S (new a)) s) o l l₁ → o < refused_from
-      → (Got l o l₁ → Built (carry_out R σ (S (new (tree_of l₁.rows b))) (state_in l₁)) q l₁ l₂) → refused_from ≤ q
-      → Built (carry_out R σ (S (combined InfixOperator.Plus (S (new a)) (S (new (tree_of l.rows b))))) s) q l l₂
-  added_second a b s {o} {l = l} {l₁} w x e f g =
+  pub added_second : (a : Tree) (b : Expression) (s : State) {o : ℕ} {o' q r : Result ℕ Refused} {why : Refused} {l l₁ l₂ : Lent}
+      → Within (count l.desk) b → Built (carry_out R σ (S (new a)) s) o' l l₁ → o' ≡ Ok o
+      → (Got l o l₁ → Built (carry_out R σ (S (new (tree_of l₁.rows b))) (state_in l₁)) q l₁ l₂) → q ≡ Err why → IsErr r
+      → Built (carry_out R σ (S (combined InfixOperator.Plus (S (new a)) (S (new (tree_of l.rows b))))) s) r l l₂
+  added_second a b s {o} {l = l} {l₁} w x e f g v =
       named (sym (added (S (new a)) (S (new (tree_of l.rows b))) s))
       (then_node (λ t s. and_then (carry_out R σ (S (new (tree_of l.rows b))) s) λ u s. and_then (intern (sum t u) s) σ) x e λ p.
-      then_refused (λ u s. and_then (intern (sum (tree_in l₁ o) u) s) σ) (named (ap (λ t. carry_out R σ (S (new t)) (state_in l₁)) (node_stays p b w)) (f p)) g)
+      then_refused (λ u s. and_then (intern (sum (tree_in l₁ o) u) s) σ) (named (ap (λ t. carry_out R σ (S (new t)) (state_in l₁)) (node_stays p b w)) (f p)) g v)
 
-  pub added_node : (a : Tree) (b : Expression) (s : State) {o q r : ℕ} {l l₁ l₂ l₃ : Lent}
-      → Within (count l.desk) b → Built (carry_out R σ (S (new a)) s) o l l₁ → o < refused_from
-      → (Got l o l₁ → Built (carry_out R σ (S (new (tree_of l₁.rows b))) (state_in l₁)) q l₁ l₂) → q < refused_from
+  pub added_node : (a : Tree) (b : Expression) (s : State) {o q : ℕ} {o' q' r : Result ℕ Refused} {l l₁ l₂ l₃ : Lent}
+      → Within (count l.desk) b → Built (carry_out R σ (S (new a)) s) o' l l₁ → o' ≡ Ok o
+      → (Got l o l₁ → Built (carry_out R σ (S (new (tree_of l₁.rows b))) (state_in l₁)) q' l₁ l₂) → q' ≡ Ok q
       → (Sound l₂ → o < count l₂.desk → q < count l₂.desk → Built (carry_out R σ (S (new (tree_of l₂.rows (Expression.Infix InfixOperator.Plus o q)))) (state_in l₂)) r l₂ l₃)
       → Built (carry_out R σ (S (combined InfixOperator.Plus (S (new a)) (S (new (tree_of l.rows b))))) s) r l l₃
   unfolding carry_out grown
@@ -223,14 +225,14 @@ module _ (R : Rows) (σ : Simplifier) where
 
   -- S(S(2*x)+S(a+b))
   module _ (z : Complex) (x a b : ℕ) (s : State) {l : Lent} where
-    pub double_refused : {o : ℕ} {l₁ : Lent} → Built (intern (leaf (number z)) s) o l l₁ → refused_from ≤ o
-        → Built (carry_out R σ (S (combined InfixOperator.Plus (S (combined InfixOperator.Star (constant z) (the (tree_in l x)))) (S (new (sum (tree_in l a) (tree_in l b)))))) s) o l l₁
-    double_refused y e =
+    pub double_refused : {o r : Result ℕ Refused} {why : Refused} {l₁ : Lent} → Built (intern (leaf (number z)) s) o l l₁ → o ≡ Err why → IsErr r
+        → Built (carry_out R σ (S (combined InfixOperator.Plus (S (combined InfixOperator.Star (constant z) (the (tree_in l x)))) (S (new (sum (tree_in l a) (tree_in l b)))))) s) r l l₁
+    double_refused y e v =
         named (sym (doubled z (tree_in l x) (S (new (sum (tree_in l a) (tree_in l b)))) s))
-        (then_refused (λ t s. carry_out R σ (S (combined InfixOperator.Plus (S (new (product t (tree_in l x)))) (S (new (sum (tree_in l a) (tree_in l b)))))) s) y e)
+        (then_refused (λ t s. carry_out R σ (S (combined InfixOperator.Plus (S (new (product t (tree_in l x)))) (S (new (sum (tree_in l a) (tree_in l b)))))) s) y e v)
 
-    pub double_node : {o r : ℕ} {l₁ l₂ : Lent} → x < count l.desk → a < count l.desk → b < count l.desk
-        → Built (intern (leaf (number z)) s) o l l₁ → o < refused_from
+    pub double_node : {o : ℕ} {o' r : Result ℕ Refused} {l₁ l₂ : Lent} → x < count l.desk → a < count l.desk → b < count l.desk
+        → Built (intern (leaf (number z)) s) o' l l₁ → o' ≡ Ok o
         → (Got l o l₁ → Built (carry_out R σ (added_plan l₁.rows (Expression.Infix InfixOperator.Star o x) (Expression.Infix InfixOperator.Plus a b)) (state_in l₁)) r l₁ l₂)
         → Built (carry_out R σ (S (combined InfixOperator.Plus (S (combined InfixOperator.Star (constant z) (the (tree_in l x)))) (S (new (sum (tree_in l a) (tree_in l b)))))) s) r l l₂
     unfolding grown
@@ -251,23 +253,23 @@ module _ (R : Rows) (σ : Simplifier) where
     unfolding last again carry_out and_then
     last_is u v s = assoc (and_then (intern (product u (tree_in l x)) s) σ) (λ w s. intern (sum w v) s) σ
 
-    pub affine_refused : {o : ℕ} {l₁ : Lent} → Built (carry_out R σ (S (new (tree_of l.rows a))) s) o l l₁ → refused_from ≤ o
-        → Built (carry_out R σ (affine (tree_of l.rows a) (tree_in l x) (tree_of l.rows b)) s) o l l₁
+    pub affine_refused : {o r : Result ℕ Refused} {why : Refused} {l₁ : Lent} → Built (carry_out R σ (S (new (tree_of l.rows a))) s) o l l₁ → o ≡ Err why → IsErr r
+        → Built (carry_out R σ (affine (tree_of l.rows a) (tree_in l x) (tree_of l.rows b)) s) r l l₁
     unfolding carry_out again second last
-    affine_refused y e = then_refused second y e
+    affine_refused y e v = then_refused second y e v
 
-    pub affine_second : {o q : ℕ} {l₁ l₂ : Lent} → Within (count l.desk) b
-        → Built (carry_out R σ (S (new (tree_of l.rows a))) s) o l l₁ → o < refused_from
-        → (Got l o l₁ → Built (carry_out R σ (S (new (tree_of l₁.rows b))) (state_in l₁)) q l₁ l₂) → refused_from ≤ q
-        → Built (carry_out R σ (affine (tree_of l.rows a) (tree_in l x) (tree_of l.rows b)) s) q l l₂
+    pub affine_second : {o : ℕ} {o' q r : Result ℕ Refused} {why : Refused} {l₁ l₂ : Lent} → Within (count l.desk) b
+        → Built (carry_out R σ (S (new (tree_of l.rows a))) s) o' l l₁ → o' ≡ Ok o
+        → (Got l o l₁ → Built (carry_out R σ (S (new (tree_of l₁.rows b))) (state_in l₁)) q l₁ l₂) → q ≡ Err why → IsErr r
+        → Built (carry_out R σ (affine (tree_of l.rows a) (tree_in l x) (tree_of l.rows b)) s) r l l₂
     unfolding carry_out again second last
-    affine_second {o} {l₁ = l₁} w y e f g =
+    affine_second {o} {l₁ = l₁} w y e f g v =
         then_node second y e λ p.
-        then_refused (last (tree_in l₁ o)) (named (ap (λ t. and_then (intern t (state_in l₁)) σ) (node_stays p b w)) (f p)) g
+        then_refused (last (tree_in l₁ o)) (named (ap (λ t. and_then (intern t (state_in l₁)) σ) (node_stays p b w)) (f p)) g v
 
-    pub affine_node : {o q r : ℕ} {l₁ l₂ l₃ : Lent} → x < count l.desk → Within (count l.desk) b
-        → Built (carry_out R σ (S (new (tree_of l.rows a))) s) o l l₁ → o < refused_from
-        → (Got l o l₁ → Built (carry_out R σ (S (new (tree_of l₁.rows b))) (state_in l₁)) q l₁ l₂) → q < refused_from
+    pub affine_node : {o q : ℕ} {o' q' r : Result ℕ Refused} {l₁ l₂ l₃ : Lent} → x < count l.desk → Within (count l.desk) b
+        → Built (carry_out R σ (S (new (tree_of l.rows a))) s) o' l l₁ → o' ≡ Ok o
+        → (Got l o l₁ → Built (carry_out R σ (S (new (tree_of l₁.rows b))) (state_in l₁)) q' l₁ l₂) → q' ≡ Ok q
         → (Sound l₂ → o < count l₂.desk → x < count l₂.desk → q < count l₂.desk
         → Built (carry_out R σ (regroup_plan l₂.rows (Expression.Infix InfixOperator.Star o x) (Outer.Before InfixOperator.Plus q)) (state_in l₂)) r l₂ l₃)
         → Built (carry_out R σ (affine (tree_of l.rows a) (tree_in l x) (tree_of l.rows b)) s) r l l₃

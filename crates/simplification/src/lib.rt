@@ -1,47 +1,40 @@
 // The cycle of simplifying: `simplify` and what it calls, with the limit falling, and the carriers of the arms' shapes,
-// each of which stores and simplifies in the Rust's order. Each answers one word: a node, or REFUSED and the number of a refusal.
+// each of which stores and simplifies in the Rust's order. Each answers a node, or that nothing was built; why stands on the desk then.
 
 #![tactic(auto)]
 
-ghost use Rattle.store.specs.Memory.{memory};
 ghost use Rattle.store.specs.Held.{lent};
 ghost use Rattle.arms.specs.declared.Arm.{Arm as Arms};
-ghost use Rattle.simplification.specs.Run.{Stores, Carries, Adds, CallsFunction, Prefixes, Infixes, Performs, KeepsAnswer, Simplifies};
+ghost use Rattle.simplification.specs.Run.{Stores, Carries, Adds, CallsFunction, Prefixes, Infixes, Performs, Simplifies};
 
 use arms::{Arm, Outer, choose_function, choose_infix, choose_prefix, smaller};
 use complex::constants::{one, pi, two};
 use evaluation::calculate::{calculate_function, calculate_infix};
 use evaluation::{Asked, Evaluation};
 use expression::node::Expression;
+use expression::refusal::Refusal;
 use expression::{ExpressionFunction, InfixOperator, PrefixOperator};
 use memory::layout::DESK_WORDS;
 use sheet::Counts;
-use store::desk::{REFUSED, ask, note};
+use store::desk::{Refused, note, refuse};
 use store::reading::expression_at;
 use store::{add, keep, kept_at};
 use tasks::limit::Limit;
 use tasks::{Task, count_call, task_at};
 
 // A folded number is stored; NEED comes before. The rows that were found for it are marked first, also where another is lacking.
-fn store_value(store: &mut [[u64; 4]], desk: &mut [u64; DESK_WORDS], asked: Asked) -> usize
+fn store_value(
+    store: &mut [[u64; 4]],
+    desk: &mut [u64; DESK_WORDS],
+    asked: Asked,
+) -> Result<usize, Refused>
     ensures { Stores asked result (lent store.old desk.old) (lent store.new desk.new) }
 {
-    let value = asked.value;
-    let used = asked.used;
-    note(desk, used.first, used.second);
-    match value {
+    note(desk, asked.used.first, asked.used.second);
+    match asked.value {
         Evaluation::Value(z) => add(store, desk, Expression::Number(z)),
-        Evaluation::Incomplete => REFUSED + 10,
-        Evaluation::Need(operation, x, y) => ask(desk, operation, x, y),
-    }
-}
-
-// The answer is kept for the node that it answers, "also at limit 0"; a refusal is not.
-fn keep_answer(store: &mut [[u64; 4]], node: usize, answer: usize)
-    ensures { KeepsAnswer node answer (memory store.old) (memory store.new) }
-{
-    if answer < REFUSED {
-        keep(store, node, answer);
+        Evaluation::Incomplete => Err(refuse(desk, Refusal::Incomplete)),
+        Evaluation::Need(operation, x, y) => Err(refuse(desk, Refusal::Need(operation, x, y))),
     }
 }
 
@@ -54,13 +47,10 @@ fn again(
     table: &[u64],
     counts: Counts,
     e: Expression,
-) -> usize
+) -> Result<usize, Refused>
     ensures { Carries limit.0 table.now counts (Arms.Again e) result (lent store.old desk.old) (lent store.new desk.new) }
 {
-    let added = add(store, desk, e);
-    if REFUSED <= added {
-        return added;
-    }
+    let added = add(store, desk, e)?;
     simplify(limit, store, desk, table, counts, added)
 }
 
@@ -73,13 +63,10 @@ fn inverse(
     table: &[u64],
     counts: Counts,
     other: usize,
-) -> usize
+) -> Result<usize, Refused>
     ensures { Carries limit.0 table.now counts (Arms.Inverse other) result (lent store.old desk.old) (lent store.new desk.new) }
 {
-    let dividend = add(store, desk, Expression::Number(one()));
-    if REFUSED <= dividend {
-        return dividend;
-    }
+    let dividend = add(store, desk, Expression::Number(one()))?;
     let quotient = Expression::Infix(InfixOperator::Slash, dividend, other);
     again(limit, store, desk, table, counts, quotient)
 }
@@ -94,13 +81,10 @@ fn regroup(
     counts: Counts,
     inner: Expression,
     outer: Outer,
-) -> usize
+) -> Result<usize, Refused>
     ensures { Carries limit.0 table.now counts (Arms.Regroup inner outer) result (lent store.old desk.old) (lent store.new desk.new) }
 {
-    let it = again(limit, store, desk, table, counts, inner);
-    if REFUSED <= it {
-        return it;
-    }
+    let it = again(limit, store, desk, table, counts, inner)?;
     again(limit, store, desk, table, counts, outer.applied(it))
 }
 
@@ -115,18 +99,12 @@ fn smaller_regrouped(
     original: Expression,
     e: Expression,
     outer: Outer,
-) -> usize
+) -> Result<usize, Refused>
     ensures { Carries limit.0 table.now counts (Arms.Smaller original e outer) result (lent store.old desk.old) (lent store.new desk.new) }
 {
-    let first = add(store, desk, original);
-    if REFUSED <= first {
-        return first;
-    }
-    let second = regroup(limit, store, desk, table, counts, e, outer);
-    if REFUSED <= second {
-        return second;
-    }
-    smaller(store, first, second)
+    let first = add(store, desk, original)?;
+    let second = regroup(limit, store, desk, table, counts, e, outer)?;
+    Ok(smaller(store, first, second))
 }
 
 // S(S(a)+S(b))
@@ -139,17 +117,11 @@ fn add_simplified(
     counts: Counts,
     a: Expression,
     b: Expression,
-) -> usize
+) -> Result<usize, Refused>
     ensures { Adds limit.0 table.now counts a b result (lent store.old desk.old) (lent store.new desk.new) }
 {
-    let left = again(limit, store, desk, table, counts, a);
-    if REFUSED <= left {
-        return left;
-    }
-    let right = again(limit, store, desk, table, counts, b);
-    if REFUSED <= right {
-        return right;
-    }
+    let left = again(limit, store, desk, table, counts, a)?;
+    let right = again(limit, store, desk, table, counts, b)?;
     let sum = Expression::Infix(InfixOperator::Plus, left, right);
     again(limit, store, desk, table, counts, sum)
 }
@@ -165,18 +137,12 @@ fn distribute(
     original: Expression,
     a: Expression,
     b: Expression,
-) -> usize
+) -> Result<usize, Refused>
     ensures { Carries limit.0 table.now counts (Arms.Distribute original a b) result (lent store.old desk.old) (lent store.new desk.new) }
 {
-    let product = add(store, desk, original);
-    if REFUSED <= product {
-        return product;
-    }
-    let sum = add_simplified(limit, store, desk, table, counts, a, b);
-    if REFUSED <= sum {
-        return sum;
-    }
-    smaller(store, product, sum)
+    let product = add(store, desk, original)?;
+    let sum = add_simplified(limit, store, desk, table, counts, a, b)?;
+    Ok(smaller(store, product, sum))
 }
 
 // S(S(2*x)+S(a+b))
@@ -190,13 +156,10 @@ fn double(
     x: usize,
     a: usize,
     b: usize,
-) -> usize
+) -> Result<usize, Refused>
     ensures { Carries limit.0 table.now counts (Arms.Double x a b) result (lent store.old desk.old) (lent store.new desk.new) }
 {
-    let factor = add(store, desk, Expression::Number(two()));
-    if REFUSED <= factor {
-        return factor;
-    }
+    let factor = add(store, desk, Expression::Number(two()))?;
     let two_x = Expression::Infix(InfixOperator::Star, factor, x);
     let sum_bs = Expression::Infix(InfixOperator::Plus, a, b);
     add_simplified(limit, store, desk, table, counts, two_x, sum_bs)
@@ -213,17 +176,11 @@ fn affine(
     a: Expression,
     x: usize,
     b: Expression,
-) -> usize
+) -> Result<usize, Refused>
     ensures { Carries limit.0 table.now counts (Arms.Affine a x b) result (lent store.old desk.old) (lent store.new desk.new) }
 {
-    let sum_as = again(limit, store, desk, table, counts, a);
-    if REFUSED <= sum_as {
-        return sum_as;
-    }
-    let sum_bs = again(limit, store, desk, table, counts, b);
-    if REFUSED <= sum_bs {
-        return sum_bs;
-    }
+    let sum_as = again(limit, store, desk, table, counts, a)?;
+    let sum_bs = again(limit, store, desk, table, counts, b)?;
     let product = Expression::Infix(InfixOperator::Star, sum_as, x);
     let outer = Outer::Before(InfixOperator::Plus, sum_bs);
     regroup(limit, store, desk, table, counts, product, outer)
@@ -238,11 +195,11 @@ fn carry_out(
     table: &[u64],
     counts: Counts,
     arm: Arm,
-) -> usize
+) -> Result<usize, Refused>
     ensures { Carries limit.0 table.now counts arm result (lent store.old desk.old) (lent store.new desk.new) }
 {
     match arm {
-        Arm::Use(i) => i,
+        Arm::Use(i) => Ok(i),
         Arm::Build(e) => add(store, desk, e),
         Arm::Fold(operator, x, y) => {
             let asked = calculate_infix(table, counts, x, operator, y);
@@ -272,13 +229,10 @@ fn simplify_function_call(
     counts: Counts,
     function: ExpressionFunction,
     child: usize,
-) -> usize
+) -> Result<usize, Refused>
     ensures { CallsFunction limit.0 table.now counts function child result (lent store.old desk.old) (lent store.new desk.new) }
 {
-    let x = simplify(limit, store, desk, table, counts, child);
-    if REFUSED <= x {
-        return x;
-    }
+    let x = simplify(limit, store, desk, table, counts, child)?;
     let arm = choose_function(store, function, x);
     let limit = limit.lowered();
     carry_out(limit, store, desk, table, counts, arm)
@@ -295,17 +249,11 @@ fn simplify_infix(
     left: usize,
     operator: InfixOperator,
     right: usize,
-) -> usize
+) -> Result<usize, Refused>
     ensures { Infixes limit.0 table.now counts operator left right result (lent store.old desk.old) (lent store.new desk.new) }
 {
-    let x = simplify(limit, store, desk, table, counts, left);
-    if REFUSED <= x {
-        return x;
-    }
-    let y = simplify(limit, store, desk, table, counts, right);
-    if REFUSED <= y {
-        return y;
-    }
+    let x = simplify(limit, store, desk, table, counts, left)?;
+    let y = simplify(limit, store, desk, table, counts, right)?;
     let arm = choose_infix(store, x, operator, y);
     let limit = limit.lowered();
     carry_out(limit, store, desk, table, counts, arm)
@@ -321,13 +269,10 @@ fn simplify_prefix(
     counts: Counts,
     operator: PrefixOperator,
     child: usize,
-) -> usize
+) -> Result<usize, Refused>
     ensures { Prefixes limit.0 table.now counts operator child result (lent store.old desk.old) (lent store.new desk.new) }
 {
-    let x = simplify(limit, store, desk, table, counts, child);
-    if REFUSED <= x {
-        return x;
-    }
+    let x = simplify(limit, store, desk, table, counts, child)?;
     let arm = choose_prefix(store, operator, x);
     let limit = limit.lowered();
     carry_out(limit, store, desk, table, counts, arm)
@@ -343,21 +288,22 @@ fn perform(
     counts: Counts,
     node: usize,
     e: Expression,
-) -> usize
+) -> Result<usize, Refused>
     ensures { Performs limit.0 table.now counts node e result (lent store.old desk.old) (lent store.new desk.new) }
 {
     let task = task_at(limit, node, e);
     let limit = limit.lowered();
     match task {
         Task::NumberOfPi => add(store, desk, Expression::Number(pi())),
-        Task::Itself(i) => i,
+        Task::Itself(i) => Ok(i),
         Task::FunctionCall(f, a) => simplify_function_call(limit, store, desk, table, counts, f, a),
         Task::Infix(o, a, b) => simplify_infix(limit, store, desk, table, counts, a, o, b),
         Task::Prefix(o, a) => simplify_prefix(limit, store, desk, table, counts, o, a),
     }
 }
 
-// A node simplified at a limit. "A cached equal node gives its cached result, whatever limit it was made at."
+// A node simplified at a limit. "A cached equal node gives its cached result, whatever limit it was made at." The answer is kept for the node,
+// "also at limit 0"; a refusal is not.
 #[cycle(simplifying)]
 pub fn simplify(
     limit: Limit,
@@ -366,16 +312,15 @@ pub fn simplify(
     table: &[u64],
     counts: Counts,
     node: usize,
-) -> usize
+) -> Result<usize, Refused>
     ensures { Simplifies limit.0 table.now counts node result (lent store.old desk.old) (lent store.new desk.new) }
 {
     count_call(desk);
-    let kept = kept_at(store, node);
-    if kept != 0 {
-        return kept - 1;
+    if let Some(kept) = kept_at(store, node) {
+        return Ok(kept);
     }
     let e = expression_at(store, node);
-    let answer = perform(limit, store, desk, table, counts, node, e);
-    keep_answer(store, node, answer);
-    answer
+    let answer = perform(limit, store, desk, table, counts, node, e)?;
+    keep(store, node, answer);
+    Ok(answer)
 }

@@ -19,21 +19,21 @@ fn name_at(s: &[u8], at: usize, fifth: &[u8]) -> Number
     ensures { Reads (name_from 1 (names_with fifth.now) (drop at s.now)) s.now result }
 {
     if word_at(s, at, b"sin") {
-        return Number::Is(1, at + 3);
+        return Some((1, at + 3));
     }
     if word_at(s, at, b"cos") {
-        return Number::Is(2, at + 3);
+        return Some((2, at + 3));
     }
     if word_at(s, at, b"exp") {
-        return Number::Is(3, at + 3);
+        return Some((3, at + 3));
     }
     if word_at(s, at, b"sqrt") {
-        return Number::Is(4, at + 4);
+        return Some((4, at + 4));
     }
     if word_at(s, at, fifth) {
-        return Number::Is(5, at + fifth.len());
+        return Some((5, at + fifth.len()));
     }
-    Number::Bad
+    None
 }
 
 pub fn function_at(s: &[u8], at: usize) -> Number
@@ -52,33 +52,33 @@ pub fn prefix_at(s: &[u8], at: usize) -> Number
     ensures { Reads (name_from 1 prefix_names (drop at s.now)) s.now result }
 {
     if word_at(s, at, b"+") {
-        return Number::Is(1, at + 1);
+        return Some((1, at + 1));
     }
     if word_at(s, at, b"-") {
-        return Number::Is(2, at + 1);
+        return Some((2, at + 1));
     }
-    Number::Bad
+    None
 }
 
 pub fn infix_at(s: &[u8], at: usize) -> Number
     ensures { Reads (name_from 1 infix_names (drop at s.now)) s.now result }
 {
     if word_at(s, at, b"+") {
-        return Number::Is(1, at + 1);
+        return Some((1, at + 1));
     }
     if word_at(s, at, b"-") {
-        return Number::Is(2, at + 1);
+        return Some((2, at + 1));
     }
     if word_at(s, at, b"*") {
-        return Number::Is(3, at + 1);
+        return Some((3, at + 1));
     }
     if word_at(s, at, b"/") {
-        return Number::Is(4, at + 1);
+        return Some((4, at + 1));
     }
     if word_at(s, at, b"^") {
-        return Number::Is(5, at + 1);
+        return Some((5, at + 1));
     }
-    Number::Bad
+    None
 }
 
 fn write_name(out: &mut [u8], at: usize, number: u64, fifth: &[u8]) -> usize
@@ -98,14 +98,14 @@ pub fn write_function(out: &mut [u8], at: usize, f: ExpressionFunction) -> usize
     requires { at + length (function_name f) ≤ length out.old }
     ensures { Put out.old at (function_name f) result out.new }
 {
-    write_name(out, at, f.code(), b"cis")
+    write_name(out, at, u64::from(f), b"cis")
 }
 
 pub fn write_operation(out: &mut [u8], at: usize, o: Operation) -> usize
     requires { at + length (operation_name o) ≤ length out.old }
     ensures { Put out.old at (operation_name o) result out.new }
 {
-    write_name(out, at, o.code(), b"pow")
+    write_name(out, at, u64::from(o), b"pow")
 }
 
 pub fn function_length(f: ExpressionFunction) -> usize

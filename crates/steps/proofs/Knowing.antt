@@ -106,9 +106,6 @@ as_infix f ((((((_, p), q), r), s), t), u) = rw (ne_eqb f.opcode 1 p, ne_eqb f.o
 pub as_last : (f : Fields) → 4 < f.opcode → ((Unit {0} × (f.opcode ≡ 5 → ⊥)) × (f.opcode ≡ 6 → ⊥)) → Step.Infix (infix_of f.sub) ≡ step_of f
 as_last f l ((_, p), q) = as_infix f ((((((tt, λ e. omega (arith, l, e)), λ e. omega (arith, l, e)), λ e. omega (arith, l, e)), λ e. omega (arith, l, e)), p), q)
 
-pub as_none : (f : Fields) → (f.opcode ≡ 1 → ⊥) → f.opcode ≤ 4 → (((Unit {0} × (f.opcode ≡ 2 → ⊥)) × (f.opcode ≡ 3 → ⊥)) × (f.opcode ≡ 4 → ⊥)) → Step.Infix (infix_of f.sub) ≡ step_of f
-as_none f n l (((_, p), q), r) = as_infix f ((((((tt, n), p), q), r), λ e. omega (arith, l, e)), λ e. omega (arith, l, e))
-
 -- known fields are those of the step that they say
 pub known_same : (f : Fields) → same f (fields_of (step_of f)) ≡ known f
 unfolding same known step_of

@@ -1,9 +1,11 @@
 -- The number that bytes spell, at a place of a tape and piece by piece. Assumes nothing.
-use mathlib.Core.Path.{◌≡◌, refl, sym}
-use mathlib.Core.List.{List}
-use Prim.Native.Nat.{ℕ, suc, ◌+◌, ◌*◌, ◌<◌, ◌≤◌}
+use mathlib.Core.Path.{◌≡◌, refl, ap, ◌∙◌}
+use mathlib.Core.List.{List, [], ◌∷◌}
+use Prim.Native.Nat.{ℕ, suc, ◌+◌, ◌-◌, ◌*◌, ◌<◌, ◌≤◌}
 use native.Mathlib.Omega.{arith}
-use lib.ListN.{length, get_or, drop}
+use Rattle.std.specs.Int.{w16, w32, w64, from_le_bytes}
+use Rattle.std.proofs.lemmas.List.{length-take-le}
+use lib.ListN.{length, get_or, take, drop, length-drop}
 use lib.Seq.{drop-drop}
 use Rattle.text.proofs.Running.{here}
 use Rattle.steps.specs.Steps.{fields, spelt, first, fields_in}
@@ -17,41 +19,44 @@ pub first_none : (bs : List ℕ) → first 0 bs ≡ 0
 unfolding first spelt
 first_none bs = refl
 
-pub first_two : (s : List ℕ) (at : ℕ) → at + 2 ≤ length s → first 2 (drop at s) ≡ get_or s at 0 + 256 * get_or s (at + 1) 0
-first_two s at l =
-    let p = first_more 1 s at (omega (arith, l)) in
-    let q = first_more 0 s (at + 1) (omega (arith, l)) in
-    omega (arith, p, q, first_none (drop (at + 1 + 1) s))
+-- ---- the library reads as many bytes as they spell
 
-pub first_four : (s : List ℕ) (at : ℕ) → at + 4 ≤ length s → first 4 (drop at s) ≡ first 2 (drop at s) + 65536 * first 2 (drop (at + 2) s)
-first_four s at l =
-    let p = first_more 3 s at (omega (arith, l)) in
-    let q : first 3 (drop (at + 1) s) ≡ get_or s (at + 1) 0 + 256 * first 2 (drop (at + 2) s) = rw (sym (two at)) (first_more 2 s (at + 1) (omega (arith, l))) in
-    omega (arith, p, q, first_two s at (omega (arith, l)))
-  where
-    two : (n : ℕ) → n + 1 + 1 ≡ n + 2
-    two n = omega arith
+pub two_spelt : (bs : List ℕ) → length bs ≡ 2 → from_le_bytes w16 bs ≡ spelt bs
+unfolding spelt
+two_spelt [] l = absurd (omega (arith, l))
+two_spelt (a ∷ []) l = absurd (omega (arith, l))
+two_spelt (a ∷ b ∷ []) l = omega arith
+two_spelt (a ∷ b ∷ c ∷ r) l = absurd (omega (arith, l))
 
-pub first_eight : (s : List ℕ) (at : ℕ) → at + 8 ≤ length s → first 8 (drop at s) ≡ first 4 (drop at s) + 4294967296 * first 4 (drop (at + 4) s)
-first_eight s at l =
-    let a = first_more 7 s at (omega (arith, l)) in
-    let b = first_more 6 s (at + 1) (omega (arith, l)) in
-    let c = first_more 5 s (at + 2) (omega (arith, l)) in
-    let d = first_more 4 s (at + 3) (omega (arith, l)) in
-    let e = first_more 3 s at (omega (arith, l)) in
-    let f = first_more 2 s (at + 1) (omega (arith, l)) in
-    let g = first_more 1 s (at + 2) (omega (arith, l)) in
-    let h = first_more 0 s (at + 3) (omega (arith, l)) in
-    omega (arith, a, rw (one at) at b, rw (two at) at c, rw (three at) at d, e, rw (one at) at f, rw (two at) at g, h, first_none (drop (at + 3 + 1) s))
-  where
-    one : (n : ℕ) → n + 1 + 1 ≡ n + 2
-    one n = omega arith
+pub four_spelt : (bs : List ℕ) → length bs ≡ 4 → from_le_bytes w32 bs ≡ spelt bs
+unfolding spelt
+four_spelt [] l = absurd (omega (arith, l))
+four_spelt (a ∷ []) l = absurd (omega (arith, l))
+four_spelt (a ∷ b ∷ []) l = absurd (omega (arith, l))
+four_spelt (a ∷ b ∷ c ∷ []) l = absurd (omega (arith, l))
+four_spelt (a ∷ b ∷ c ∷ d ∷ []) l = omega arith
+four_spelt (a ∷ b ∷ c ∷ d ∷ e ∷ r) l = absurd (omega (arith, l))
 
-    two : (n : ℕ) → n + 2 + 1 ≡ n + 3
-    two n = omega arith
+pub eight_spelt : (bs : List ℕ) → length bs ≡ 8 → from_le_bytes w64 bs ≡ spelt bs
+unfolding spelt
+eight_spelt [] l = absurd (omega (arith, l))
+eight_spelt (a ∷ []) l = absurd (omega (arith, l))
+eight_spelt (a ∷ b ∷ []) l = absurd (omega (arith, l))
+eight_spelt (a ∷ b ∷ c ∷ []) l = absurd (omega (arith, l))
+eight_spelt (a ∷ b ∷ c ∷ d ∷ []) l = absurd (omega (arith, l))
+eight_spelt (a ∷ b ∷ c ∷ d ∷ e ∷ []) l = absurd (omega (arith, l))
+eight_spelt (a ∷ b ∷ c ∷ d ∷ e ∷ f ∷ []) l = absurd (omega (arith, l))
+eight_spelt (a ∷ b ∷ c ∷ d ∷ e ∷ f ∷ g ∷ []) l = absurd (omega (arith, l))
+eight_spelt (a ∷ b ∷ c ∷ d ∷ e ∷ f ∷ g ∷ h ∷ []) l = omega arith
+eight_spelt (a ∷ b ∷ c ∷ d ∷ e ∷ f ∷ g ∷ h ∷ i ∷ r) l = absurd (omega (arith, l))
 
-    three : (n : ℕ) → n + 3 + 1 ≡ n + 4
-    three n = omega arith
+-- of the bytes from a place on, k were read
+module _ (k : ℕ) (read : List ℕ → ℕ) (spells : (bs : List ℕ) → length bs ≡ k → read bs ≡ spelt bs) where
+  pub read_first : (s : List ℕ) (at : ℕ) {bytes : List ℕ} {r : ℕ} → at + k ≤ length s → r ≡ read bytes → bytes ≡ take (at + k - at) (drop at s) → r ≡ first k (drop at s)
+  unfolding first
+  read_first s at {bytes} l p q =
+      let e : bytes ≡ take k (drop at s) = q ∙ ap (λ n. take n (drop at s)) (omega arith) in
+      p ∙ ap read e ∙ spells _ (length-take-le k (drop at s) (omega (arith, length-drop at s)))
 
 -- the six fields of the bytes from a place on
 pub fields_at : (s : List ℕ) (at : ℕ) {half word re im : ℕ} → at + 24 ≤ length s → half ≡ first 2 (drop (at + 2) s) → word ≡ first 4 (drop (at + 4) s)

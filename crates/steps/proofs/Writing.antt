@@ -1,11 +1,11 @@
 -- The bytes of a number and of a step as they are written, and how many they are. Assumes nothing.
-use mathlib.Core.Path.{◌≡◌, refl, sym, ap, subst, ◌∙◌}
+use mathlib.Core.Path.{◌≡◌, refl, ap, subst, ◌∙◌}
 use mathlib.Core.List.{List, [], ◌∷◌, ◌++◌}
-use Prim.Native.Nat.{ℕ, zero, suc, ◌+◌, ◌*◌, ◌/◌, ◌%◌, ◌<◌, ◌≤◌, ◌-◌}
-use native.Mathlib.Nat.{add-zero, sub-zero}
+use Prim.Native.Nat.{ℕ, zero, suc, ◌+◌, ◌*◌, ◌/◌, ◌<◌}
 use native.Mathlib.Omega.{arith}
-use lib.ListN.{length, set, length-append}
-use lib.Seq.{sets, length-sets}
+use Rattle.std.proofs.lemmas.Nat.{shr-shr}
+use Rattle.std.specs.Int.{w16, w32, w64, to_le_bytes}
+use lib.ListN.{length, length-append}
 use Rattle.text.specs.Put.{Put}
 use Rattle.text.proofs.Putting.{put_then, put_length}
 use Rattle.steps.specs.declared.Step.{Step}
@@ -35,29 +35,26 @@ unfolding tape_of
 tape_size [] = refl
 tape_size (s ∷ ss) = omega (arith, length-append (encoded s) (tape_of ss), step_size s, tape_size ss)
 
--- ---- the loop: what is still to be written, written
+-- ---- the library writes these bytes
 
-module _ (out₀ : List ℕ) (at n count : ℕ) where
-  pub little_begins : sets out₀ (at + 0) (little (count - 0) n) ≡ sets out₀ at (little count n)
-  little_begins = rw (add-zero at, sub-zero count) refl
+pub little_one : (n : ℕ) → n < 256 → little 1 n ≡ n ∷ []
+unfolding little
+little_one n l = ap (λ b. b ∷ []) (omega (arith, l))
 
-  pub little_length : (out : List ℕ) (k rest : ℕ) → sets out (at + k) (little (count - k) rest) ≡ sets out₀ at (little count n) → length out ≡ length out₀
-  little_length out k rest e = sym (length-sets out (at + k) (little (count - k) rest)) ∙ ap length e ∙ length-sets out₀ at (little count n)
+pub little_two : (n : ℕ) → to_le_bytes w16 n ≡ little 2 n
+unfolding little
+little_two n = refl
 
-  pub little_again : (out : List ℕ) (k rest : ℕ) → k < count → sets out (at + k) (little (count - k) rest) ≡ sets out₀ at (little count n)
-      → sets (set out (at + k) (rest % 256)) (at + (k + 1)) (little (count - (k + 1)) (rest / 256)) ≡ sets out₀ at (little count n)
-  unfolding little
-  little_again out k rest l e =
-      let p : count - k ≡ suc (count - (k + 1)) = omega (arith, l) in
-      let q : at + (k + 1) ≡ suc (at + k) = omega arith in
-      rw q (ap (λ j. sets out (at + k) (little j rest)) (sym p) ∙ e)
+pub little_four : (n : ℕ) → to_le_bytes w32 n ≡ little 4 n
+unfolding little
+little_four n = rw (shr-shr n 8 8, shr-shr n 16 8) refl
 
-  pub little_put : (out : List ℕ) (k rest : ℕ) → count ≤ k → k ≤ count → sets out (at + k) (little (count - k) rest) ≡ sets out₀ at (little count n)
-      → Put out₀ at (little count n) (at + k) out
-  unfolding little
-  little_put out k rest l m e =
-      let p : count - k ≡ 0 = omega (arith, l) in
-      record { place = omega (arith, l, m, little_size count n); stored = ap (λ j. sets out (at + k) (little j rest)) (sym p) ∙ e }
+pub little_eight : (n : ℕ) → to_le_bytes w64 n ≡ little 8 n
+unfolding little
+little_eight n = rw (shr-shr n 8 8, shr-shr n 16 8, shr-shr n 24 8, shr-shr n 32 8, shr-shr n 40 8, shr-shr n 48 8) refl
+
+pub put_as : {a b x y : List ℕ} {at p : ℕ} → x ≡ y → Put a at x p b → Put a at y p b
+put_as {a} {b} {at = at} {p} e h = subst (λ x. Put a at x p b) e h
 
 -- ---- one after another
 

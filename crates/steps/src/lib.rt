@@ -4,7 +4,6 @@
 
 ghost use Rattle.std.specs.Prelude.{◌≡◌, ◌<◌};
 ghost use Rattle.steps.specs.Steps.{fields, fields_of, step_of, known};
-ghost use Rattle.steps.specs.Same.{same};
 
 use complex::Complex;
 use complex::bits::{from_bits, to_bits};
@@ -24,7 +23,7 @@ pub enum Step {
 }
 
 // "Opcode, sub, u16, u32, real bits, imaginary bits."
-#[derive(Clone, Copy)]
+#[derive(Clone, Copy, PartialEq, Eq)]
 pub struct Fields {
     pub opcode: u8,
     pub sub: u8,
@@ -48,48 +47,40 @@ fn coded(opcode: u8, sub: u8) -> Fields
     }
 }
 
+#[tactic(auto, using(crate::proofs::Knowing::function_byte, crate::proofs::Knowing::prefix_byte, crate::proofs::Knowing::infix_byte))]
 pub fn fields_of(s: Step) -> Fields
     ensures { result ≡ fields_of s }
 {
     match s {
         Step::Number(z) => Fields {
-            opcode: 1,
-            sub: 0,
-            half: 0,
-            word: 0,
             re: to_bits(z.re),
             im: to_bits(z.im),
+            ..coded(1, 0)
         },
         Step::Pi => coded(2, 0),
         Step::Variable(number) => Fields {
-            opcode: 3,
-            sub: 0,
             half: number,
-            word: 0,
-            re: 0,
-            im: 0,
+            ..coded(3, 0)
         },
         Step::Memory(region, index) => Fields {
-            opcode: 4,
-            sub: 0,
             half: region,
             word: index,
-            re: 0,
-            im: 0,
+            ..coded(4, 0)
         },
-        Step::Function(f) => coded(5, f.code() as u8),
-        Step::Prefix(o) => coded(6, o.code() as u8),
-        Step::Infix(o) => coded(7, o.code() as u8),
+        Step::Function(f) => coded(5, u64::from(f) as u8),
+        Step::Prefix(o) => coded(6, u64::from(o) as u8),
+        Step::Infix(o) => coded(7, u64::from(o) as u8),
     }
 }
 
 // The step of an operation, by its opcode and its sub.
+#[tactic(auto, unfolding(crate::specs::Steps::step_of))]
 fn operation_of(f: Fields) -> Step
     requires { 4 < f.opcode }
     ensures { result ≡ step_of f }
 {
     let opcode = f.opcode;
-    let sub = f.sub as u64;
+    let sub = u64::from(f.sub);
     match opcode {
         5 => Step::Function(ExpressionFunction::from_code(sub)),
         6 => Step::Prefix(PrefixOperator::from_code(sub)),
@@ -99,6 +90,7 @@ fn operation_of(f: Fields) -> Step
 
 // The step that the fields say; who plays a tape has tested before that they are known. The tests part the opcodes by
 // halves: a jump by a table of them is guessed wrong more often.
+#[tactic(auto, unfolding(crate::specs::Steps::step_of))]
 pub fn step_of(f: Fields) -> Step
     ensures { result ≡ step_of f }
 {
@@ -116,34 +108,13 @@ pub fn step_of(f: Fields) -> Step
         2 => Step::Pi,
         3 => Step::Variable(f.half),
         4 => Step::Memory(f.half, f.word),
-        _ => Step::Infix(InfixOperator::from_code(f.sub as u64)),
+        _ => Step::Infix(InfixOperator::from_code(u64::from(f.sub))),
     }
-}
-
-fn is_same(f: Fields, g: Fields) -> bool
-    ensures { result ≡ same f g }
-{
-    if f.opcode != g.opcode {
-        return false;
-    }
-    if f.sub != g.sub {
-        return false;
-    }
-    if f.half != g.half {
-        return false;
-    }
-    if f.word != g.word {
-        return false;
-    }
-    if f.re != g.re {
-        return false;
-    }
-    f.im == g.im
 }
 
 // "Known codes, unused fields zero, the one NaN": the fields are those of the step that they say.
 pub fn is_known(f: Fields) -> bool
     ensures { result ≡ known f }
 {
-    is_same(f, fields_of(step_of(f)))
+    f == fields_of(step_of(f))
 }

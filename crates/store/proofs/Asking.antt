@@ -1,7 +1,7 @@
--- What `ask` puts on the desk is what is read of it again. Assumes nothing.
+-- What `refuse` puts on the desk is what is read of it again. Assumes nothing.
 use mathlib.Core.Path.{◌≡◌, refl, ap, ◌∙◌}
 use mathlib.Core.List.{List}
-use Prim.Native.Nat.{ℕ, ◌+◌, ◌≤◌, ◌<◌}
+use Prim.Native.Nat.{ℕ, ◌≤◌, ◌<◌}
 use native.Mathlib.Omega.{arith}
 use lib.ListN.{length, get_or, set, length-set}
 use lib.Seq.{get_or-set_same, get_or-set_other}
@@ -13,9 +13,10 @@ use Rattle.complex.proofs.Doubles.{double_back}
 use Rattle.expression.specs.declared.refusal.Operation.{Operation}
 use Rattle.expression.specs.declared.refusal.Refusal.{Refusal}
 use Rattle.expression.specs.Codes.{operation_code, operation_of}
+use Rattle.expression.specs.Refusals.{number_of}
 use Rattle.expression.proofs.Numbering.{operation_back}
 use Rattle.store.proofs.Noting.{marks_below}
-use Rattle.store.specs.Desk.{count, calls_on, marks_on, with_calls, need_on, refused_from, Alike, Asks}
+use Rattle.store.specs.Desk.{count, calls_on, marks_on, with_calls, need_on, why_on, OfBuilding, refusal_on, Alike, Asks, Refuses}
 
 -- the last of several words that are set is there, and so are the others
 module _ (d : List ℕ) (o a b p q : ℕ) where
@@ -82,22 +83,84 @@ number_back : (z : Complex) → Fitting z → of_parts (bits_of z.re) (bits_of z
 number_back z h = λ i. record { re = double_back z.re h.re i; im = double_back z.im h.im i }
 
 pub asked : (d : List ℕ) (operation : Operation) (x y : Complex) → Fitting x → Fitting y
-    → Asks operation x y (refused_from + 9) d (set (set (set (set (set d 2 (operation_code operation)) 3 (bits_of x.re)) 4 (bits_of x.im)) 5 (bits_of y.re)) 6 (bits_of y.im))
-unfolding need_on
-asked d operation x y fx fy = record {
-  answer = refl;
-  need = λ l.
-      let o = operation_code operation in
-      let a = bits_of x.re in
-      let b = bits_of x.im in
-      let p = bits_of y.re in
-      let q = bits_of y.im in
-      let h : 7 ≤ length d = omega (arith, l) in
-      let e = ap operation_of (w2 d o a b p q h) ∙ operation_back operation in
-      let ex = (λ i. of_parts (w3 d o a b p q h i) (w4 d o a b p q h i)) ∙ number_back x fx in
-      let ey = (λ i. of_parts (w5 d o a b p q h i) (w6 d o a b p q h i)) ∙ number_back y fy in
-      λ i. Refusal.Need (e i) (ex i) (ey i);
-  alike = alike_written d (operation_code operation) (bits_of x.re) (bits_of x.im) (bits_of y.re) (bits_of y.im);
+    → Asks operation x y d (set (set (set (set (set d 2 (operation_code operation)) 3 (bits_of x.re)) 4 (bits_of x.im)) 5 (bits_of y.re)) 6 (bits_of y.im))
+unfolding need_on why_on
+asked d operation x y fx fy =
+    let o = operation_code operation in
+    let a = bits_of x.re in
+    let b = bits_of x.im in
+    let p = bits_of y.re in
+    let q = bits_of y.im in
+    record {
+      need = λ l.
+          let h : 7 ≤ length d = omega (arith, l) in
+          let e = ap operation_of (w2 d o a b p q h) ∙ operation_back operation in
+          let ex = (λ i. of_parts (w3 d o a b p q h i) (w4 d o a b p q h i)) ∙ number_back x fx in
+          let ey = (λ i. of_parts (w5 d o a b p q h i) (w6 d o a b p q h i)) ∙ number_back y fy in
+          λ i. Refusal.Need (e i) (ex i) (ey i);
+      numbered = other d o a b p q 7 (λ x. absurd (omega arith)) (λ x. absurd (omega arith)) (λ x. absurd (omega arith)) (λ x. absurd (omega arith)) (λ x. absurd (omega arith));
+      alike = alike_written d o a b p q;
+    }
+
+-- ---- why nothing was built
+
+why_numbered : (d : List ℕ) (n : ℕ) → length d ≡ desk_words → why_on (set d 7 n) ≡ n
+unfolding why_on
+why_numbered d n l = get_or-set_same d 7 n 0 (omega (arith, l))
+
+alike_numbered : (d : List ℕ) (n : ℕ) → Alike d (set d 7 n)
+unfolding count calls_on
+alike_numbered d n = record {
+  counted = get_or-set_other d 7 0 n 0 λ x. absurd (omega arith);
+  called = get_or-set_other d 7 1 n 0 λ x. absurd (omega arith);
+  marked = marks_below d 7 n (omega arith);
+  long = length-set d 7 n;
+}
+
+-- a number of a refusal that carries nothing
+plain : (why : Refusal) (d : List ℕ) → ((o : Operation) (x y : Complex) → why ≡ Refusal.Need o x y → ⊥) → why_on d ≡ number_of why → OfBuilding why → refusal_on d ≡ why
+unfolding refusal_on
+plain (Refusal.BadList line) d n e o = absurd (omega (arith, o))
+plain (Refusal.LongList line) d n e o = absurd (omega (arith, o))
+plain (Refusal.BadSheet line) d n e o = absurd (omega (arith, o))
+plain (Refusal.LongSheet line) d n e o = absurd (omega (arith, o))
+plain Refusal.BadLimit d n e o = absurd (omega (arith, o))
+plain Refusal.Big d n e o = rw e refl
+plain Refusal.Deep d n e o = rw e refl
+plain Refusal.Room d n e o = rw e refl
+plain (Refusal.Need operation x y) d n e o = absurd (n operation x y refl)
+plain Refusal.Incomplete d n e o = rw e refl
+plain Refusal.NotReal d n e o = absurd (omega (arith, o))
+plain Refusal.NotANumber d n e o = absurd (omega (arith, o))
+plain Refusal.OutRoom d n e o = absurd (omega (arith, o))
+plain Refusal.LongTape d n e o = absurd (omega (arith, o))
+plain (Refusal.BadTape step) d n e o = absurd (omega (arith, o))
+plain (Refusal.BadNames line) d n e o = absurd (omega (arith, o))
+plain (Refusal.UnknownName line) d n e o = absurd (omega (arith, o))
+plain Refusal.BadBook d n e o = absurd (omega (arith, o))
+plain (Refusal.Many listing) d n e o = absurd (omega (arith, o))
+plain Refusal.NoText d n e o = absurd (omega (arith, o))
+
+pub refuses_plain : (d : List ℕ) (why : Refusal) {n : ℕ} → n ≡ number_of why → ((o : Operation) (x y : Complex) → why ≡ Refusal.Need o x y → ⊥) → Refuses why d (set d 7 n)
+refuses_plain d why {n} e p = record {
+  told = λ l o. plain why (set d 7 n) p (why_numbered d n l ∙ e) o;
+  alike = alike_numbered d n;
+}
+
+need_told : (d : List ℕ) {operation : Operation} {x y : Complex} → why_on d ≡ 9 → need_on d ≡ Refusal.Need operation x y → refusal_on d ≡ Refusal.Need operation x y
+unfolding refusal_on
+need_told d e n = rw e n
+
+pub refuses_need : (d : List ℕ) {operation : Operation} {x y : Complex} {n : ℕ} {d' : List ℕ} → n ≡ 9 → Asks operation x y (set d 7 n) d'
+    → Refuses (Refusal.Need operation x y) d d'
+refuses_need d {n = n} e a = record {
+  told = λ l o. need_told _ (a.numbered ∙ why_numbered d n l ∙ e) (a.need (length-set d 7 n ∙ l));
+  alike = (let b = alike_numbered d n in record {
+    counted = a.alike.counted ∙ b.counted;
+    called = a.alike.called ∙ b.called;
+    marked = a.alike.marked ∙ b.marked;
+    long = a.alike.long ∙ b.long;
+  });
 }
 
 -- the calls that were counted

@@ -1,36 +1,32 @@
 -- The laws of building in steps. `stays`: nothing is built. `then_node`: a step that gave a node, and what was done after it.
 -- `then_refused`: a step that was refused; its state stands. `on_desk`: something was done to the desk first; `after_noting`: rows were
 -- noted first. `named`: what is built by another name. Assumes nothing.
-use mathlib.Core.Path.{◌≡◌, refl, sym, ap, ◌∙◌, subst}
+use mathlib.Core.Path.{◌≡◌, refl, ap, ◌∙◌, subst}
+use mathlib.Core.Bool.{false≢true}
 use mathlib.Core.List.{List, ◌++◌}
-use Prim.Native.Nat.{ℕ, ◌-◌, ◌≤◌, ◌<◌}
+use Prim.Native.Nat.{ℕ, ◌≤◌, ◌<◌}
 use native.Mathlib.Omega.{arith}
 use native.Mathlib.Decide.{dec_lt}
-use borrow.Author.Tests.{lt-ltb, le-ltb}
 use lib.ListN.{length}
+use Rattle.std.specs.Prelude.{Result, Ok, Err, IfOk, IsErr, Option}
 use Rattle.memory.specs.Layout.{numbered}
-use Rattle.complex.specs.declared.Complex.{Complex}
-use Rattle.expression.specs.declared.refusal.Operation.{Operation}
 use Rattle.expression.specs.declared.refusal.Refusal.{Refusal}
 use Rattle.expression.specs.Trees.{Tree}
 use Rattle.store.specs.Storing.{State, Answer, gives, refused, and_then, noting}
 use Rattle.store.specs.Memory.{Memory, origin_at, state_of}
-use Rattle.store.specs.Desk.{count, refusal_on, refused_from, Alike, Asks, Notes}
+use Rattle.store.specs.declared.desk.Refused.{Refused}
+use Rattle.store.specs.Desk.{count, OfBuilding, refusal_on, Alike, Refuses, Notes}
 use Rattle.store.specs.Held.{Lent, tree_in, state_in, Sound, Step, seen, Built}
-use Rattle.store.proofs.Trees.{room_each}
 
--- a word as an answer
-pub seen_node : (r : ℕ) (l : Lent) → r < refused_from → seen r l ≡ gives (tree_in l r) (state_in l)
-unfolding seen
-seen_node r l h = rw (lt-ltb r refused_from h) refl
+-- all that was not built is one answer
+pub unbuilt : {r : Result ℕ Refused} (e : Refused) → IsErr r → r ≡ Err e
+unbuilt {r = Ok k} e x = absurd (false≢true x)
+unbuilt {r = Err e'} e x = refl
 
-pub seen_refused : (r : ℕ) (l : Lent) → refused_from ≤ r → seen r l ≡ refused (refusal_on (r - refused_from) l.desk) (state_in l)
-unfolding seen
-seen_refused r l h = rw (le-ltb r refused_from h) refl
-
--- a node's number is below every refusal's
-pub small : {l : Lent} → Sound l → {k : ℕ} → k < count l.desk → k < refused_from
-small {l} h o = let r = (room_each l.rows (count l.desk) h.holds.fits).most in omega (arith, r, o)
+-- nothing is asked of what was not built
+pub nothing_asked : (r : Result ℕ Refused) (P : ℕ → Type 0) → IsErr r → IfOk r P
+nothing_asked (Ok k) P x = absurd (false≢true x)
+nothing_asked (Err e) P x = tt
 
 -- what is known after a step that gave the node x
 pub record Got (l : Lent) (x : ℕ) (l' : Lent) : Type 0 where
@@ -59,34 +55,39 @@ both {l} {l₁} {l₂} p q = record {
 pub idle : {l : Lent} → Sound l → Step l l
 idle h = record { sound = h; grew = omega arith; stays = λ k o. refl; traced = λ k o. refl; untraced = λ k a o. absurd (omega (arith, a, o)) }
 
-pub named : {want want' : Answer} {r : ℕ} {l l' : Lent} → want ≡ want' → Built want r l l' → Built want' r l l'
+pub named : {want want' : Answer} {r : Result ℕ Refused} {l l' : Lent} → want ≡ want' → Built want r l l' → Built want' r l l'
 named e b = record { answer = b.answer ∙ e; inside = b.inside; step = b.step }
 
-pub turned : {want : Answer} {q r : ℕ} {l l' : Lent} → q ≡ r → Built want q l l' → Built want r l l'
+pub turned : {want : Answer} {q r : Result ℕ Refused} {l l' : Lent} → q ≡ r → Built want q l l' → Built want r l l'
 turned {want} {l = l} {l' = l'} e b = subst (λ r. Built want r l l') e b
 
-pub stays : {want : Answer} {l : Lent} {i : ℕ} → Sound l → i < count l.desk → gives (tree_in l i) (state_in l) ≡ want → Built want i l l
-stays {l = l} {i = i} h o e = record { answer = seen_node i l (small h o) ∙ e; inside = λ _. o; step = idle h }
+pub stays : {want : Answer} {l : Lent} {i : ℕ} → Sound l → i < count l.desk → gives (tree_in l i) (state_in l) ≡ want → Built want (Ok i) l l
+unfolding seen
+stays h o e = record { answer = e; inside = o; step = idle h }
 
-pub refuses : {want : Answer} {l : Lent} {r : ℕ} → Sound l → refused_from ≤ r → refused (refusal_on (r - refused_from) l.desk) (state_in l) ≡ want → Built want r l l
-refuses {l = l} {r = r} h o e = record { answer = seen_refused r l o ∙ e; inside = λ x. absurd (omega (arith, o, x)); step = idle h }
+pub refuses : {want : Answer} {l : Lent} {r : Result ℕ Refused} → Sound l → IsErr r → refused (refusal_on l.desk) (state_in l) ≡ want → Built want r l l
+unfolding seen
+refuses {r = Ok k} h x e = absurd (false≢true x)
+refuses {r = Err why} h x e = record { answer = e; inside = tt; step = idle h }
 
-pub got : {want : Answer} {o : ℕ} {l l₁ : Lent} → Built want o l l₁ → o < refused_from → Got l o l₁
-got b e = record { sound = b.step.sound; inside = b.inside e; grew = b.step.grew; stays = b.step.stays }
+pub got : {want : Answer} {k : ℕ} {l l₁ : Lent} → Built want (Ok k) l l₁ → Got l k l₁
+got b = record { sound = b.step.sound; inside = b.inside; grew = b.step.grew; stays = b.step.stays }
 
-pub then_node : {want : Answer} {o r : ℕ} {l l₁ l₂ : Lent} (next : Tree → State → Answer)
-    → Built want o l l₁ → o < refused_from
-    → (Got l o l₁ → Built (next (tree_in l₁ o) (state_in l₁)) r l₁ l₂)
+pub then_node : {want : Answer} {o r : Result ℕ Refused} {k : ℕ} {l l₁ l₂ : Lent} (next : Tree → State → Answer)
+    → Built want o l l₁ → o ≡ Ok k
+    → (Got l k l₁ → Built (next (tree_in l₁ k) (state_in l₁)) r l₁ l₂)
     → Built (and_then want next) r l l₂
-unfolding and_then
-then_node {o = o} {l₁ = l₁} next b e f =
-    let d = f (got b e) in
-    record { answer = d.answer ∙ ap (λ w. and_then w next) (sym (seen_node o l₁ e) ∙ b.answer); inside = d.inside; step = both b.step d.step }
+unfolding and_then seen
+then_node next b e f =
+    let b' = rw e at b in
+    let d = f (got b') in
+    record { answer = d.answer ∙ ap (λ w. and_then w next) b'.answer; inside = d.inside; step = both b'.step d.step }
 
-pub then_refused : {want : Answer} {o : ℕ} {l l₁ : Lent} (next : Tree → State → Answer) → Built want o l l₁ → refused_from ≤ o → Built (and_then want next) o l l₁
-unfolding and_then
-then_refused {o = o} {l₁ = l₁} next b e =
-    record { answer = seen_refused o l₁ e ∙ ap (λ w. and_then w next) (sym (seen_refused o l₁ e) ∙ b.answer); inside = b.inside; step = b.step }
+pub then_refused : {want : Answer} {o r : Result ℕ Refused} {why : Refused} {l l₁ : Lent} (next : Tree → State → Answer)
+    → Built want o l l₁ → o ≡ Err why → IsErr r → Built (and_then want next) r l l₁
+unfolding and_then seen
+then_refused {r = Ok k} next b e x = absurd (false≢true x)
+then_refused {r = Err _} next b e x = let b' = rw e at b in record { answer = ap (λ w. and_then w next) b'.answer; inside = tt; step = b'.step }
 
 -- ---- something is done to the desk: the nodes stand
 
@@ -97,7 +98,7 @@ module _ (m : Memory) {desk desk' : List ℕ} where
   pub sound_on : count desk' ≡ count desk → length desk' ≡ length desk → Sound (of m desk) → Sound (of m desk')
   sound_on e x h = record { holds = rw e h.holds; long = x ∙ h.long }
 
-  pub on_desk : {want : Answer} {r : ℕ} {l : Lent} → count desk' ≡ count desk → Built want r (of m desk') l → Built want r (of m desk) l
+  pub on_desk : {want : Answer} {r : Result ℕ Refused} {l : Lent} → count desk' ≡ count desk → Built want r (of m desk') l → Built want r (of m desk) l
   on_desk e b = record {
     answer = b.answer;
     inside = b.inside;
@@ -114,19 +115,17 @@ module _ (m : Memory) {desk desk' : List ℕ} where
   unfolding state_in
   state_on x = λ i. state_of m (x.counted i) (record { calls = x.called i; marks = x.marked i })
 
-  pub state_noted : {first second : ℕ} → Notes first second desk desk' → state_in (of m desk') ≡ noting (numbered first ++ numbered second) (state_in (of m desk))
+  pub state_noted : {first second : Option ℕ} → Notes first second desk desk' → state_in (of m desk') ≡ noting (numbered first ++ numbered second) (state_in (of m desk))
   unfolding state_in noting
   state_noted x = λ i. state_of m (x.counted i) (record { calls = x.called i; marks = x.marked i })
 
-  pub after_noting : {first second r : ℕ} {l : Lent} (next : State → Answer) → Notes first second desk desk' → Sound (of m desk)
+  pub after_noting : {first second : Option ℕ} {r : Result ℕ Refused} {l : Lent} (next : State → Answer) → Notes first second desk desk' → Sound (of m desk)
       → (Sound (of m desk') → Built (next (state_in (of m desk'))) r (of m desk') l) → Built (next (noting (numbered first ++ numbered second) (state_in (of m desk)))) r (of m desk) l
   after_noting next x h f = on_desk x.counted (named (ap next (state_noted x)) (f (sound_on x.counted x.long h)))
 
--- NEED: a refusal, of which the desk has what it carries
-pub asks : {operation : Operation} {x y : Complex} {r : ℕ} (m : Memory) {desk desk' : List ℕ} → Asks operation x y r desk desk' → Sound (of m desk)
-    → Built (refused (Refusal.Need operation x y) (state_in (of m desk))) r (of m desk) (of m desk')
-unfolding refusal_on
-asks m a h =
+-- a refusal, of which the desk says why
+pub refuses_on : {why : Refusal} {r : Result ℕ Refused} (m : Memory) {desk desk' : List ℕ} → Refuses why desk desk' → OfBuilding why → IsErr r → Sound (of m desk)
+    → Built (refused why (state_in (of m desk))) r (of m desk) (of m desk')
+refuses_on m a o x h =
     on_desk m a.alike.counted
-    (turned (sym a.answer)
-    (refuses (sound_on m a.alike.counted a.alike.long h) (omega arith) (λ i. refused (a.need h.long i) (state_on m a.alike i))))
+    (refuses (sound_on m a.alike.counted a.alike.long h) x (λ i. refused (a.told h.long o i) (state_on m a.alike i)))

@@ -10,6 +10,8 @@ use native.Mathlib.Omega.{arith}
 use native.Mathlib.Decide.{ℕ_discrete, dec_lt}
 use borrow.Author.Tests.{lt-ltb, le-ltb, eq-eqb, ne_eqb}
 use lib.Dec.{T, ltb}
+use Rattle.std.specs.Prelude.{Some, None}
+use Rattle.std.proofs.lemmas.Option.{none-some, same_Some}
 use lib.ListN.{length, set, length-set}
 use lib.Seq.{get_or-set_same, get_or-set_other}
 use Rattle.expression.specs.declared.refusal.Refusal.{Refusal}
@@ -27,7 +29,6 @@ use Rattle.store.specs.Storing.{Tally, State, Answer, gives, among, intern, resu
 use Rattle.store.specs.Memory.{Memory, columns, room, fields_on, size_on, depth_on, fields_at, size_at, depth_at, home_on, home_at, origin_on, origin_at, head_at, class_at, kept_at, expression_at, trees, tree_at, tree_of, linked, kept_for, state_of}
 use Rattle.store.specs.Index.{key_of, bucket_of, key_at, bucket_at, head_for, latest, joined}
 use Rattle.store.specs.Held.{Right, Holds, judged}
-use Rattle.store.specs.Desk.{refusal_on}
 use Rattle.store.specs.Walk.{Walked}
 use Rattle.store.proofs.Places.{place_within, place_old, place_new, among_yes, among_no, latest_alike}
 use Rattle.store.proofs.Coding.{back, code_small}
@@ -51,26 +52,26 @@ truth false h = absurd h
 
 -- ---- the limits
 
--- a number of `judged` that is not 0 is the refusal of the definition
-judged_refused : (A : Answer) (big deep roomy : Bool) (desk : List ℕ) (σ : State) → (judged big deep roomy ≡ 0 → ⊥)
-    → refused (refusal_on (judged big deep roomy) desk) σ ≡ cond big (refused Refusal.Big σ) (cond deep (refused Refusal.Deep σ) (cond roomy A (refused Refusal.Room σ)))
-unfolding refusal_on judged
-judged_refused A true deep roomy desk σ x = refl
-judged_refused A false true roomy desk σ x = refl
-judged_refused A false false true desk σ x = absurd (x refl)
-judged_refused A false false false desk σ x = refl
+-- what `judged` says is the refusal of the definition
+judged_refused : (A : Answer) (big deep roomy : Bool) (σ : State) {why : Refusal} → judged big deep roomy ≡ Some why
+    → refused why σ ≡ cond big (refused Refusal.Big σ) (cond deep (refused Refusal.Deep σ) (cond roomy A (refused Refusal.Room σ)))
+unfolding judged
+judged_refused A true deep roomy σ x = ap (λ w. refused w σ) (sym (same_Some _ _ x))
+judged_refused A false true roomy σ x = ap (λ w. refused w σ) (sym (same_Some _ _ x))
+judged_refused A false false true σ x = absurd (none-some _ x)
+judged_refused A false false false σ x = ap (λ w. refused w σ) (sym (same_Some _ _ x))
 
 pub record Limits (big deep roomy : Bool) : Type 0 where
   pub not_big : big ≡ false
   pub not_deep : deep ≡ false
   pub has_room : roomy ≡ true
 
-pub allowed_limits : (big deep roomy : Bool) → judged big deep roomy ≡ 0 → Limits big deep roomy
+pub allowed_limits : (big deep roomy : Bool) → judged big deep roomy ≡ None → Limits big deep roomy
 unfolding judged
-allowed_limits true deep roomy x = absurd (omega (arith, x))
-allowed_limits false true roomy x = absurd (omega (arith, x))
+allowed_limits true deep roomy x = absurd (none-some _ (sym x))
+allowed_limits false true roomy x = absurd (none-some _ (sym x))
 allowed_limits false false true x = record { not_big = refl; not_deep = refl; has_room = refl }
-allowed_limits false false false x = absurd (omega (arith, x))
+allowed_limits false false false x = absurd (none-some _ (sym x))
 
 latest_here : (f : ℕ → ℕ) (b n : ℕ) → f n ≡ b → latest f b (n + 1) ≡ n + 1
 unfolding latest
@@ -102,12 +103,12 @@ module _ {m : Memory} {n : ℕ} (h : Holds m n) (e : Expression) (s : Sound e) (
 
     -- ---- it is refused
 
-    pub refused_answer : (desk : List ℕ) {v : ℕ} → v ≡ judged (ltb largest (size t)) (ltb deepest (depth t)) (ltb n (room m)) → (v ≡ 0 → ⊥)
-        → refused (refusal_on v desk) (state_of m n tally) ≡ intern t (state_of m n tally)
+    pub refused_answer : {why : Refusal} → judged (ltb largest (size t)) (ltb deepest (depth t)) (ltb n (room m)) ≡ Some why
+        → refused why (state_of m n tally) ≡ intern t (state_of m n tally)
     unfolding intern
-    refused_answer desk {v} x y =
-        rw (x, absent, length_trees m n)
-        (judged_refused _ (ltb largest (size t)) (ltb deepest (depth t)) (ltb n (room m)) desk (state_of m n tally) λ z. y (x ∙ z))
+    refused_answer x =
+        rw (absent, length_trees m n)
+        (judged_refused _ (ltb largest (size t)) (ltb deepest (depth t)) (ltb n (room m)) (state_of m n tally) x)
 
     -- ---- it is stored
 

@@ -2,13 +2,14 @@
 use mathlib.Core.Path.{◌≡◌, refl, sym, ap, ◌∙◌, subst, fun_ext}
 use mathlib.Core.List.{List}
 use mathlib.Core.Bool.{Bool, true, false, cond}
-use Prim.Native.Nat.{ℕ, suc, ◌≤◌, ◌<◌}
+use Prim.Native.Nat.{ℕ, zero, suc, ◌-◌, ◌≤◌, ◌<◌}
 use native.Mathlib.Omega.{arith}
 use native.Mathlib.Decide.{ℕ_discrete, dec_lt}
 use borrow.Author.Tests.{lt-ltb, le-ltb}
 use lib.Dec.{T, eqb, eqb→eq}
 use lib.Ieee.Fits.{eq→eqb}
 use lib.ListN.{length, get_or, set, replicate, length-set}
+use Rattle.std.specs.Prelude.{Option, Some, None, SomeIff, IfSome}
 use Rattle.complex.proofs.Tests.{one_truth}
 use Rattle.expression.specs.Trees.{Tree, leaf, pi}
 use Rattle.expression.specs.Alike.{equal}
@@ -16,9 +17,9 @@ use Rattle.expression.proofs.Likeness.{equal_sym, equal_trans}
 use Rattle.memory.specs.Marks.{no_marks}
 use Rattle.store.specs.Words.{with_kept}
 use Rattle.store.specs.Storing.{Tally, gives, keep, recall, result, place}
-use Rattle.store.specs.Memory.{Memory, columns, memory, room, class_on, class_at, kept_at, expression_at, trees, tree_at, linked, kept_for, state_of}
+use Rattle.store.specs.Memory.{Memory, columns, memory, room, class_on, class_at, kept_at, expression_at, trees, tree_at, linked, kept_as, kept_for, state_of}
 use Rattle.store.specs.Index.{key_at, bucket_at, head_for, latest, kept_by}
-use Rattle.store.specs.Held.{Holds, lent, state_in, Sound, Keeps, Recalls, Compares, Begun}
+use Rattle.store.specs.Held.{Holds, lent, state_in, Sound, seen, Keeps, Recalls, Compares, Begun}
 use Rattle.store.specs.Desk.{count, calls_on, marks_on, tally_on}
 use Rattle.store.proofs.Places.{place_hit, latest_alike}
 use Rattle.store.proofs.Trees.{length_trees, trees_at, trees_alike, tree_alike, room_each}
@@ -26,7 +27,6 @@ use Rattle.store.proofs.Seeking.{class_inside, equal_class, class_equal, class_i
 use Rattle.store.proofs.Walks.{head_within}
 use Rattle.store.proofs.Links.{keeping_head, keeping_class, keeping_next, keeping_new, keeping_old}
 use Rattle.store.proofs.Growing.{linked_alike}
-use Rattle.store.proofs.Building.{seen_node, small as number_small}
 
 -- ---- equal trees
 
@@ -48,9 +48,18 @@ recall_is {m} {n} h e tally l =
 class_below : {m : Memory} {n : ℕ} (h : Holds m n) (e : ℕ) → e < n → class_at m e < n
 class_below h e l = omega (arith, class_inside h e l)
 
-pub recalls : (m : Memory) (e : ℕ) {x : ℕ} → x ≡ kept_at m (class_at m e) → Recalls m e x
-recalls m e {x} p n tally h l =
-    (omega (arith, p, (h.each (class_at m e) (class_below h e l)).kept), rw p (sym (recall_is h e tally l)))
+-- a number plus one as a node
+kept_numbered : (m : Memory) (n k : ℕ) (x : Option ℕ) → SomeIff x (1 ≤ k) (k - 1) → k ≤ n → IfSome x (λ i. i < n) × (kept_as m x ≡ linked m k)
+unfolding linked
+kept_numbered m n zero None s l = (tt, refl)
+kept_numbered m n (suc k) None s l = absurd (s (omega arith))
+kept_numbered m n zero (Some i) s l = absurd (omega (arith, s.0))
+kept_numbered m n (suc k) (Some i) s l = (omega (arith, s.1, l), ap (λ j. result (tree_at m j)) (s.1 ∙ omega arith))
+
+pub recalls : (m : Memory) (e : ℕ) {k : ℕ} (x : Option ℕ) → SomeIff x (1 ≤ k) (k - 1) → k ≡ kept_at m (class_at m e) → Recalls m e x
+recalls m e {k} x s p n tally h l =
+    let q = kept_numbered m n k x s (omega (arith, p, (h.each (class_at m e) (class_below h e l)).kept)) in
+    (q.0, q.1 ∙ rw p (sym (recall_is h e tally l)))
 
 -- ---- a result is kept
 
@@ -157,15 +166,15 @@ module _ (tag first second link : List ℕ) (n : ℕ) (h : Holds (columns tag fi
       rw (tree_same r, room_same, trees_same, f) refl
 
 pub keeps : (m : Memory) (e r : ℕ) {m' : Memory} → m' ≡ kept_by m e r → Keeps m m' e r
-unfolding state_in
+unfolding state_in seen
 keeps m e r {m'} x desk h le lr =
     let n = count desk in
     let k = holds_kept m.tag m.first m.second m.link n h.holds e r le lr in
     let s : Sound (record { rows = kept_by m e r; desk = desk }) = record { holds = k; long = h.long } in
     rw x
     (record {
-      answer = seen_node r (record { rows = kept_by m e r; desk = desk }) (number_small h lr) ∙ kept_answer m.tag m.first m.second m.link n h.holds e r le lr (tally_on desk);
-      inside = λ _. lr;
+      answer = kept_answer m.tag m.first m.second m.link n h.holds e r le lr (tally_on desk);
+      inside = lr;
       step = record {
         sound = s;
         grew = omega arith;

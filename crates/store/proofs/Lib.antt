@@ -12,6 +12,7 @@ pub mod Rows
 pub mod Noting
 pub mod Building
 pub mod Asking
+mod Measuring
 mod Growing
 mod Adding
 mod Keeping

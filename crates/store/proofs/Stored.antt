@@ -1,13 +1,14 @@
 -- What a store holds, for those who build on it: nodes and stored trees correspond one to one, a stored tree is always found, what is
 -- read of a node is its tree's, and two answers that a builder's contract allows are equal. Assumes nothing.
 use mathlib.Core.Path.{◌≡◌, refl, sym, ap, ◌∙◌, subst}
-use mathlib.Core.Bool.{true}
+use mathlib.Core.Bool.{true, false≢true}
 use mathlib.Core.List.{List}
-use Prim.Native.Nat.{ℕ, zero, suc, ◌-◌, ◌≤◌, ◌<◌}
+use Prim.Native.Nat.{ℕ, ◌<◌}
 use native.Mathlib.Omega.{arith}
 use native.Mathlib.Decide.{dec_lt}
 use lib.Dec.{T}
 use lib.ListN.{length}
+use Rattle.std.specs.Prelude.{Result, Ok, Err, IfOk, IsErr}
 use Rattle.expression.specs.declared.refusal.Refusal.{Refusal}
 use Rattle.expression.specs.Trees.{Tree, leaf, pi, size, depth}
 use Rattle.expression.specs.Alike.{identical, equal}
@@ -16,15 +17,15 @@ use Rattle.expression.proofs.Likeness.{identical_same}
 use Rattle.expression.specs.declared.node.Expression.{Expression}
 use Rattle.store.specs.Nodes.{fields_of}
 use Rattle.expression.specs.Nodes.{Within, Sound}
-use Rattle.store.specs.Storing.{State, state, Answer, gives, refused, result, among, place}
-use Rattle.store.specs.Memory.{Memory, size_at, depth_at, class_at, expression_at, trees, tree_at, tree_of, linked}
+use Rattle.store.specs.Storing.{State, state, Answer, gives, refused, among, place}
+use Rattle.store.specs.Memory.{Memory, size_at, depth_at, class_at, expression_at, trees, tree_at, tree_of}
 use Rattle.store.specs.Index.{key_of}
 use Rattle.store.specs.Held.{Holds, Lent, state_in, seen, Built}
-use Rattle.store.specs.Desk.{refusal_on, refused_from}
+use Rattle.store.specs.declared.desk.Refused.{Refused}
+use Rattle.store.specs.Desk.{count, refusal_on}
 use Rattle.store.specs.Walk.{Walked}
 use Rattle.store.proofs.Places.{place_within, place_hit, among_yes, among_no}
 use Rattle.store.proofs.Trees.{length_trees, trees_at, proper_at}
-use Rattle.store.proofs.Building.{seen_node, seen_refused}
 use Rattle.store.proofs.Seeking.{own_place, tree_is, equal_class, found_place, no_place}
 
 -- a node that has this tree
@@ -102,12 +103,6 @@ module _ {m : Memory} {n node : ℕ} (h : Holds m n) (l : node < n) {e e' : Expr
   pub tree_of_node : tree_of m e' ≡ tree_at m node
   tree_of_node = rw told at (read_node h node l e-is).1
 
--- a kept result's number, plus one
-pub linked_above : (m : Memory) (k : ℕ) → (k ≡ 0 → ⊥) → linked m k ≡ result (tree_at m (k - 1))
-unfolding linked
-linked_above m zero q = absurd (q refl)
-linked_above m (suc k) q = ap (λ i. result (tree_at m i)) (omega arith)
-
 -- ---- one answer: what is built determines the answer, whichever way what is lent was left
 
 tree_in_lem : Answer → Tree
@@ -129,46 +124,36 @@ Given : Answer → Type 0
 Given (gives t σ) = Unit {0}
 Given (refused why σ) = ⊥
 
--- an answer that is a node, and one that is a refusal, differ
-node_given : {want : Answer} {r : ℕ} {l l' : Lent} → Built want r l l' → r < refused_from → Given want
-unfolding Given
-node_given {r = r} {l' = l'} p x = subst Given (sym (seen_node r l' x) ∙ p.answer) tt
-
-refused_not : {want : Answer} {r : ℕ} {l l' : Lent} → Built want r l l' → refused_from ≤ r → Given want → ⊥
-unfolding Given
-refused_not {r = r} {l' = l'} p x g = subst Given (sym p.answer ∙ seen_refused r l' x) g
-
 -- two answers: they are one node, or one refusal; and the state is one
-pub record OneAnswer (r r' : ℕ) (l l' : Lent) : Type 0 where
-  pub node : r < refused_from → r ≡ r'
-  pub refusal : refused_from ≤ r → (refused_from ≤ r') × (refusal_on (r - refused_from) l.desk ≡ refusal_on (r' - refused_from) l'.desk)
+pub record OneAnswer (r r' : Result ℕ Refused) (l l' : Lent) : Type 0 where
+  pub same : r ≡ r'
+  pub refusal : IsErr r → refusal_on l.desk ≡ refusal_on l'.desk
   pub state : state_in l ≡ state_in l'
 
-seen_state : (r : ℕ) (l : Lent) → state_in_lem (seen r l) ≡ state_in l
-unfolding state_in_lem
-seen_state r l = go (dec_lt r refused_from)
-  where
-    go : Dec (r < refused_from) → state_in_lem (seen r l) ≡ state_in l
-    go (yes x) = ap state_in_lem (seen_node r l x)
-    go (no x) = ap state_in_lem (seen_refused r l (omega (arith, x)))
+seen_state : (r : Result ℕ Refused) (l : Lent) → state_in_lem (seen r l) ≡ state_in l
+unfolding state_in_lem seen
+seen_state (Ok k) l = refl
+seen_state (Err e) l = refl
 
-pub one_answer : {want : Answer} {l l₁ l₂ : Lent} (r r' : ℕ) → Built want r l l₁ → Built want r' l l₂ → OneAnswer r r' l₁ l₂
-unfolding tree_in_lem state_in_lem stored_in_lem why_in state_in
+pub one_answer : {want : Answer} {l l₁ l₂ : Lent} (r r' : Result ℕ Refused) → Built want r l l₁ → Built want r' l l₂ → OneAnswer r r' l₁ l₂
+unfolding tree_in_lem state_in_lem stored_in_lem why_in state_in seen Given
 one_answer {want} {l₁ = l₁} {l₂ = l₂} r r' p q = record {
-  node = λ x.
-      let y : r' < refused_from = go (dec_lt r' refused_from) (node_given p x) in
-      let e = sym (seen_node r l₁ x) ∙ p.answer ∙ sym q.answer ∙ seen_node r' l₂ y in
-      sym (own_place p.step.sound.holds r (p.inside x)) ∙ (λ v. place (identical (tree_in_lem (e v))) (stored_in_lem (state_in_lem (e v)))) ∙ own_place q.step.sound.holds r' (q.inside y);
-  refusal = λ x.
-      let y : refused_from ≤ r' = back (dec_lt r' refused_from) x in
-      (y, ap why_in (sym (seen_refused r l₁ x) ∙ p.answer ∙ sym q.answer ∙ seen_refused r' l₂ y));
-  state = sym (seen_state r l₁) ∙ ap state_in_lem (p.answer ∙ sym q.answer) ∙ seen_state r' l₂;
+  same = one r r' p.inside q.inside alike;
+  refusal = why r r' alike;
+  state = sym (seen_state r l₁) ∙ ap state_in_lem alike ∙ seen_state r' l₂;
 }
   where
-    go : Dec (r' < refused_from) → Given want → r' < refused_from
-    go (yes y) g = y
-    go (no y) g = absurd (refused_not q (omega (arith, y)) g)
+    alike : seen r l₁ ≡ seen r' l₂
+    alike = p.answer ∙ sym q.answer
 
-    back : Dec (r' < refused_from) → refused_from ≤ r → refused_from ≤ r'
-    back (yes y) x = absurd (refused_not p x (node_given q y))
-    back (no y) x = omega (arith, y)
+    one : (r r' : Result ℕ Refused) → IfOk r (λ k. k < count l₁.desk) → IfOk r' (λ k. k < count l₂.desk) → seen r l₁ ≡ seen r' l₂ → r ≡ r'
+    one (Ok k) (Ok k') i i' e =
+        ap Ok (sym (own_place p.step.sound.holds k i) ∙ (λ v. place (identical (tree_in_lem (e v))) (stored_in_lem (state_in_lem (e v)))) ∙ own_place q.step.sound.holds k' i')
+    one (Ok k) (Err _) i i' e = absurd (subst Given e tt)
+    one (Err _) (Ok k') i i' e = absurd (subst Given (sym e) tt)
+    one (Err _) (Err _) i i' e = refl
+
+    why : (r r' : Result ℕ Refused) → seen r l₁ ≡ seen r' l₂ → IsErr r → refusal_on l₁.desk ≡ refusal_on l₂.desk
+    why (Ok k) r' e x = absurd (false≢true x)
+    why (Err _) (Ok k') e x = absurd (subst Given (sym e) tt)
+    why (Err _) (Err _) e x = ap why_in e

@@ -1,5 +1,5 @@
 -- What the lent rows hold, read as numbered nodes and as trees. Only connecting: no definition on trees rests on this page.
-use Rattle.std.specs.Prelude.{ℕ, zero, suc, ◌/◌, min, List, [], ◌∷◌, ◌++◌, map, cond, length, get_or, set, ltb}
+use Rattle.std.specs.Prelude.{ℕ, zero, suc, ◌/◌, min, List, [], ◌∷◌, ◌++◌, map, Option, Some, None, cond, length, get_or, set, ltb}
 use Rattle.expression.specs.Trees.{Tree, leaf, pi}
 use Rattle.origins.specs.Words.{origin_in}
 use Rattle.expression.specs.Alike.{equal}
@@ -116,6 +116,11 @@ module _ (m : Memory) where
   unfoldable pub linked : ℕ → Kept
   linked zero = nothing
   linked (suc k) = result (tree_at k)
+
+  -- a kept result by its node
+  abbrev pub kept_as : Option ℕ → Kept
+  kept_as None = nothing
+  kept_as (Some k) = result (tree_at k)
 
   -- the result kept for a tree: it stands with the first node whose tree is equal
   unfoldable pub kept_for : ℕ → Tree → Kept

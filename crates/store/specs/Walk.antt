@@ -1,5 +1,5 @@
 -- What a walk through a chain of the index finds. Only connecting, and only inside the store.
-use Rattle.std.specs.Prelude.{ℕ, ◌≤◌, ◌<◌, ◌≡◌}
+use Rattle.std.specs.Prelude.{ℕ, ◌≤◌, ◌<◌, ◌≡◌, Result, Ok, Err}
 use Rattle.store.specs.declared.index.Meeting.{Meeting}
 use Rattle.store.specs.declared.node.Fields.{Fields}
 use Rattle.store.specs.Memory.{Memory, room, fields_at, class_at}
@@ -30,10 +30,15 @@ pub record Walked (m : Memory) (n : ℕ) (f key : Fields) (node class : ℕ) : T
   pub none : n ≤ node → (j : ℕ) → j < n → fields_at m j ≡ f → ⊥
   pub kinship : n ≤ node → Kinship m n key 0 class
 
+-- what a walk answers: the node; or, where there is none, the class
+abbrev pub WalkedTo : (m : Memory) (n : ℕ) (f key : Fields) → Result ℕ ℕ → Type 0
+WalkedTo m n f key (Ok node) = (node < n) × Walked m n f key node n
+WalkedTo m n f key (Err class) = Walked m n f key n class
+
 -- the same where n nodes are a store, the key is that of the fields, and `head` that of the key's bucket
-abbrev pub Finds : (m : Memory) (n : ℕ) (f key : Fields) (head node class : ℕ) → Type 0
-Finds m n f key head node class = Holds m n → key ≡ key_of (class_at m) f → head ≡ head_for m n (bucket_of (room m) key) → Walked m n f key node class
+abbrev pub Finds : (m : Memory) (n : ℕ) (f key : Fields) (head : ℕ) (r : Result ℕ ℕ) → Type 0
+Finds m n f key head r = Holds m n → key ≡ key_of (class_at m) f → head ≡ head_for m n (bucket_of (room m) key) → WalkedTo m n f key r
 
 -- the same from where all later nodes have been looked at
-abbrev pub Scans : (m : Memory) (n : ℕ) (f key : Fields) (from class₀ node class : ℕ) → Type 0
-Scans m n f key from class₀ node class = key ≡ key_of (class_at m) f → Passed m n f key from class₀ → Walked m n f key node class
+abbrev pub Scans : (m : Memory) (n : ℕ) (f key : Fields) (from class₀ : ℕ) (r : Result ℕ ℕ) → Type 0
+Scans m n f key from class₀ r = key ≡ key_of (class_at m) f → Passed m n f key from class₀ → WalkedTo m n f key r

@@ -1,16 +1,17 @@
-// The desk beside the rows: single words that stand for what would else be passed and answered by value. An answer of what builds is one
-// plain integer: the number of a node, or REFUSED and the number of a refusal, of which the desk has what it carries.
-ghost use Rattle.std.specs.Prelude.{◌≡◌, ◌-◌};
-ghost use Rattle.store.specs.Desk.{count, calls_on, with_count, with_calls, with_mark, refused_from, need_on, refusal_on, Asks, Notes};
+// The desk beside the rows: single words that stand for what would else be passed and answered by value. What builds answers a node, or that
+// nothing was built; why stands on the desk then, so that each answer comes in registers.
+ghost use Rattle.std.specs.Prelude.{◌≡◌};
+ghost use Rattle.store.specs.Desk.{count, calls_on, with_count, with_calls, with_mark, need_on, refusal_on, Asks, Refuses, Notes};
 
 use complex::Complex;
 use complex::bits::{from_bits, to_bits};
 use expression::refusal::{Operation, Refusal};
-use memory::layout::{DESK_WORDS, MARKS_FROM};
+use memory::layout::{DESK_WORDS, MARKS, MARKS_FROM};
 use memory::put;
 
-// No node has this number.
-pub const REFUSED: usize = 65536;
+// Nothing was built: why stands on the desk.
+#[derive(Clone, Copy, PartialEq, Eq)]
+pub struct Refused;
 
 // How many nodes stand.
 pub fn standing(desk: &[u64; DESK_WORDS]) -> usize
@@ -38,57 +39,57 @@ pub fn set_calls(desk: &mut [u64; DESK_WORDS], calls: u64)
     desk[1] = calls;
 }
 
-// The marks of up to two t rows become 1. A row is given by its number plus one; 0 says none, and past the last there is none.
-pub fn note(desk: &mut [u64; DESK_WORDS], first: usize, second: usize)
+// The marks of up to two t rows become 1; past the last row there is none.
+pub fn note(desk: &mut [u64; DESK_WORDS], first: Option<usize>, second: Option<usize>)
     ensures { Notes first second desk.old desk.new }
 {
     mark_row(desk, first);
     mark_row(desk, second);
 }
 
-fn mark_row(desk: &mut [u64; DESK_WORDS], row: usize)
+fn mark_row(desk: &mut [u64; DESK_WORDS], row: Option<usize>)
     ensures { desk.new ≡ with_mark desk.old row }
 {
-    if row == 0 {
+    let Some(j) = row else {
         return;
-    }
-    let word = if row < DESK_WORDS {
-        MARKS_FROM + (row - 1)
-    } else {
-        DESK_WORDS
     };
-    put(desk, word, 1);
+    if j < MARKS {
+        desk[MARKS_FROM + j] = 1;
+    }
 }
 
-// NEED, with the operation and the operands on the desk.
-pub fn ask(desk: &mut [u64; DESK_WORDS], operation: Operation, x: Complex, y: Complex) -> usize
-    ensures { Asks operation x y result desk.old desk.new }
+// Nothing is built: the desk has the refusal's number, and for NEED the operation and the operands.
+pub fn refuse(desk: &mut [u64; DESK_WORDS], why: Refusal) -> Refused
+    ensures { Refuses why desk.old desk.new }
 {
-    desk[2] = operation.code();
+    desk[7] = why.number();
+    if let Refusal::Need(operation, x, y) = why {
+        ask(desk, operation, x, y);
+    }
+    Refused
+}
+
+fn ask(desk: &mut [u64; DESK_WORDS], operation: Operation, x: Complex, y: Complex)
+    ensures { Asks operation x y desk.old desk.new }
+{
+    desk[2] = u64::from(operation);
     desk[3] = to_bits(x.re);
     desk[4] = to_bits(x.im);
     desk[5] = to_bits(y.re);
     desk[6] = to_bits(y.im);
-    REFUSED + 9
 }
 
-// The refusal of an answer.
-pub fn refusal_of(desk: &[u64; DESK_WORDS], answer: usize) -> Refusal
-    ensures { result ≡ refusal_on (answer - refused_from) desk.now }
+// Why nothing was built.
+pub fn refusal_of(desk: &[u64; DESK_WORDS]) -> Refusal
+    ensures { result ≡ refusal_on desk.now }
 {
-    if answer == REFUSED + 6 {
-        return Refusal::Big;
+    match desk[7] {
+        6 => Refusal::Big,
+        7 => Refusal::Deep,
+        8 => Refusal::Room,
+        9 => need_on(desk),
+        _ => Refusal::Incomplete,
     }
-    if answer == REFUSED + 7 {
-        return Refusal::Deep;
-    }
-    if answer == REFUSED + 8 {
-        return Refusal::Room;
-    }
-    if answer == REFUSED + 9 {
-        return need_on(desk);
-    }
-    Refusal::Incomplete
 }
 
 fn need_on(desk: &[u64; DESK_WORDS]) -> Refusal

@@ -9,7 +9,6 @@ use super::fields::{code_in, head_in, home_in, next_in, with_head, with_node};
 use super::hash::hash_of;
 use super::node::Fields;
 use super::reading::class_at;
-use super::room::least;
 use super::words::{first_at, link_at, put_link, put_row, second_at, tag_at};
 use complex::bits::class_of_bits;
 
@@ -27,14 +26,6 @@ pub enum Meeting {
     Own,
     Kin,
     Stranger,
-}
-
-// The node that was sought. Where there is none: the count of nodes, with the class of its equals or again the
-// count.
-#[derive(Clone, Copy)]
-pub struct Found {
-    pub node: usize,
-    pub class: usize,
 }
 
 // What stands for a word of a node in its key, by the node's kind: the class of a double; from the kind `operands` on the class of an
@@ -95,8 +86,8 @@ fn meet(store: &[[u64; 4]], k: usize, f: Fields, key: Fields) -> Meeting
     Meeting::Stranger
 }
 
-// The head of a bucket, of n nodes. Where no node was entered the word may hold anything: a number counts if it is a node's whose
-// home is this bucket. So nothing is cleared before the first node.
+// The head of a bucket, of n nodes, as a number plus one or 0, which `find` begins with and `enter` writes. Where no node was entered the word may
+// hold anything: a number counts if it is a node's whose home is this bucket. So nothing is cleared before the first node.
 pub fn head_of(store: &[[u64; 4]], n: usize, bucket: usize) -> usize
     ensures { result ≡ head_for (memory store.now) n bucket }
 {
@@ -116,32 +107,38 @@ pub fn head_of(store: &[[u64; 4]], n: usize, bucket: usize) -> usize
 
 // What is left of a long chain: all nodes below `at`, row by row. No row has to wait for the one before, as in a chain, so that
 // numbers that were searched until they fell in one bucket cost little more than others.
-fn scan(store: &[[u64; 4]], n: usize, f: Fields, key: Fields, at: usize, class: usize) -> Found
-    ensures { Scans (memory store.now) n f key at class result.node result.class }
+fn scan(
+    store: &[[u64; 4]],
+    n: usize,
+    f: Fields,
+    key: Fields,
+    at: usize,
+    class: usize,
+) -> Result<usize, usize>
+    ensures { Scans (memory store.now) n f key at class result }
 {
-    let mut below = at;
     let mut kin = class;
-    while below != 0 {
-        let k = below - 1;
-        match meet(store, k, f, key) {
-            Meeting::Own => return Found {
-                node: k,
-                class: kin,
-            },
-            Meeting::Kin => kin = class_at(store, k) as usize,
+    for node in (0..at).rev() {
+        match meet(store, node, f, key) {
+            Meeting::Own => return Ok(node),
+            Meeting::Kin => kin = class_at(store, node) as usize,
             Meeting::Stranger => (),
         }
-        below = k;
     }
-    Found {
-        node: n,
-        class: kin,
-    }
+    Err(kin)
 }
 
-// A walk from the head of a chain. Each next is an older node; `least` makes that so in any memory.
-pub fn find(store: &[[u64; 4]], n: usize, f: Fields, key: Fields, head: usize) -> Found
-    ensures { Finds (memory store.now) n f key head result.node result.class }
+// The node that is sought, or, where there is none, the class of its equals, or n: by a walk from the head of a chain. Each next is an older
+// node; `min` makes that so in any memory. `at` is a number plus one, as the links have it: an Option would take 1 off at each step, and
+// `scan` add it again.
+pub fn find(
+    store: &[[u64; 4]],
+    n: usize,
+    f: Fields,
+    key: Fields,
+    head: usize,
+) -> Result<usize, usize>
+    ensures { Finds (memory store.now) n f key head result }
 {
     let mut at = head;
     let mut class = n;
@@ -152,14 +149,14 @@ pub fn find(store: &[[u64; 4]], n: usize, f: Fields, key: Fields, head: usize) -
         }
         let k = at - 1;
         match meet(store, k, f, key) {
-            Meeting::Own => return Found { node: k, class },
+            Meeting::Own => return Ok(k),
             Meeting::Kin => class = class_at(store, k) as usize,
             Meeting::Stranger => (),
         }
-        at = least(next_in(link_at(store, k)) as usize, k);
-        left = left - 1;
+        at = (next_in(link_at(store, k)) as usize).min(k);
+        left -= 1;
     }
-    Found { node: n, class }
+    Err(class)
 }
 
 // Node n is written, joins its class, with nothing kept, and becomes the head of its chain, before `head`.

@@ -3,14 +3,16 @@
 
 #![tactic(auto)]
 
-ghost use Rattle.std.specs.Prelude.{◌≡◌, List, ℕ, ◌+◌, max};
+ghost use Rattle.std.specs.Prelude.{◌≡◌, List, ℕ, ◌+◌, max, ltb};
 ghost use Rattle.expression.specs.Nodes.{measure_from};
 ghost use Rattle.store.specs.Memory.{memory, size_at, depth_at};
 ghost use Rattle.store.specs.Tracing.{with_mark};
-ghost use Rattle.store.specs.Held.{lent, Adds, judged, Keeps, Recalls, Compares, Begun};
+ghost use Rattle.expression.specs.Limits.{largest, deepest};
+ghost use Rattle.store.specs.Held.{lent, Adds, judged, Judges, Keeps, Recalls, Compares, Begun};
 
-use desk::{REFUSED, stand, standing};
-use expression::node::Expression;
+use desk::{Refused, refuse, stand, standing};
+use expression::node::{Expression, Operands, operands_of};
+use expression::refusal::Refusal;
 use fields::{kept_in, tag_of, with_kept};
 use index::{bucket_of, enter, find, head_of, key_of};
 use memory::layout::DESK_WORDS;
@@ -39,58 +41,46 @@ const DEEPEST: u64 = 64;
 fn size_of(store: &[[u64; 4]], e: Expression) -> u64
     ensures { result ≡ measure_from ◌+◌ (size_at (memory store.now)) e }
 {
-    match e {
-        Expression::FunctionCall(_, child) => 1 + size_at(store, child),
-        Expression::Prefix(_, child) => 1 + size_at(store, child),
-        Expression::Infix(_, left, right) => 1 + (size_at(store, left) + size_at(store, right)),
-        Expression::Number(_) => 1,
-        Expression::PiConstant => 1,
-        Expression::Variable(_) => 1,
-        Expression::Address(_, _) => 1,
+    match operands_of(e) {
+        Operands::Nothing => 1,
+        Operands::One(a) => 1 + size_at(store, a),
+        Operands::Two(a, b) => 1 + (size_at(store, a) + size_at(store, b)),
     }
 }
 
-// The depth of the tree of a node.
+// The depth of the tree of a node. It is no twin of the size: what their sums stay below differs, and one function would ask for both.
 fn depth_of(store: &[[u64; 4]], e: Expression) -> u64
     ensures { result ≡ measure_from max (depth_at (memory store.now)) e }
 {
-    match e {
-        Expression::FunctionCall(_, child) => 1 + depth_at(store, child),
-        Expression::Prefix(_, child) => 1 + depth_at(store, child),
-        Expression::Infix(_, left, right) => {
-            1 + greater(depth_at(store, left), depth_at(store, right))
-        }
-        Expression::Number(_) => 1,
-        Expression::PiConstant => 1,
-        Expression::Variable(_) => 1,
-        Expression::Address(_, _) => 1,
+    match operands_of(e) {
+        Operands::Nothing => 1,
+        Operands::One(a) => 1 + depth_at(store, a),
+        Operands::Two(a, b) => 1 + depth_at(store, a).max(depth_at(store, b)),
     }
 }
 
-fn greater(a: u64, b: u64) -> u64
-    ensures { result ≡ max a b }
+// The limits of a new node, in 01's order.
+fn judge(desk: &mut [u64; DESK_WORDS], size: u64, depth: u64, has_room: bool) -> Result<(), Refused>
+    ensures { Judges (judged (ltb largest size) (ltb deepest depth) has_room) result desk.old desk.new }
 {
-    if a < b { b } else { a }
-}
-
-// The limits in 01's order, by their numbers: 6, 7, 8; or 0.
-fn judge(big: bool, deep: bool, room: bool) -> usize
-    ensures { result ≡ judged big deep room }
-{
-    if big {
-        return 6;
+    if LARGEST < size {
+        return Err(refuse(desk, Refusal::Big));
     }
-    if deep {
-        return 7;
+    if DEEPEST < depth {
+        return Err(refuse(desk, Refusal::Deep));
     }
-    if room {
-        return 0;
+    if !has_room {
+        return Err(refuse(desk, Refusal::Room));
     }
-    8
+    Ok(())
 }
 
 // The node of a tree: the one that stands, or a new one within the limits.
-pub fn add(store: &mut [[u64; 4]], desk: &mut [u64; DESK_WORDS], e: Expression) -> usize
+pub fn add(
+    store: &mut [[u64; 4]],
+    desk: &mut [u64; DESK_WORDS],
+    e: Expression,
+) -> Result<usize, Refused>
     ensures { Adds e result (lent store.old desk.old) (lent store.new desk.new) }
 {
     let n = standing(desk);
@@ -99,21 +89,17 @@ pub fn add(store: &mut [[u64; 4]], desk: &mut [u64; DESK_WORDS], e: Expression) 
     let key = key_of(store, f);
     let bucket = bucket_of(most, key);
     let head = head_of(store, n, bucket);
-    let found = find(store, n, f, key, head);
-    let at = found.node;
-    if at < n {
-        return at;
-    }
+    let class = match find(store, n, f, key, head) {
+        Ok(node) => return Ok(node),
+        Err(class) => class,
+    };
     let size = size_of(store, e);
     let depth = depth_of(store, e);
-    let verdict = judge(LARGEST < size, DEEPEST < depth, n < most);
-    if verdict != 0 {
-        return REFUSED + verdict;
-    }
+    judge(desk, size, depth, n < most)?;
     let tag = tag_of(f.code, size, depth, bucket as u64);
-    enter(store, n, tag, f.first, f.second, found.class, head, bucket);
+    enter(store, n, tag, f.first, f.second, class, head, bucket);
     stand(desk, n + 1);
-    n
+    Ok(n)
 }
 
 // The result of e, kept for all trees equal to that of e.
@@ -125,12 +111,13 @@ pub fn keep(store: &mut [[u64; 4]], e: usize, res: usize)
     put_link(store, class, with_kept(word, res as u64));
 }
 
-// The number, plus one, of the node that is kept for the tree of e; 0 if there is none.
-pub fn kept_at(store: &[[u64; 4]], e: usize) -> usize
+// The node that is kept for the tree of e.
+pub fn kept_at(store: &[[u64; 4]], e: usize) -> Option<usize>
     ensures { Recalls (memory store.now) e result }
 {
     let class = class_at(store, e) as usize;
-    kept_in(link_at(store, class)) as usize
+    let kept = kept_in(link_at(store, class)) as usize;
+    kept.checked_sub(1)
 }
 
 // Whether two nodes have equal trees.

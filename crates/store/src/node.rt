@@ -38,10 +38,14 @@ pub fn fields_of(e: Expression) -> Fields
         Expression::PiConstant => Fields::new(2, 0, 0),
         Expression::Variable(number) => Fields::new(3, number as u64, 0),
         Expression::Address(region, index) => Fields::new(4, region as u64, index as u64),
-        Expression::FunctionCall(f, child) => Fields::new(code_of(5, f.code()), child as u64, 0),
-        Expression::Prefix(o, child) => Fields::new(code_of(6, o.code()), child as u64, 0),
+        Expression::FunctionCall(f, child) => Fields::new(
+            code_of(5, u64::from(f)),
+            child as u64,
+            0,
+        ),
+        Expression::Prefix(o, child) => Fields::new(code_of(6, u64::from(o)), child as u64, 0),
         Expression::Infix(o, left, right) => {
-            Fields::new(code_of(7, o.code()), left as u64, right as u64)
+            Fields::new(code_of(7, u64::from(o)), left as u64, right as u64)
         }
     }
 }

@@ -1,27 +1,32 @@
 -- What substituting does at a node, by its operands: each return of `substitute_node` and of what it calls. Assumes nothing.
 use mathlib.Core.Path.{◌≡◌, refl, sym, ap, ◌∙◌, subst}
+use mathlib.Core.Bool.{false≢true}
 use mathlib.Core.List.{List, [], ◌∷◌}
-use Prim.Native.Nat.{ℕ, ◌≤◌, ◌<◌}
+use Prim.Native.Nat.{ℕ, ◌+◌, ◌%◌, ◌<◌}
 use native.Mathlib.Omega.{arith}
-use native.Mathlib.Decide.{dec_lt}
+use lib.ListN.{set}
 use denote.Enum.Declared.{tag_of}
 use types.Run.{OneOf, miss}
+use Rattle.std.specs.Prelude.{Result, Ok, Err, IfOk, OnOk, IsErr, Option, Some, None, unwrap_or}
 use Rattle.expression.specs.Trees.{Tree, leaf, number, pi, variable, cell, function_call, prefixed, infixed}
 use Rattle.expression.specs.declared.node.Expression.{Expression}
 use Rattle.expression.specs.contracts.node.Expression.{the_type}
 use Rattle.expression.specs.Nodes.{grown, Within, operands_of, with_operands}
 use Rattle.store.specs.Storing.{State, Answer, gives, and_then, intern}
 use Rattle.store.specs.Memory.{Memory, expression_at, tree_at, tree_of}
-use Rattle.store.specs.Desk.{count, refused_from}
-use Rattle.store.specs.Held.{Lent, tree_in, state_in, Step, Built}
-use Rattle.store.proofs.Building.{Got, older, both, named, turned, stays, got, then_node, then_refused}
+use Rattle.store.specs.declared.desk.Refused.{Refused}
+use Rattle.store.specs.Desk.{count}
+use Rattle.store.specs.Held.{Lent, tree_in, state_in, Step, Adds, Built}
+use Rattle.store.proofs.Building.{nothing_asked, Got, older, both, named, stays, got, then_node, then_refused}
 use Rattle.expression.proofs.Under.{IsNothing, IsOne, IsTwo, nothing_under, one_under, two_under, within_one, within_two}
 use Rattle.listing.specs.Listings as Listings
 use Rattle.listing.specs.Listings.{names, nothing, swap_for}
+use Rattle.listing.specs.Tables.{swap_seen, NodeWithin}
 use Rattle.expression.specs.declared.node.Operands.{Operands}
 use Rattle.substitution.specs.Substituting.{put_in, put_in_leaf, substitute}
-use Rattle.substitution.specs.Run.{PutsIn, Settled, Knows, Rebuilds, Replaced}
+use Rattle.substitution.specs.Run.{PutsIn, word_of, Settled, Knows, Rebuilds, Replaced}
 use Rattle.substitution.proofs.Settling.{built_settled, knows_on, knows_more}
+use Rattle.store.proofs.Trees.{room_each}
 use Rattle.store.proofs.Stored.{within_node, tree_of_node}
 
 -- ---- the tree of an operation on other operands
@@ -155,54 +160,62 @@ module _ (m : Memory) {n node : ℕ} (l : node < n) (e : Expression) (tree : tre
         let q : leaf (variable v) ≡ tree_at m node = (rw told at tree) in
         ap (λ t. gives t s) p ∙ ap (λ t. substitute swaps t s) q
 
-    pub named_put : {i : ℕ} → (names (tree_at m i) ≡ swap_for v swaps) × (i < n)
+    named_put : {i : ℕ} → (names (tree_at m i) ≡ swap_for v swaps) × (i < n)
         → (i < n) × ((s : State) → gives (tree_at m i) s ≡ substitute swaps (tree_at m node) s)
     unfolding put_in
     named_put p = (p.1, λ s. variable_put (ap (put_in v) p.0) s)
 
-    pub unnamed_put : nothing ≡ swap_for v swaps → (node < n) × ((s : State) → gives (tree_at m node) s ≡ substitute swaps (tree_at m node) s)
+    unnamed_put : nothing ≡ swap_for v swaps → (node < n) × ((s : State) → gives (tree_at m node) s ≡ substitute swaps (tree_at m node) s)
     unfolding put_in grown
     unnamed_put p =
         let q : leaf (variable v) ≡ tree_at m node = (rw told at tree) in
         (l, λ s. variable_put (sym q ∙ ap (put_in v) p) s)
 
+    pub found_put : {r : ℕ} (found : Option ℕ) → (swap_seen m found ≡ swap_for v swaps) × NodeWithin n found → r ≡ unwrap_or found node
+        → (r < n) × ((s : State) → gives (tree_at m r) s ≡ substitute swaps (tree_at m node) s)
+    found_put (Some i) p e = rw e (named_put p)
+    found_put None p e = rw e (unnamed_put p.0)
+
 -- ---- an operation on what its last operand became
 
-module _ {node left last r : ℕ} {e : Expression} {l l' : Lent} {table table' : List ℕ} (q : Rebuilds node e left last r l l' table table') where
-  last_node : r < refused_from → last < refused_from
-  last_node h = go (dec_lt last refused_from)
-    where
-      go : Dec (last < refused_from) → last < refused_from
-      go (yes y) = y
-      go (no y) = absurd (omega (arith, h, y, (q.passed (omega (arith, y))).0))
-
-  rebuilt_added : {l₀ : Lent} (t : Tree) → last < refused_from → Got l₀ last l → LeftIn e l.rows (count l.desk) left t
+module _ {node left last : ℕ} {r : Result ℕ Refused} {e : Expression} {l l' : Lent} {table table' : List ℕ} (q : Rebuilds node e left last r l l' table table') where
+  rebuilt_added : {l₀ : Lent} (t : Tree) → Got l₀ last l → LeftIn e l.rows (count l.desk) left t
       → Built (intern (wrap e t (tree_in l last)) (state_in l)) r l l'
-  rebuilt_added t h p i =
+  rebuilt_added t p i =
       named (ap (λ u. intern u (state_in l)) (rebuilt_tree l.rows e left last ∙ wrap_left e l.rows (count l.desk) left t (tree_in l last) i))
-      (q.added h p.sound (within_rebuilt e l.rows (count l.desk) left last t i p.inside))
+      (q.added p.sound (within_rebuilt e l.rows (count l.desk) left last t i p.inside))
 
-  rebuilt_built : {want : Answer} {l₀ : Lent} (t : Tree) → Built want last l₀ l → (Got l₀ last l → LeftIn e l.rows (count l.desk) left t)
+  rebuilt_built : {want : Answer} {l₀ : Lent} (t : Tree) → Built want (Ok last) l₀ l → (Got l₀ last l → LeftIn e l.rows (count l.desk) left t)
       → Built (and_then want (λ u s. intern (wrap e t u) s)) r l₀ l'
-  rebuilt_built {want} {l₀} t b f = go (dec_lt last refused_from)
-    where
-      go : Dec (last < refused_from) → Built (and_then want (λ u s. intern (wrap e t u) s)) r l₀ l'
-      go (yes h) = then_node (λ u s. intern (wrap e t u) s) b h λ p. rebuilt_added t h p (f p)
-      go (no h) =
-          let o : refused_from ≤ last = omega (arith, h) in
-          turned (sym (q.passed o).0) (subst (λ l'. Built (and_then want (λ u s. intern (wrap e t u) s)) last l₀ l') (sym (q.passed o).1) (then_refused (λ u s. intern (wrap e t u) s) b o))
+  rebuilt_built t b f = then_node (λ u s. intern (wrap e t u) s) b refl λ p. rebuilt_added t p (f p)
 
-  -- what the operation became is settled, and remembered for its node
-  rebuilt_known : {given : List Listings.Swap} {nodes swaps : ℕ} {t : Tree} (u : Tree) → Knows given nodes swaps l table → node < nodes → tree_in l node ≡ t → r < refused_from
-      → Built (intern u (state_in l)) r l l' → ((l'' : Lent) → Step l l'' → substitute given t (state_in l'') ≡ intern u (state_in l''))
-      → Settled given l' t (tree_in l' r) × Knows given nodes swaps l' table'
-  rebuilt_known {given} {nodes} {swaps} {t} u k o tree h b f =
-      let settled = built_settled u b h t f in
-      let now : tree_in l' node ≡ t = b.step.stays node (omega (arith, o, k.stand)) ∙ tree in (
-        settled,
-        subst (λ table'. Knows given nodes swaps l' table') (sym (q.noted.became h))
-            (knows_more (knows_on k b.step) node r o (b.inside h) (subst (λ t. Settled given l' t (tree_in l' r)) (sym now) settled)),
-      )
+pub is_rebuilt : {node left last k : ℕ} {r : Result ℕ Refused} {e : Expression} {l l' : Lent} {table table' : List ℕ} → Adds (with_operands e left last) r l l' → r ≡ Ok k
+    → table' ≡ set table (word_of node) (k % 4096 + 1) → Rebuilds node e left last (Ok k) l l' table table'
+is_rebuilt a e t = record { added = rw e at a; noted = t }
+
+pub not_rebuilt : {node left last : ℕ} {r r' : Result ℕ Refused} {why : Refused} {e : Expression} {l l' : Lent} {table : List ℕ} → Adds (with_operands e left last) r l l'
+    → r ≡ Err why → IsErr r' → Rebuilds node e left last r' l l' table table
+not_rebuilt {r' = Ok k} a e v = absurd (false≢true v)
+not_rebuilt {r' = Err _} a e v = record { added = rw e at a; noted = refl }
+
+-- what the operation became is settled, and remembered for its node
+rebuilt_known : {node left last r : ℕ} {e : Expression} {l l' : Lent} {table table' : List ℕ} → Rebuilds node e left last (Ok r) l l' table table'
+    → {given : List Listings.Swap} {nodes swaps : ℕ} {t : Tree} (u : Tree) → Knows given nodes swaps l table → node < nodes → tree_in l node ≡ t
+    → Built (intern u (state_in l)) (Ok r) l l' → ((l'' : Lent) → Step l l'' → substitute given t (state_in l'') ≡ intern u (state_in l''))
+    → Settled given l' t (tree_in l' r) × Knows given nodes swaps l' table'
+rebuilt_known {node} {r = r} {l' = l'} q {given} {nodes} {swaps} {t} u k o tree b f =
+    let settled = built_settled u b t f in
+    let small : r % 4096 ≡ r = omega (arith, b.inside, (room_each l'.rows (count l'.desk) b.step.sound.holds.fits).most) in
+    let now : tree_in l' node ≡ t = b.step.stays node (omega (arith, o, k.stand)) ∙ tree in (
+      settled,
+      subst (λ table'. Knows given nodes swaps l' table') (sym (rw small at q.noted))
+          (knows_more (knows_on k b.step) node r o b.inside (subst (λ t. Settled given l' t (tree_in l' r)) (sym now) settled)),
+    )
+
+-- a replacement by what it answered
+pub replaced_by : {given : List Listings.Swap} {nodes swaps node r : ℕ} {r' : Result ℕ Refused} {l l' : Lent} {table' : List ℕ} → Replaced given nodes swaps node r' l l' table'
+    → r' ≡ Ok r → Replaced given nodes swaps node (Ok r) l l' table'
+replaced_by q e = rw e at q
 
 -- ---- the returns of `substitute_node`
 
@@ -226,73 +239,100 @@ module _ {given : List Listings.Swap} {nodes swaps node : ℕ} {l : Lent} {table
   of_node : (s : State) {w : Answer} → w ≡ substitute given (tree_of l.rows e) s → w ≡ substitute given (tree_in l node) s
   of_node s p = p ∙ ap (λ t. substitute given t s) of_tree
 
-  pub leaf_replaced : {r : ℕ} → operands ≡ Operands.Nothing → PutsIn table swaps e node r → Replaced given nodes swaps node r l l table
+  pub leaf_replaced : {r : ℕ} → operands ≡ Operands.Nothing → PutsIn table swaps e node r → Replaced given nodes swaps node (Ok r) l l table
   leaf_replaced {r} told puts =
       let p = puts l k.few k.lists stands of_tree (sym o_is ∙ told) in
       let put : (s : State) → gives (tree_in l r) s ≡ substitute given (tree_in l node) s = λ s. p.1 s ∙ ap (λ given. substitute given (tree_in l node) s) k.same in
-      record { built = stays k.lists.sound p.0 (put (state_in l)); settled = λ _. record { again = λ l' _. sym (put (state_in l')) }; knows = λ _. k }
+      record { built = stays k.lists.sound p.0 (put (state_in l)); settled = record { again = λ l' _. sym (put (state_in l')) }; knows = k }
 
-  module _ {a x r : ℕ} {l₁ l₂ : Lent} {table₁ table₂ : List ℕ} (told : operands ≡ Operands.One a) (first : Replaced given nodes swaps a x l l₁ table₁)
-      (q : Rebuilds node e 0 x r l₁ l₂ table₁ table₂) where
+  module _ {a : ℕ} (told : operands ≡ Operands.One a) where
     as_one : (s : State) → and_then (substitute given (tree_in l a) s) (from_one_lem given l.rows s e (leaf pi)) ≡ substitute given (tree_in l node) s
     as_one s = of_node s (one_step given l.rows s e a (leaf pi) (sym o_is ∙ told))
 
-    none : LeftIn e l₁.rows (count l₁.desk) 0 (leaf pi)
-    none = left_none e a (sym o_is ∙ told) l₁.rows (count l₁.desk) 0 (leaf pi)
+    pub one_refused : {x r : Result ℕ Refused} {why : Refused} {l₁ : Lent} {table₁ : List ℕ} → Replaced given nodes swaps a x l l₁ table₁ → x ≡ Err why → IsErr r
+        → Replaced given nodes swaps node r l l₁ table₁
+    one_refused first h v = record {
+      built = named (as_one (state_in l)) (then_refused (from_one_lem given l.rows (state_in l) e (leaf pi)) first.built h v);
+      settled = nothing_asked _ _ v;
+      knows = nothing_asked _ _ v;
+    }
 
-    one_known : r < refused_from → Settled given l₂ (tree_in l node) (tree_in l₂ r) × Knows given nodes swaps l₂ table₂
-    unfolding from_one_lem and_then
-    one_known h =
-        let y = last_node q h in
-        let p = got first.built y in
-        rebuilt_known q (wrap e (leaf pi) (tree_in l₁ x)) (first.knows y) o (p.stays node stands) h (rebuilt_added q (leaf pi) y p none) λ l'' step.
-        sym (as_one (state_in l'')) ∙ ap (λ w. and_then w (from_one_lem given l.rows (state_in l'') e (leaf pi))) ((first.settled y).again l'' step)
+    module _ {x : ℕ} {l₁ : Lent} {table₁ : List ℕ} (first : Replaced given nodes swaps a (Ok x) l l₁ table₁) where
+      none : LeftIn e l₁.rows (count l₁.desk) 0 (leaf pi)
+      none = left_none e a (sym o_is ∙ told) l₁.rows (count l₁.desk) 0 (leaf pi)
 
-    pub one_replaced : Replaced given nodes swaps node r l l₂ table₂
-    unfolding from_one_lem
-    one_replaced = record { built = named (as_one (state_in l)) (rebuilt_built q (leaf pi) first.built (λ p. none)); settled = λ h. (one_known h).0; knows = λ h. (one_known h).1 }
+      one_known : (r : Result ℕ Refused) {l₂ : Lent} {table₂ : List ℕ} → Rebuilds node e 0 x r l₁ l₂ table₁ table₂
+          → IfOk r (λ k. Settled given l₂ (tree_in l node) (tree_in l₂ k)) × OnOk r (Knows given nodes swaps l₂ table₂)
+      unfolding from_one_lem and_then
+      one_known (Ok r) q =
+          let p = got first.built in
+          rebuilt_known q (wrap e (leaf pi) (tree_in l₁ x)) first.knows o (p.stays node stands) (rebuilt_added q (leaf pi) p none) λ l'' step.
+          sym (as_one (state_in l'')) ∙ ap (λ w. and_then w (from_one_lem given l.rows (state_in l'') e (leaf pi))) (first.settled.again l'' step)
+      one_known (Err why) q = (tt, tt)
 
-  module _ {a b left : ℕ} {l₁ : Lent} {table₁ : List ℕ} (told : operands ≡ Operands.Two a b) (first : Replaced given nodes swaps a left l l₁ table₁) where
+      pub one_replaced : {r : Result ℕ Refused} {l₂ : Lent} {table₂ : List ℕ} → Rebuilds node e 0 x r l₁ l₂ table₁ table₂ → Replaced given nodes swaps node r l l₂ table₂
+      unfolding from_one_lem
+      one_replaced {r} q =
+          let z = one_known r q in
+          record { built = named (as_one (state_in l)) (rebuilt_built q (leaf pi) first.built (λ p. none)); settled = z.0; knows = z.1 }
+
+  module _ {a b : ℕ} (told : operands ≡ Operands.Two a b) where
     as_two : (s : State) → and_then (substitute given (tree_in l a) s) (from_left given l.rows s e b) ≡ substitute given (tree_in l node) s
     as_two s = of_node s (two_step given l.rows s e a b (sym o_is ∙ told))
 
-    pub two_refused : refused_from ≤ left → Replaced given nodes swaps node left l l₁ table₁
-    two_refused h = record {
-      built = named (as_two (state_in l)) (then_refused (from_left given l.rows (state_in l) e b) first.built h);
-      settled = λ z. absurd (omega (arith, h, z));
-      knows = λ z. absurd (omega (arith, h, z));
+    pub left_refused : {x r : Result ℕ Refused} {why : Refused} {l₁ : Lent} {table₁ : List ℕ} → Replaced given nodes swaps a x l l₁ table₁ → x ≡ Err why → IsErr r
+        → Replaced given nodes swaps node r l l₁ table₁
+    left_refused first h v = record {
+      built = named (as_two (state_in l)) (then_refused (from_left given l.rows (state_in l) e b) first.built h v);
+      settled = nothing_asked _ _ v;
+      knows = nothing_asked _ _ v;
     }
 
-    module _ {y r : ℕ} {l₂ l₃ : Lent} {table₂ table₃ : List ℕ} (h : left < refused_from)
-        (next : Knows given nodes swaps l₁ table₁ → Replaced given nodes swaps b y l₁ l₂ table₂) (q : Rebuilds node e left y r l₂ l₃ table₂ table₃) where
-      second : Replaced given nodes swaps b y l₁ l₂ table₂
-      second = next (first.knows h)
-
+    module _ {left : ℕ} {l₁ : Lent} {table₁ : List ℕ} (first : Replaced given nodes swaps a (Ok left) l l₁ table₁) where
       p : Got l left l₁
-      p = got first.built h
+      p = got first.built
 
       right_stays : tree_in l₁ b ≡ tree_in l b
       right_stays = p.stays b (omega (arith, (two_inside told).1, stands))
 
-      left_stands : Got l₁ y l₂ → LeftIn e l₂.rows (count l₂.desk) left (tree_in l₁ left)
-      left_stands p₂ = left_in e l₂.rows (count l₂.desk) left (tree_in l₁ left) (older p₂ p.inside) (p₂.stays left p.inside)
-
-      two_known : r < refused_from → Settled given l₃ (tree_in l node) (tree_in l₃ r) × Knows given nodes swaps l₃ table₃
-      unfolding from_left from_one_lem and_then
-      two_known z =
-          let i = last_node q z in
-          let p₂ = got second.built i in
-          let tree : tree_in l₂ node ≡ tree_in l node = p₂.stays node (older p stands) ∙ p.stays node stands in
-          rebuilt_known q (wrap e (tree_in l₁ left) (tree_in l₂ y)) (second.knows i) o tree z (rebuilt_added q (tree_in l₁ left) i p₂ (left_stands p₂)) λ l'' step.
-          sym (as_two (state_in l'')) ∙ ap (λ w. and_then w (from_left given l.rows (state_in l'') e b)) ((first.settled h).again l'' (both second.built.step step))
-          ∙ ap (λ t. and_then (substitute given t (state_in l'')) (from_one_lem given l.rows (state_in l'') e (tree_in l₁ left))) (sym right_stays)
-          ∙ ap (λ w. and_then w (from_one_lem given l.rows (state_in l'') e (tree_in l₁ left))) ((second.settled i).again l'' step)
-
-      pub two_replaced : Replaced given nodes swaps node r l l₃ table₃
+      pub right_refused : {y r : Result ℕ Refused} {why : Refused} {l₂ : Lent} {table₂ : List ℕ}
+          → (Knows given nodes swaps l₁ table₁ → Replaced given nodes swaps b y l₁ l₂ table₂) → y ≡ Err why → IsErr r → Replaced given nodes swaps node r l l₂ table₂
       unfolding from_left from_one_lem
-      two_replaced = record {
-        built = named (as_two (state_in l)) (then_node (from_left given l.rows (state_in l) e b) first.built h λ p.
-            rebuilt_built q (tree_in l₁ left) (named (ap (λ t. substitute given t (state_in l₁)) right_stays) second.built) left_stands);
-        settled = λ z. (two_known z).0;
-        knows = λ z. (two_known z).1;
-      }
+      right_refused next h v =
+          let second = next first.knows in
+          record {
+            built = named (as_two (state_in l)) (then_node (from_left given l.rows (state_in l) e b) first.built refl λ p.
+                then_refused (from_one_lem given l.rows (state_in l₁) e (tree_in l₁ left)) (named (ap (λ t. substitute given t (state_in l₁)) right_stays) second.built) h v);
+            settled = nothing_asked _ _ v;
+            knows = nothing_asked _ _ v;
+          }
+
+      module _ {y : ℕ} {l₂ : Lent} {table₂ : List ℕ} (next : Knows given nodes swaps l₁ table₁ → Replaced given nodes swaps b (Ok y) l₁ l₂ table₂) where
+        second : Replaced given nodes swaps b (Ok y) l₁ l₂ table₂
+        second = next first.knows
+
+        left_stands : Got l₁ y l₂ → LeftIn e l₂.rows (count l₂.desk) left (tree_in l₁ left)
+        left_stands p₂ = left_in e l₂.rows (count l₂.desk) left (tree_in l₁ left) (older p₂ p.inside) (p₂.stays left p.inside)
+
+        two_known : (r : Result ℕ Refused) {l₃ : Lent} {table₃ : List ℕ} → Rebuilds node e left y r l₂ l₃ table₂ table₃
+            → IfOk r (λ k. Settled given l₃ (tree_in l node) (tree_in l₃ k)) × OnOk r (Knows given nodes swaps l₃ table₃)
+        unfolding from_left from_one_lem and_then
+        two_known (Ok r) q =
+            let p₂ = got second.built in
+            let tree : tree_in l₂ node ≡ tree_in l node = p₂.stays node (older p stands) ∙ p.stays node stands in
+            rebuilt_known q (wrap e (tree_in l₁ left) (tree_in l₂ y)) second.knows o tree (rebuilt_added q (tree_in l₁ left) p₂ (left_stands p₂)) λ l'' step.
+            sym (as_two (state_in l'')) ∙ ap (λ w. and_then w (from_left given l.rows (state_in l'') e b)) (first.settled.again l'' (both second.built.step step))
+            ∙ ap (λ t. and_then (substitute given t (state_in l'')) (from_one_lem given l.rows (state_in l'') e (tree_in l₁ left))) (sym right_stays)
+            ∙ ap (λ w. and_then w (from_one_lem given l.rows (state_in l'') e (tree_in l₁ left))) (second.settled.again l'' step)
+        two_known (Err why) q = (tt, tt)
+
+        pub two_replaced : {r : Result ℕ Refused} {l₃ : Lent} {table₃ : List ℕ} → Rebuilds node e left y r l₂ l₃ table₂ table₃ → Replaced given nodes swaps node r l l₃ table₃
+        unfolding from_left from_one_lem
+        two_replaced {r} q =
+            let z = two_known r q in
+            record {
+              built = named (as_two (state_in l)) (then_node (from_left given l.rows (state_in l) e b) first.built refl λ p.
+                  rebuilt_built q (tree_in l₁ left) (named (ap (λ t. substitute given t (state_in l₁)) right_stays) second.built) left_stands);
+              settled = z.0;
+              knows = z.1;
+            }

@@ -2,27 +2,29 @@
 use mathlib.Core.Path.{◌≡◌, refl, sym, ap, ◌∙◌, subst}
 use mathlib.Core.Bool.{Bool, true, false, cond}
 use mathlib.Core.List.{List}
-use Prim.Native.Nat.{ℕ, ◌+◌, ◌-◌, ◌*◌, ◌≤◌, ◌<◌}
+use Prim.Native.Nat.{ℕ, zero, suc, ◌+◌, ◌-◌, ◌*◌, ◌≤◌, ◌<◌}
 use native.Mathlib.Omega.{arith}
 use native.Mathlib.Decide.{dec_lt, ℕ_discrete}
 use lib.Dec.{ltb}
 use lib.ListN.{length, get_or, set, length-set}
 use lib.Seq.{get_or-set_same, get_or-set_other}
+use Rattle.std.specs.Prelude.{Option, Some, None, SomeIff, Ok}
+use Rattle.std.proofs.lemmas.Option.{none-some, same_Some}
 use Rattle.expression.specs.Trees.{Tree, size, depth}
 use Rattle.expression.specs.Limits.{largest, deepest}
 use Rattle.memory.specs.Layout.{swaps_from, results_from}
 use Rattle.memory.proofs.Slices.{get_or_out}
 use Rattle.memory.proofs.Values.{up_to_alike}
 use Rattle.store.specs.Storing.{State, state, Answer, gives, refused, among, intern}
-use Rattle.store.specs.Desk.{count, refused_from}
-use Rattle.store.specs.Held.{Lent, tree_in, state_in, Sound, Step, Built}
+use Rattle.store.specs.Desk.{count}
+use Rattle.store.specs.Held.{Lent, tree_in, state_in, Sound, Step, seen, Built}
 use Rattle.store.proofs.Trees.{room_each}
-use Rattle.store.proofs.Building.{seen_node, both, idle, stays}
+use Rattle.store.proofs.Building.{both, idle, stays}
 use Rattle.store.proofs.Stored.{stored}
 use Rattle.listing.specs.Listings.{Swap, swap}
 use Rattle.listing.specs.Tables.{Lists, swap_trees}
 use Rattle.substitution.specs.Substituting.{substitute}
-use Rattle.substitution.specs.Run.{word_of, Forgets, Settled, Knows, Replaced}
+use Rattle.substitution.specs.Run.{word_of, numbered, Forgets, Settled, Knows, Replaced}
 
 -- ---- the tree that is stored
 
@@ -47,16 +49,16 @@ interned_again : {l : Lent} → Sound l → (r : ℕ) → r < count l.desk → i
 unfolding intern state_in
 interned_again {l} h r o = rw (stored h.holds r o)
 
-module _ (u : Tree) {r : ℕ} {l l' : Lent} (b : Built (intern u (state_in l)) r l l') (h : r < refused_from) where
+module _ (u : Tree) {r : ℕ} {l l' : Lent} (b : Built (intern u (state_in l)) (Ok r) l l') where
   built_tree : tree_in l' r ≡ u
-  unfolding Is
-  built_tree = subst (Is u) (sym b.answer ∙ seen_node r l' h) (interned u (state_in l))
+  unfolding Is seen
+  built_tree = subst (Is u) (sym b.answer) (interned u (state_in l))
 
   -- an operation is settled where its operands are
   pub built_settled : {given : List Swap} (t : Tree) → ((l'' : Lent) → Step l l'' → substitute given t (state_in l'') ≡ intern u (state_in l'')) → Settled given l' t (tree_in l' r)
   built_settled t f = record {
     again = λ l'' p.
-        let o = b.inside h in
+        let o = b.inside in
         let e = p.stays r o in
         f l'' (both b.step p) ∙ ap (λ v. intern v (state_in l'')) (sym (e ∙ built_tree)) ∙ interned_again p.sound r (omega (arith, o, p.grew)) ∙ ap (λ v. gives v (state_in l'')) e;
   }
@@ -125,13 +127,25 @@ knows_nothing {table = table} {table' = table'} few li e f = record {
   results = λ k r o z. absurd (omega (arith, f.nothing k o, z));
 }
 
+-- a node and its number plus one
+pub numbered_is : (n : ℕ) {r : Option ℕ} → SomeIff r (1 ≤ n) (n - 1) → r ≡ numbered n
+numbered_is zero {r = None} s = refl
+numbered_is zero {r = Some k} s = absurd (omega (arith, s.0))
+numbered_is (suc n) {r = None} s = absurd (s (omega arith))
+numbered_is (suc n) {r = Some k} s = ap Some (s.1 ∙ omega arith)
+
+numbered_some : (n : ℕ) {k : ℕ} → numbered n ≡ Some k → n ≡ k + 1
+numbered_some zero e = absurd (none-some _ e)
+numbered_some (suc n) {k} e = omega (arith, same_Some n k e)
+
 module _ {given : List Swap} {nodes swaps : ℕ} {l : Lent} {table : List ℕ} (k : Knows given nodes swaps l table) where
   -- a node that is known
-  pub known_replaced : {node word : ℕ} → node < nodes → word ≡ get_or table (word_of node) 0 → 0 < word → Replaced given nodes swaps node (word - 1) l l table
-  known_replaced {node} {word} o e z =
-      let p = k.results node (word - 1) o (omega (arith, e, z)) in
+  pub known_replaced : {node known : ℕ} {r : Option ℕ} → node < nodes → r ≡ numbered (get_or table (word_of node) 0) → r ≡ Some known
+      → Replaced given nodes swaps node (Ok known) l l table
+  known_replaced {node} {known} o e z =
+      let p = k.results node known o (numbered_some (get_or table (word_of node) 0) (sym e ∙ z)) in
       let h = k.lists.sound in
-      record { built = stays h p.0 (sym (p.1.again l (idle h))); settled = λ _. p.1; knows = λ _. k }
+      record { built = stays h p.0 (sym (p.1.again l (idle h))); settled = p.1; knows = k }
 
   -- a step later it knows the same
   pub knows_on : {l' : Lent} → Step l l' → Knows given nodes swaps l' table

@@ -7,11 +7,12 @@ ghost use Rattle.store.specs.Held.{lent};
 ghost use Rattle.substitution.specs.Run.{PutsIn, Rebuilds, Replaces, Substitutes};
 
 use expression::node::{Expression, Operands, operands_of, with_operands};
-use listing::{Swap, swap_of};
+use expression::refusal::Refusal;
+use listing::swap_of;
 use memory::layout::DESK_WORDS;
 use results::{forget, recalled, remember};
 use store::add;
-use store::desk::{REFUSED, standing};
+use store::desk::{Refused, refuse, standing};
 use store::reading::expression_at;
 
 mod results;
@@ -23,14 +24,10 @@ fn put_in(table: &[u64], swaps: usize, e: Expression, node: usize) -> usize
     let Expression::Variable(number) = e else {
         return node;
     };
-    let named = swap_of(table, swaps, number);
-    match named {
-        Swap::Node(i) => i,
-        Swap::Nothing => node,
-    }
+    swap_of(table, swaps, number).unwrap_or(node)
 }
 
-// The operation on what its last operand became, which is remembered for its node; a refusal is passed on.
+// The operation on what its operands became, which is remembered for its node.
 fn rebuild(
     store: &mut [[u64; 4]],
     desk: &mut [u64; DESK_WORDS],
@@ -39,15 +36,12 @@ fn rebuild(
     e: Expression,
     left: usize,
     last: usize,
-) -> usize
+) -> Result<usize, Refused>
     ensures { Rebuilds node e left last result (lent store.old desk.old) (lent store.new desk.new) table.old table.new }
 {
-    if REFUSED <= last {
-        return last;
-    }
-    let became = add(store, desk, with_operands(e, left, last));
+    let became = add(store, desk, with_operands(e, left, last))?;
     remember(table, node, became);
-    became
+    Ok(became)
 }
 
 // A node with its variables replaced, in evaluation's order; what is put in is not searched again. An operation that was met before is what it
@@ -59,31 +53,26 @@ fn substitute_node(
     swaps: usize,
     node: usize,
     below: usize,
-) -> usize
+) -> Result<usize, Refused>
     ensures { Replaces table.old swaps node below result (lent store.old desk.old) (lent store.new desk.new) table.new }
 {
     if below <= node {
-        return REFUSED + 8;
+        return Err(refuse(desk, Refusal::Room));
     }
-    let known = recalled(table, node);
-    if 0 < known {
-        return known - 1;
+    if let Some(known) = recalled(table, node) {
+        return Ok(known);
     }
     let e = expression_at(store, node);
-    let operands = operands_of(e);
-    match operands {
-        Operands::Nothing => put_in(table, swaps, e, node),
+    match operands_of(e) {
+        Operands::Nothing => Ok(put_in(table, swaps, e, node)),
         Operands::One(a) => {
-            let x = substitute_node(store, desk, table, swaps, a, node);
-            rebuild(store, desk, table, node, e, 0, x)
+            let last = substitute_node(store, desk, table, swaps, a, node)?;
+            rebuild(store, desk, table, node, e, 0, last)
         }
         Operands::Two(a, b) => {
-            let left = substitute_node(store, desk, table, swaps, a, node);
-            if REFUSED <= left {
-                return left;
-            }
-            let y = substitute_node(store, desk, table, swaps, b, node);
-            rebuild(store, desk, table, node, e, left, y)
+            let left = substitute_node(store, desk, table, swaps, a, node)?;
+            let last = substitute_node(store, desk, table, swaps, b, node)?;
+            rebuild(store, desk, table, node, e, left, last)
         }
     }
 }
@@ -95,7 +84,7 @@ pub fn substitute_variables(
     table: &mut [u64],
     swaps: usize,
     node: usize,
-) -> usize
+) -> Result<usize, Refused>
     ensures { Substitutes table.old swaps node result (lent store.old desk.old) (lent store.new desk.new) }
 {
     let nodes = standing(desk);

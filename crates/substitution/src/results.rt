@@ -1,11 +1,10 @@
 // What nodes became, in the table's words from RESULTS_FROM on: 0 where nothing is known, else 1 and the number of a node. The nodes of a
 // listing are 1024 at most, so each has its word; past the table's end nothing is remembered.
-ghost use Rattle.std.specs.Prelude.{◌≡◌, get_or};
-ghost use Rattle.substitution.specs.Run.{word_of, Forgets, Remembers};
+ghost use Rattle.std.specs.Prelude.{◌≡◌, ◌+◌, ◌%◌, get_or, set};
+ghost use Rattle.substitution.specs.Run.{word_of, numbered, Forgets};
 
 use memory::layout::RESULTS_FROM;
 use memory::{put, read};
-use store::desk::REFUSED;
 
 // The number of a node is below this.
 const MOST: usize = 4096;
@@ -21,25 +20,22 @@ fn word_of(node: usize) -> usize
 pub fn forget(table: &mut [u64], nodes: usize)
     ensures { Forgets nodes table.old table.new }
 {
-    let mut k = 0;
-    while k < nodes {
+    for k in 0..nodes {
         put(table, word_of(k), 0);
-        k += 1;
     }
 }
 
-// 0, or 1 and the number of the node that a node became.
-pub fn recalled(table: &[u64], node: usize) -> usize
-    ensures { result ≡ get_or table.now (word_of node) 0 }
+// The node that a node became, if it is known.
+pub fn recalled(table: &[u64], node: usize) -> Option<usize>
+    ensures { result ≡ numbered (get_or table.now (word_of node) 0) }
 {
-    read(table, word_of(node)) as usize
+    let word = read(table, word_of(node)) as usize;
+    word.checked_sub(1)
 }
 
-// What a node became. A refusal ends everything, so it is not remembered.
+// What a node became.
 pub fn remember(table: &mut [u64], node: usize, became: usize)
-    ensures { Remembers node became table.old table.new }
+    ensures { table.new ≡ set table.old (word_of node) (became % 4096 + 1) }
 {
-    if became < REFUSED {
-        put(table, word_of(node), became as u64 + 1);
-    }
+    put(table, word_of(node), (became % MOST + 1) as u64);
 }

@@ -7,6 +7,7 @@ use Prim.Native.Nat.{ℕ, suc, ◌+◌, ◌<◌, ◌≤◌, max, ◌-◌}
 use native.Mathlib.Omega.{arith}
 use lib.ListN.{length}
 use borrow.Author.Tests.{lt-ltb}
+use Rattle.std.specs.Prelude.{Ok}
 use Rattle.complex.specs.declared.Complex.{Complex}
 use Rattle.expression.specs.Trees.{Tree, Leaf, number, pi, variable, cell, leaf, function_call, prefixed, infixed, size, depth}
 use Rattle.expression.specs.Limits.{Proper, ProperLeaf}
@@ -20,7 +21,6 @@ use Rattle.steps.specs.Steps.{fields_of, tape_of, step_of}
 use Rattle.steps.proofs.Knowing.{ProperStep, step_back, step_known}
 use Rattle.steps.proofs.Writing.{tape_size}
 use Rattle.steps.proofs.Inverse.{encoded_fields, after_encoded}
-use Rattle.tape.specs.declared.Checked.{Checked}
 use Rattle.tape.specs.Tapes.{leaf_step, steps, tape, fields_of_all, count, steps_in, takes, after, allowed, check_from, check}
 use Rattle.tape.specs.Playing.{Outcome, stands, lacks, breaks, push, and_then, result, step, run, played}
 use Rattle.tape.proofs.Checking.{check_on, check_whole}
@@ -146,7 +146,7 @@ tree_checks (infixed o l r) p at values fs d =
     ∙ same_place fs (omega arith) (omega arith)
 
 -- "It compiles": its bytes are sound
-pub tape_sound : (t : Tree) → Proper t → depth t ≤ 64 → size t ≤ 512 → check (tape t) ≡ Checked.Sound
+pub tape_sound : (t : Tree) → Proper t → depth t ≤ 64 → size t ≤ 512 → check (tape t) ≡ Ok tt
 unfolding check_from
 tape_sound t p d l =
     let n = tape_length t in

@@ -8,6 +8,7 @@ use native.Mathlib.Omega.{arith}
 use lib.ListN.{length}
 use lib.Dec.{ltb}
 use borrow.Author.Tests.{lt-ltb}
+use Rattle.std.specs.Prelude.{Ok}
 use Rattle.complex.specs.declared.Complex.{Complex}
 use Rattle.expression.specs.declared.InfixOperator.{InfixOperator}
 use Rattle.expression.specs.Trees.{Tree, Leaf, number, pi, variable, cell, leaf, function_call, prefixed, infixed, depth}
@@ -17,7 +18,6 @@ use Rattle.evaluation.specs.Evaluating.{calculate_function, calculate_infix, cal
 use Rattle.steps.specs.declared.Step.{Step}
 use Rattle.steps.specs.declared.Fields.{Fields}
 use Rattle.steps.specs.Steps.{step_of}
-use Rattle.tape.specs.declared.Checked.{Checked}
 use Rattle.tape.specs.Tapes.{leaf_step, steps, fields_of_all, count, steps_in, takes, after, check_from, check}
 use Rattle.tape.specs.Playing.{Outcome, stands, lacks, breaks, push, and_then, step, run}
 use Rattle.tape.proofs.Checking.{on_sound, one_left, sound_is}
@@ -206,7 +206,7 @@ module _ (rows : Rows) where
   then_whole (lacks x) n next w c more = tt
   then_whole breaks n next w c more = w
 
-  run_whole : (at : ℕ) (fs : List Fields) (stack : List Complex) → check_from at (length stack) fs ≡ Checked.Sound → Whole (run rows (map step_of fs) stack)
+  run_whole : (at : ℕ) (fs : List Fields) (stack : List Complex) → check_from at (length stack) fs ≡ Ok tt → Whole (run rows (map step_of fs) stack)
   unfolding run
   run_whole at [] stack e = tt
   run_whole at (f ∷ fs) stack e =
@@ -214,14 +214,14 @@ module _ (rows : Rows) where
       then_whole (step rows (step_of f) stack) (after (length stack) (step_of f)) (λ stack. run rows (map step_of fs) stack) (step_whole (step_of f) stack a.0.enough (omega (arith, a.0.room)))
       (step_counted (step_of f) stack) λ next c. run_whole (suc at) fs next (ap (λ n. check_from (suc at) n fs) c ∙ a.1)
 
-  run_one : (at : ℕ) (fs : List Fields) (n : ℕ) → check_from at n fs ≡ Checked.Sound → values n (map step_of fs) ≡ 1
+  run_one : (at : ℕ) (fs : List Fields) (n : ℕ) → check_from at n fs ≡ Ok tt → values n (map step_of fs) ≡ 1
   unfolding values
   run_one at [] n e = one_left at n e
   run_one at (f ∷ fs) n e = run_one (suc at) fs (after n (step_of f)) (on_sound at n f fs e).1
 
   -- "A tape from anywhere else is refused before its first step or plays without running out of stack": no pop of an empty stack, never more than
   -- 64 values, and where no value is lacking one is left at the end
-  pub sound_plays : (bs : List ℕ) → check bs ≡ Checked.Sound → Whole (run rows (steps_in bs) []) × Counted 1 (run rows (steps_in bs) [])
+  pub sound_plays : (bs : List ℕ) → check bs ≡ Ok tt → Whole (run rows (steps_in bs) []) × Counted 1 (run rows (steps_in bs) [])
   sound_plays bs e =
       let s = (sound_is bs e).steps in
       (run_whole 0 (fields_of_all (count bs) bs) [] s, subst (λ n. Counted n (run rows (steps_in bs) [])) (run_one 0 (fields_of_all (count bs) bs) 0 s) (run_counted (steps_in bs) []))

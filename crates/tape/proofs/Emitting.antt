@@ -7,6 +7,7 @@ use native.Mathlib.Omega.{arith}
 use lib.ListN.{length, length-append, drop}
 use lib.Seq.{sets-eq}
 use borrow.Author.Tests.{lt-ltb, le-ltb}
+use Rattle.std.specs.Prelude.{Result, Ok, Err}
 use Rattle.expression.specs.declared.refusal.Refusal.{Refusal}
 use Rattle.expression.specs.Trees.{Tree, leaf, function_call, prefixed, infixed, size}
 use Rattle.expression.specs.declared.node.Expression.{Expression}
@@ -16,7 +17,6 @@ use Rattle.store.specs.Held.{Holds}
 use Rattle.store.proofs.Stored.{read_node}
 use Rattle.text.specs.Put.{Put}
 use Rattle.text.proofs.Putting.{put_then, put_length}
-use Rattle.writing.specs.declared.Written.{Written}
 use Rattle.expression.specs.declared.node.Operands.{Operands}
 use Rattle.expression.proofs.Under.{nothing_under, one_under, two_under, within_one, within_two, IsNothing, IsOne, IsTwo}
 use Rattle.steps.specs.declared.Step.{Step}
@@ -145,19 +145,19 @@ module _ {m : Memory} {n node : ℕ} (h : Holds m n) (l : node < n) {e : Express
 -- ---- the returns of `compile`
 
 module _ (t : Tree) (out : List ℕ) where
-  pub compiles_long : 512 < size t → ◌≡◌ {A = Written × List ℕ} (Written.Refused Refusal.LongTape, out) (compiled t out)
+  pub compiles_long : 512 < size t → ◌≡◌ {A = Result ℕ Refusal × List ℕ} (Err Refusal.LongTape, out) (compiled t out)
   unfolding compiled
   compiles_long l = rw (lt-ltb 512 (size t) l) refl
 
-  pub compiles_short : size t ≤ 512 → length out < 24 * size t → ◌≡◌ {A = Written × List ℕ} (Written.Refused Refusal.OutRoom, out) (compiled t out)
+  pub compiles_short : size t ≤ 512 → length out < 24 * size t → ◌≡◌ {A = Result ℕ Refusal × List ℕ} (Err Refusal.OutRoom, out) (compiled t out)
   unfolding compiled
   compiles_short l k = rw (le-ltb 512 (size t) l, lt-ltb (length out) (length (tape t)) (omega (arith, k, tape_length t))) refl
 
   pub compiles : {r : ℕ} {out' : List ℕ} → size t ≤ 512 → 24 * size t ≤ length out → (0 + length (tape t) ≤ length out → Put out 0 (tape t) r out')
-      → ◌≡◌ {A = Written × List ℕ} (Written.Bytes r, out') (compiled t out)
+      → ◌≡◌ {A = Result ℕ Refusal × List ℕ} (Ok r, out') (compiled t out)
   unfolding compiled
   compiles {r} {out'} l k put =
       let p = put (omega (arith, k, tape_length t)) in
       let a : r ≡ length (tape t) = p.place ∙ zero-add (length (tape t)) in
       let b : out' ≡ tape t ++ drop (length (tape t)) out = p.stored ∙ sets-eq (tape t) out 0 (omega (arith, k, tape_length t)) ∙ rw (zero-add (length (tape t))) refl in
-      rw (le-ltb 512 (size t) l, le-ltb (length out) (length (tape t)) (omega (arith, k, tape_length t))) λ i. (Written.Bytes (a i), b i)
+      rw (le-ltb 512 (size t) l, le-ltb (length out) (length (tape t)) (omega (arith, k, tape_length t))) λ i. (Ok (a i), b i)

@@ -6,11 +6,11 @@ use mathlib.Core.Logic.{⊎_elim}
 use Prim.Native.Nat.{ℕ, zero, suc, ◌+◌, ◌*◌, ◌-◌, ◌<◌, ◌≤◌}
 use native.Mathlib.Omega.{arith}
 use lib.ListN.{length, get_or, set, drop}
+use Rattle.std.specs.Prelude.{Option}
 use Rattle.complex.specs.declared.Complex.{Complex}
 use Rattle.expression.specs.declared.InfixOperator.{InfixOperator}
 use Rattle.memory.specs.Marks.{noted}
 use Rattle.memory.proofs.Marks.{noted_append}
-use Rattle.sheet.specs.declared.Found.{Found}
 use Rattle.sheet.specs.Rows.{Rows, missing}
 use Rattle.sheet.specs.Table.{seen_found}
 use Rattle.evaluation.specs.declared.Evaluation.{Evaluation}
@@ -49,7 +49,7 @@ unfolding asks
 leaf_unasked f p q =
     ⊎_elim (λ e. ap asks (as_number f e)) (⊎_elim (λ e. ap asks (as_pi f e)) (⊎_elim (λ e. ap asks (as_variable f e)) (λ e. ap asks (as_cell f e)))) (first_four f.opcode p q)
 
-module _ (rows : Rows) (s : Step) (x y : Complex) (r : Found) (v : seen_found r ≡ seen_value (value_of rows s x y)) where
+module _ (rows : Rows) (s : Step) (x y : Complex) (r : Option Complex) (v : seen_found r ≡ seen_value (value_of rows s x y)) where
   pub unmarked_values : {marks : List ℕ} → asks s ≡ false → Values rows s x y r marks marks
   unfolding noted
   unmarked_values {marks} e = record { value = v; marked = ap (λ u. noted u marks) (sym (unasked rows s x y e)) }

@@ -4,9 +4,10 @@ use mathlib.Core.Path.{◌≡◌, refl, sym, ap, ◌∙◌}
 use mathlib.Core.List.{List}
 use Prim.Native.Nat.{ℕ, ◌<◌}
 use denote.Ref.{Bor}
+use Rattle.std.specs.Prelude.{Result}
+use Rattle.expression.specs.declared.refusal.Refusal.{Refusal}
 use Rattle.store.specs.Memory.{Memory}
 use Rattle.store.specs.Held.{Holds}
-use Rattle.writing.specs.declared.Written.{Written}
 use Rattle.sheet.specs.declared.Counts.{Counts}
 use Rattle.sheet.specs.Table.{rows_of, Held}
 use Rattle.evaluation.specs.declared.Evaluation.{Evaluation}
@@ -15,8 +16,8 @@ use Rattle.tape.specs.Tapes.{picked, Own}
 use Rattle.tape.specs.Run.{Compiles, Plays}
 
 -- answer and output bytes
-pub one_compiled : {m : Memory} {root nodes : ℕ} {r r' : Written} (out : List ℕ) {out₁ out₂ : List ℕ} → Holds m nodes → root < nodes
-    → Compiles m root nodes r out out₁ → Compiles m root nodes r' out out₂ → ◌≡◌ {A = Written × List ℕ} (r, out₁) (r', out₂)
+pub one_compiled : {m : Memory} {root nodes : ℕ} {r r' : Result ℕ Refusal} (out : List ℕ) {out₁ out₂ : List ℕ} → Holds m nodes → root < nodes
+    → Compiles m root nodes r out out₁ → Compiles m root nodes r' out out₂ → ◌≡◌ {A = Result ℕ Refusal × List ℕ} (r, out₁) (r', out₂)
 one_compiled out h l p q = p h l ∙ sym (q h l)
 
 pub one_played : (tape : List ℕ) {table : List ℕ} {rows : Counts} {r r' : Evaluation} {marks marks₁ marks₂ : List ℕ} → Held table rows

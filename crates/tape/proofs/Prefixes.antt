@@ -8,6 +8,7 @@ use native.Mathlib.Omega.{arith}
 use lib.ListN.{length, take, drop, take-append-drop}
 use lib.Dec.{ltb}
 use borrow.Author.Tests.{ltb-true}
+use Rattle.std.specs.Prelude.{Ok}
 use Rattle.complex.specs.declared.Complex.{Complex}
 use Rattle.expression.specs.declared.refusal.Operation.{Operation}
 use Rattle.expression.specs.Trees.{Tree, number, pi, variable, cell, size, depth}
@@ -16,7 +17,6 @@ use Rattle.sheet.specs.Rows.{Rows}
 use Rattle.evaluation.specs.declared.Evaluation.{Evaluation}
 use Rattle.evaluation.specs.Evaluating.{calculate_function, calculate_infix, calculate_prefix, leaf_value}
 use Rattle.steps.specs.declared.Step.{Step}
-use Rattle.tape.specs.declared.Checked.{Checked}
 use Rattle.tape.specs.Tapes.{steps, tape, steps_in, check}
 use Rattle.tape.specs.Playing.{Outcome, stands, lacks, breaks, push, and_then, step, run}
 use Rattle.tape.proofs.Demand.{steps_proper, steps_back, tape_sound}
@@ -122,7 +122,7 @@ module _ (rows : Rows) where
 
   -- ---- a sound tape
 
-  module _ (bs : List ℕ) (sound : check bs ≡ Checked.Sound) where
+  module _ (bs : List ℕ) (sound : check bs ≡ Ok tt) where
     pub sound_prefix : (k : ℕ) → AtMost 64 (run rows (take k (steps_in bs)) [])
     unfolding Left
     sound_prefix k =

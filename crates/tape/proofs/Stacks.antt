@@ -8,13 +8,13 @@ use native.Mathlib.Numerals.{add-one}
 use native.Mathlib.Omega.{arith}
 use lib.ListN.{length, get_or, set, drop}
 use borrow.Author.Tests.{lt-ltb}
+use Rattle.std.specs.Prelude.{Ok}
 use Rattle.complex.specs.declared.Complex.{Complex}
 use Rattle.sheet.specs.Rows.{Rows, missing}
 use Rattle.evaluation.specs.declared.Evaluation.{Evaluation}
 use Rattle.steps.specs.declared.Step.{Step}
 use Rattle.steps.specs.declared.Fields.{Fields}
 use Rattle.steps.specs.Steps.{fields_in, step_of}
-use Rattle.tape.specs.declared.Checked.{Checked}
 use Rattle.tape.specs.Tapes.{fields_of_all, count, steps_in, takes, after, check_from, check}
 use Rattle.tape.specs.Playing.{Outcome, stands, push, and_then, result, step, run, played}
 use Rattle.tape.specs.Run.{filler, stack_of, value_of, seen_value}
@@ -90,7 +90,7 @@ pub record Left (bs : List ℕ) (i depth : ℕ) : Type 0 where
   pub inside : i ≤ count bs
   pub few : depth ≤ 64
   pub long : count bs ≤ 512
-  pub sound : check_from i depth (fields_of_all (count bs - i) (drop (24 * i) bs)) ≡ Checked.Sound
+  pub sound : check_from i depth (fields_of_all (count bs - i) (drop (24 * i) bs)) ≡ Ok tt
 
 abbrev pub left_steps : List ℕ → ℕ → List Step
 left_steps bs i = map step_of (fields_of_all (count bs - i) (drop (24 * i) bs))
@@ -99,7 +99,7 @@ left_steps bs i = map step_of (fields_of_all (count bs - i) (drop (24 * i) bs))
 abbrev pub Same : Rows → List ℕ → ℕ → List Complex → ℕ → Type 0
 Same rows bs i xs depth = run rows (left_steps bs i) (stack_of xs depth) ≡ run rows (steps_in bs) []
 
-pub left_begins : (bs : List ℕ) → check bs ≡ Checked.Sound → Left bs 0 0
+pub left_begins : (bs : List ℕ) → check bs ≡ Ok tt → Left bs 0 0
 left_begins bs e =
     let s = sound_is bs e in
     record { inside = omega arith; few = omega arith; long = s.few; sound = ap (check_from 0 0) (all_left (count bs) bs) ∙ s.steps }
@@ -109,7 +109,7 @@ module _ {bs : List ℕ} {i depth : ℕ} (h : Left bs i depth) (l : i < count bs
   rest : List Fields
   rest = fields_of_all (count bs - (i + 1)) (drop (24 * (i + 1)) bs)
 
-  next_is : check_from i depth (f ∷ rest) ≡ Checked.Sound
+  next_is : check_from i depth (f ∷ rest) ≡ Ok tt
   unfolding rest
   next_is = rw e (ap (check_from i depth) (sym (remaining (count bs) i bs l)) ∙ h.sound)
 
@@ -213,7 +213,7 @@ pub play_ends : (rows : Rows) (bs : List ℕ) (i depth : ℕ) (xs : List Complex
     → Evaluation.Value z ≡ played rows bs
 unfolding run result stack_of check_from
 play_ends rows bs i depth xs {z} h l r e =
-    let p : check_from i depth [] ≡ Checked.Sound = ap (check_from i depth) (sym (none_left (count bs) i bs l)) ∙ h.sound in
+    let p : check_from i depth [] ≡ Ok tt = ap (check_from i depth) (sym (none_left (count bs) i bs l)) ∙ h.sound in
     let d : depth ≡ 1 = one_left i depth p in
     let q : stands (stack_of xs depth) ≡ run rows (steps_in bs) [] = ap (λ fs. run rows (map step_of fs) (stack_of xs depth)) (sym (none_left (count bs) i bs l)) ∙ r in
     ap Evaluation.Value e ∙ ap (λ k. result (stands (stack_of xs k))) (sym d) ∙ ap result q

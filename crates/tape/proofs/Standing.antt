@@ -6,6 +6,7 @@ use Prim.Native.Nat.{ℕ, suc, ◌+◌, ◌*◌, ◌<◌, ◌≤◌, ◌-◌}
 use native.Mathlib.Omega.{arith}
 use lib.ListN.{length, get_or, set, take, drop, length-append, length-set}
 use lib.Seq.{take_at}
+use Rattle.std.specs.Prelude.{Ok}
 use Rattle.complex.specs.declared.Complex.{Complex}
 use Rattle.expression.specs.Trees.{Tree, size, depth}
 use Rattle.expression.specs.Limits.{Proper}
@@ -16,7 +17,6 @@ use Rattle.evaluation.specs.declared.Evaluation.{Evaluation}
 use Rattle.steps.specs.declared.Step.{Step}
 use Rattle.steps.specs.declared.Fields.{Fields}
 use Rattle.steps.specs.Steps.{fields_in, step_of}
-use Rattle.tape.specs.declared.Checked.{Checked}
 use Rattle.tape.specs.Tapes.{tape, count, steps_in, takes, check}
 use Rattle.tape.specs.Playing.{stands, and_then, step, run}
 use Rattle.tape.specs.Run.{filler, stack_of, value_of}
@@ -83,7 +83,7 @@ pub record Going (table : List ℕ) (rows : Counts) (bs : List ℕ) (i : ℕ) (x
   pub stood : Held table rows → Stood (rows_of table rows) bs i xs depth
   pub marking : Held table rows → Marking (rows_of table rows) bs i xs depth marks₀ marks
 
-pub played_begins : (table : List ℕ) (rows : Counts) (bs marks : List ℕ) {xs : List Complex} → check bs ≡ Checked.Sound → length xs ≡ 64 → Going table rows bs 0 xs 0 marks marks
+pub played_begins : (table : List ℕ) (rows : Counts) (bs marks : List ℕ) {xs : List Complex} → check bs ≡ Ok tt → length xs ≡ 64 → Going table rows bs 0 xs 0 marks marks
 unfolding stack_of
 played_begins table rows bs marks {xs} e l = record {
   left = left_begins bs e;

@@ -1,16 +1,15 @@
 -- What the functions of `tape` ensure on rows, bytes and the player's array. Only connecting.
-use Rattle.std.specs.Prelude.{◌≡◌, ℕ, zero, suc, ◌+◌, ◌≤◌, ◌<◌, List, [], ◌∷◌, Bool, true, false, cond, length, get_or}
+use Rattle.std.specs.Prelude.{◌≡◌, ℕ, zero, suc, ◌+◌, ◌≤◌, ◌<◌, List, [], ◌∷◌, Bool, true, false, cond, length, get_or, Option, Some, None, Result}
 use Rattle.std.specs.Float.{nan}
 use Rattle.complex.specs.declared.Complex.{Complex}
+use Rattle.expression.specs.declared.refusal.Refusal.{Refusal}
 use Rattle.expression.specs.Trees.{number, pi, variable, cell}
 use Rattle.expression.specs.declared.InfixOperator.{InfixOperator}
 use Rattle.expression.specs.declared.node.Expression.{Expression}
 use Rattle.store.specs.Memory.{Memory, tree_at}
 use Rattle.store.specs.Held.{Holds}
 use Rattle.text.specs.Put.{Put}
-use Rattle.writing.specs.declared.Written.{Written}
 use Rattle.memory.specs.Marks.{noted}
-use Rattle.sheet.specs.declared.Found.{Found}
 use Rattle.sheet.specs.Rows.{Rows, Lookup, found, missing}
 use Rattle.sheet.specs.Table.{seen_found}
 use Rattle.evaluation.specs.declared.Evaluation.{Evaluation}
@@ -19,7 +18,6 @@ use Rattle.evaluation.specs.Using.{used_by_function, used_by_infix}
 use Rattle.steps.specs.declared.Step.{Step}
 use Rattle.steps.specs.declared.Fields.{Fields}
 use Rattle.steps.specs.Steps.{encoded, step_of}
-use Rattle.tape.specs.declared.Checked.{Checked}
 use Rattle.tape.specs.Tapes.{tape, compiled, after, allowed}
 use Rattle.tape.specs.Playing.{played}
 use Rattle.tape.specs.Using.{used_playing}
@@ -45,18 +43,14 @@ abbrev pub Emits : (m : Memory) (node below at r : ℕ) (out out' : List ℕ) �
 Emits m node below at r out out' =
     (n : ℕ) → Holds m n → node < n → node < below → at + length (tape (tree_at m node)) ≤ length out → Put out at (tape (tree_at m node)) r out'
 
-abbrev pub Compiles : (m : Memory) (root nodes : ℕ) (r : Written) (out out' : List ℕ) → Type 0
-Compiles m root nodes r out out' = Holds m nodes → root < nodes → ◌≡◌ {A = Written × List ℕ} (r, out') (compiled (tree_at m root) out)
+abbrev pub Compiles : (m : Memory) (root nodes : ℕ) (r : Result ℕ Refusal) (out out' : List ℕ) → Type 0
+Compiles m root nodes r out out' = Holds m nodes → root < nodes → ◌≡◌ {A = Result ℕ Refusal × List ℕ} (r, out') (compiled (tree_at m root) out)
 
 -- ---- checking
 
--- how many values there are after a step, 0 if it is not allowed
-unfoldable pub values_after : (values : ℕ) → Fields → ℕ
-values_after values f = cond (allowed values f) (after values (step_of f)) 0
-
-unfoldable pub is_sound : Checked → Bool
-is_sound Checked.Sound = true
-is_sound (Checked.Bad step) = false
+-- how many values there are after a step, if it is allowed
+unfoldable pub values_after : (values : ℕ) → Fields → Option ℕ
+values_after values f = cond (allowed values f) (Some (after values (step_of f))) None
 
 -- ---- playing
 
@@ -110,7 +104,7 @@ used_at rows (Step.Prefix o) x y = []
 used_at rows (Step.Infix o) x y = used_by_infix rows o x y
 
 -- a step's value, as far as there is one, and its rows marked
-pub record Values (rows : Rows) (s : Step) (x y : Complex) (r : Found) (marks marks' : List ℕ) : Type 0 where
+pub record Values (rows : Rows) (s : Step) (x y : Complex) (r : Option Complex) (marks marks' : List ℕ) : Type 0 where
   pub value : seen_found r ≡ seen_value (value_of rows s x y)
   pub marked : marks' ≡ noted (used_at rows s x y) marks
 

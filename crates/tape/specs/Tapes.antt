@@ -1,14 +1,12 @@
 -- The tape of an expression, when a tape is sound, and which of two is picked, by 01's "The tape". Definitions only.
-use Rattle.std.specs.Prelude.{◌≡◌, ℕ, zero, suc, ◌/◌, ◌%◌, ◌-◌, List, [], ◌∷◌, ◌++◌, map, Bool, cond, ◌&&◌, length, drop, ltb, eqb}
+use Rattle.std.specs.Prelude.{◌≡◌, ℕ, zero, suc, ◌/◌, ◌%◌, ◌-◌, List, [], ◌∷◌, ◌++◌, map, Bool, cond, ◌&&◌, length, drop, ltb, eqb, Result, Err, Ok}
 use Rattle.std.specs.Borrow.{Bor}
 use Rattle.expression.specs.declared.refusal.Refusal.{Refusal}
 use Rattle.expression.specs.Trees.{Tree, Leaf, number, pi, variable, cell, leaf, function_call, prefixed, infixed, size}
-use Rattle.writing.specs.declared.Written.{Written}
 use Rattle.writing.specs.Order.{fitted}
 use Rattle.steps.specs.declared.Step.{Step}
 use Rattle.steps.specs.declared.Fields.{Fields}
 use Rattle.steps.specs.Steps.{step_bytes, within, tape_of, fields_in, known, step_of}
-use Rattle.tape.specs.declared.Checked.{Checked}
 use Rattle.tape.specs.declared.Picked.{Picked}
 
 -- ---- "One step a node visit in evaluation order": depth first, left before right, an operation after its operands
@@ -33,9 +31,9 @@ abbrev pub tape : Tree → List ℕ
 tape t = tape_of (steps t)
 
 -- "14 LONG_TAPE: size over 512", then 13
-unfoldable pub compiled : Tree → (out : List ℕ) → Written × List ℕ
+unfoldable pub compiled : Tree → (out : List ℕ) → Result ℕ Refusal × List ℕ
 compiled t out =
-    cond (ltb most_steps (size t)) (Written.Refused Refusal.LongTape, out)
+    cond (ltb most_steps (size t)) (Err Refusal.LongTape, out)
     (fitted (tape t) out)
 
 -- ---- soundness
@@ -79,21 +77,21 @@ abbrev pub allowed : (values : ℕ) → Fields → Bool
 allowed values f = known f && (ltb (takes (step_of f)) (suc values) && ltb (after values (step_of f)) (suc most_values))
 
 -- "and ends with one value": "a wrong final count names the step past the last"
-unfoldable pub check_from : (step values : ℕ) → List Fields → Checked
-check_from step values [] = cond (eqb values 1) Checked.Sound (Checked.Bad step)
-check_from step values (f ∷ fs) = cond (allowed values f) (check_from (suc step) (after values (step_of f)) fs) (Checked.Bad step)
+unfoldable pub check_from : (step values : ℕ) → List Fields → Result (Unit {0}) Refusal
+check_from step values [] = cond (eqb values 1) (Ok tt) (Err (Refusal.BadTape step))
+check_from step values (f ∷ fs) = cond (allowed values f) (check_from (suc step) (after values (step_of f)) fs) (Err (Refusal.BadTape step))
 
 -- "Length faults name step 0"
-unfoldable pub check : List ℕ → Checked
-check bs = cond (whole bs) (check_from 0 0 (fields_of_all (count bs) bs)) (Checked.Bad 0)
+unfoldable pub check : List ℕ → Result (Unit {0}) Refusal
+check bs = cond (whole bs) (check_from 0 0 (fields_of_all (count bs) bs)) (Err (Refusal.BadTape 0))
 
 -- ---- "the one with fewer steps, the first at a tie. An unsound one loses; if neither is sound it is the empty part of the first"
 
-unfoldable pub better : (a b : Checked) (m n : ℕ) → Picked
-better Checked.Sound Checked.Sound m n = cond (ltb n m) Picked.Second Picked.First
-better Checked.Sound (Checked.Bad j) m n = Picked.First
-better (Checked.Bad k) Checked.Sound m n = Picked.Second
-better (Checked.Bad k) (Checked.Bad j) m n = Picked.Nothing
+unfoldable pub better : (a b : Result (Unit {0}) Refusal) (m n : ℕ) → Picked
+better (Ok u) (Ok v) m n = cond (ltb n m) Picked.Second Picked.First
+better (Ok u) (Err why) m n = Picked.First
+better (Err why) (Ok u) m n = Picked.Second
+better (Err why) (Err why') m n = Picked.Nothing
 
 abbrev pub picked : (a b : List ℕ) → Picked
 picked a b = better (check a) (check b) (count a) (count b)

@@ -8,7 +8,6 @@ use expression::refusal::Refusal;
 use steps::Step;
 use steps::bytes::write_step;
 use store::reading::{expression_at, size_at};
-use writing::Written;
 
 // The step of a node.
 fn step_for(e: Expression) -> Step
@@ -63,15 +62,20 @@ fn emit(store: &[[u64; 4]], node: usize, below: usize, out: &mut [u8], at: usize
 }
 
 // The tape of a node's tree at the start of the output: 14, then 13, before the first byte is written.
-pub fn compile(store: &[[u64; 4]], root: usize, nodes: usize, out: &mut [u8]) -> Written
+pub fn compile(
+    store: &[[u64; 4]],
+    root: usize,
+    nodes: usize,
+    out: &mut [u8],
+) -> Result<usize, Refusal>
     ensures { Compiles (memory store.now) root nodes result out.old out.new }
 {
     let size = size_at(store, root);
     if 512 < size {
-        return Written::Refused(Refusal::LongTape);
+        return Err(Refusal::LongTape);
     }
     if (out.len() as u64) < 24 * size {
-        return Written::Refused(Refusal::OutRoom);
+        return Err(Refusal::OutRoom);
     }
-    Written::Bytes(emit(store, root, nodes, out, 0))
+    Ok(emit(store, root, nodes, out, 0))
 }

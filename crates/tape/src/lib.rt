@@ -2,11 +2,12 @@
 
 #![tactic(auto)]
 
-ghost use Rattle.std.specs.Prelude.{◌≡◌, ◌*◌, ◌≤◌, length};
+ghost use Rattle.std.specs.Prelude.{◌≡◌, ◌*◌, ◌≤◌, length, is_ok};
 ghost use Rattle.steps.specs.Steps.{step_of};
 ghost use Rattle.tape.specs.Tapes as Tapes;
-ghost use Rattle.tape.specs.Run.{values_after, is_sound};
+ghost use Rattle.tape.specs.Run.{values_after};
 
+use expression::refusal::Refusal;
 use steps::bytes::fields_at;
 use steps::{Fields, is_known};
 
@@ -17,13 +18,6 @@ pub mod play;
 const MOST_STEPS: usize = 512;
 
 const MOST_VALUES: usize = 64;
-
-// Sound, or the first bad step.
-#[derive(Clone, Copy)]
-pub enum Checked {
-    Sound,
-    Bad(u64),
-}
 
 #[derive(Clone, Copy)]
 pub enum Picked {
@@ -44,71 +38,61 @@ pub fn taken(f: Fields) -> usize
     }
 }
 
-// How many values there are after a step; 0, which no step leaves, if it is not allowed.
-fn values_after(values: usize, f: Fields) -> usize
+// How many values there are after a step, if it is allowed.
+fn values_after(values: usize, f: Fields) -> Option<usize>
     requires { values ≤ 64 }
     ensures { result ≡ values_after values f }
 {
     if !is_known(f) {
-        return 0;
+        return None;
     }
-    let k = taken(f);
-    if values < k {
-        return 0;
-    }
-    let left = values - k;
+    let left = values.checked_sub(taken(f))?;
     if MOST_VALUES <= left {
-        return 0;
+        return None;
     }
-    left + 1
+    Some(left + 1)
 }
 
 // The steps one by one, where there are `count` whole ones.
-fn check_steps(tape: &[u8], count: usize) -> Checked
+fn check_steps(tape: &[u8], count: usize) -> Result<(), Refusal>
     requires { (24 * count ≤ length tape.now) × (count ≤ 512) }
     ensures { result ≡ Tapes.check_from 0 0 (Tapes.fields_of_all count tape.now) }
 {
     let mut values: usize = 0;
-    let mut i: usize = 0;
-    while i < count {
-        let next = values_after(values, fields_at(tape, 24 * i));
-        if next == 0 {
-            return Checked::Bad(i as u64);
-        }
+    for i in 0..count {
+        // No `ok_or`: a refusal would be made at each step, and dropped.
+        let Some(next) = values_after(values, fields_at(tape, 24 * i)) else {
+            return Err(Refusal::BadTape(i as u64));
+        };
         values = next;
-        i += 1;
     }
     if values == 1 {
-        return Checked::Sound;
+        return Ok(());
     }
-    Checked::Bad(i as u64)
+    Err(Refusal::BadTape(count as u64))
 }
 
-// Whether a tape is sound, and if not its first bad step. "Length faults name step 0."
-pub fn check(tape: &[u8]) -> Checked
+// A tape is sound, or it is refused by its first bad step. "Length faults name step 0."
+pub fn check(tape: &[u8]) -> Result<(), Refusal>
     ensures { result ≡ Tapes.check tape.now }
 {
     let count = tape.len() / 24;
     if tape.len() % 24 != 0 {
-        return Checked::Bad(0);
+        return Err(Refusal::BadTape(0));
     }
     if count == 0 {
-        return Checked::Bad(0);
+        return Err(Refusal::BadTape(0));
     }
     if MOST_STEPS < count {
-        return Checked::Bad(0);
+        return Err(Refusal::BadTape(0));
     }
     check_steps(tape, count)
 }
 
 fn is_sound(tape: &[u8]) -> bool
-    ensures { result ≡ is_sound (Tapes.check tape.now) }
+    ensures { result ≡ is_ok (Tapes.check tape.now) }
 {
-    let checked = check(tape);
-    match checked {
-        Checked::Sound => true,
-        Checked::Bad(_) => false,
-    }
+    check(tape).is_ok()
 }
 
 // Which of two tapes has fewer steps, the first at a tie; an unsound one loses.

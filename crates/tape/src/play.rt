@@ -1,25 +1,24 @@
 // Playing a sound tape: a stack of 64 complex numbers, and a step after another up to the first lack. The rows of the sheet that were used are
 // marked.
-ghost use Rattle.std.specs.Prelude.{◌≡◌, true, false, suc, ◌<◌};
+ghost use Rattle.std.specs.Prelude.{◌≡◌, true, false, suc, ◌<◌, Ok};
 ghost use Rattle.complex.specs.declared.Complex.{Complex as Number};
 ghost use Rattle.sheet.specs.Rows.{Rows, missing};
 ghost use Rattle.sheet.specs.Table.{rows_of, seen_found, Held};
 ghost use Rattle.evaluation.specs.declared.Evaluation.{Evaluation as Answer};
 ghost use Rattle.steps.specs.Steps.{step_of};
-ghost use Rattle.tape.specs.declared.Checked.{Checked};
 ghost use Rattle.tape.specs.Tapes.{check};
 ghost use Rattle.evaluation.specs.Run.{Answers};
 ghost use Rattle.tape.specs.Run.{value_of, used_at, seen_value, asks, Values, Plays};
 
 use super::taken;
+use complex::Complex;
 use complex::bits::from_bits;
 use complex::constants::{pi, zero};
-use complex::{Complex, add, div, mul, sub};
 use evaluation::calculate::{calculate_function, calculate_infix, calculate_prefix};
 use evaluation::{Asked, Evaluation, note};
 use expression::{ExpressionFunction, InfixOperator, PrefixOperator};
 use memory::layout::MARKS;
-use sheet::{Counts, Found, cell, variable};
+use sheet::{Counts, cell, variable};
 use steps::Fields;
 use steps::bytes::fields_at;
 
@@ -31,17 +30,17 @@ pub struct Player {
 }
 
 // A leaf's value, as far as the sheet has it.
-fn leaf(table: &[u64], counts: Counts, f: Fields) -> Found
+fn leaf(table: &[u64], counts: Counts, f: Fields) -> Option<Complex>
     requires { (0 < f.opcode) × (f.opcode < 5) }
     ensures { Held table.now counts → (x y : Number) → seen_found result ≡ seen_value (value_of (rows_of table.now counts) (step_of f) x y) }
 {
     let opcode = f.opcode;
     match opcode {
-        1 => Found::Value(Complex {
+        1 => Some(Complex {
             re: from_bits(f.re),
             im: from_bits(f.im),
         }),
-        2 => Found::Value(pi()),
+        2 => Some(pi()),
         3 => variable(table, counts, f.half),
         _ => cell(table, counts, f.half, f.word),
     }
@@ -91,15 +90,15 @@ fn arithmetic(f: Fields, x: Complex, y: Complex) -> Complex
         return calculate_prefix(PrefixOperator::from_code(code as u64), x);
     }
     if code == 1 {
-        return add(x, y);
+        return x + y;
     }
     if code == 2 {
-        return sub(x, y);
+        return x - y;
     }
     if code == 3 {
-        return mul(x, y);
+        return x * y;
     }
-    div(x, y)
+    x / y
 }
 
 // What a step puts on the stack, in place of the values x and, above it, y, as far as it takes them. An answer with more
@@ -111,7 +110,7 @@ fn value_of(
     x: Complex,
     y: Complex,
     marks: &mut [u8; MARKS],
-) -> Found
+) -> Option<Complex>
     requires { 0 < f.opcode }
     ensures { Held table.now counts → Values (rows_of table.now counts) (step_of f) x y result marks.old marks.new }
 {
@@ -124,11 +123,11 @@ fn value_of(
         note(marks, asked.used);
         let value = asked.value;
         let Evaluation::Value(z) = value else {
-            return Found::Nothing;
+            return None;
         };
-        return Found::Value(z);
+        return Some(z);
     }
-    Found::Value(arithmetic(f, x, y))
+    Some(arithmetic(f, x, y))
 }
 
 // The lack of a step that has no value.
@@ -155,7 +154,7 @@ fn above(slot: usize) -> usize
 // Plays a sound tape under the rows of a sheet, and marks those that were used. The player stays where it is: passed by value to a
 // function for each step, its thousand bytes would be copied each time.
 pub fn play(tape: &[u8], table: &[u64], counts: Counts, marks: &mut [u8; MARKS]) -> Evaluation
-    requires { check tape.now ≡ Checked.Sound }
+    requires { check tape.now ≡ Ok tt }
     ensures { Held table.now counts → Plays (rows_of table.now counts) tape.now result marks.old marks.new }
 {
     let count = tape.len() / 24;
@@ -163,20 +162,17 @@ pub fn play(tape: &[u8], table: &[u64], counts: Counts, marks: &mut [u8; MARKS])
         stack: [zero(); 64],
         depth: 0,
     };
-    let mut i: usize = 0;
-    while i < count {
+    for i in 0..count {
         let f = fields_at(tape, 24 * i);
         let slot = player.depth - taken(f);
         let next = above(slot);
         let x = player.stack[slot];
         let y = player.stack[next];
-        let found = value_of(table, counts, f, x, y, marks);
-        let Found::Value(z) = found else {
+        let Some(z) = value_of(table, counts, f, x, y, marks) else {
             return lack(table, counts, f, x, y);
         };
         player.stack[slot] = z;
         player.depth = slot + 1;
-        i += 1;
     }
     Evaluation::Value(player.stack[0])
 }

@@ -32,11 +32,7 @@ pub enum Task {
 pub fn one_more(calls: u64) -> u64
     ensures { result ≡ one_more calls }
 {
-    if calls < 18446744073709551615 {
-        calls + 1
-    } else {
-        calls
-    }
+    calls.saturating_add(1)
 }
 
 // The same on the desk.

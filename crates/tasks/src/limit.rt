@@ -11,12 +11,7 @@ impl Limit {
     pub fn lowered(self) -> Limit
         ensures { result.0 ≡ self.0 - 1 }
     {
-        let limit = self.0;
-        if limit == 0 {
-            Limit(0)
-        } else {
-            Limit(limit - 1)
-        }
+        Limit(self.0.saturating_sub(1))
     }
 
     pub fn is_spent(self) -> bool

@@ -1,18 +1,18 @@
 -- What a reader's answer tells of the text: for those who read one field after another. Assumes nothing.
 use Rattle.std.proofs.Common.{◌≡◌, ℕ, suc, ◌+◌, ◌<◌, ◌≤◌, true, false, List, [], ◌∷◌, length, drop, sym, refl, ap, ◌∙◌, arith, length-append, length-drop, drop-drop}
-use Rattle.text.specs.declared.reading.Number.{Number}
+use Rattle.std.specs.Prelude.{Some, None}
 use Rattle.text.specs.Reading.{Read, is, bad, ended, decimal_field, starts, name_from}
-use Rattle.text.specs.Seen.{seen, Reads}
+use Rattle.text.specs.Seen.{Number, seen, Reads}
 use Rattle.text.proofs.Only.{decimal_only, ended_only, starts_only}
 
 -- what was wanted was read, and a place inside the text; or it was not
-pub told : (s : List ℕ) {want : Read ℕ} {n : Number} {v next : ℕ} → Reads want s n → n ≡ Number.Is v next → want ≡ is v (drop next s)
+pub told : (s : List ℕ) {want : Read ℕ} {n : Number} {v next : ℕ} → Reads want s n → n ≡ Some (v, next) → want ≡ is v (drop next s)
 told s r q = sym r.answer ∙ ap (seen s) q
 
-pub told_place : (s : List ℕ) {want : Read ℕ} {n : Number} {v next : ℕ} → Reads want s n → n ≡ Number.Is v next → next ≤ length s
+pub told_place : (s : List ℕ) {want : Read ℕ} {n : Number} {v next : ℕ} → Reads want s n → n ≡ Some (v, next) → next ≤ length s
 told_place s r q = rw q at r.inside
 
-pub told_bad : (s : List ℕ) {want : Read ℕ} {n : Number} → Reads want s n → n ≡ Number.Bad → want ≡ bad
+pub told_bad : (s : List ℕ) {want : Read ℕ} {n : Number} → Reads want s n → n ≡ None → want ≡ bad
 told_bad s r q = sym r.answer ∙ ap (seen s) q
 
 -- and the end of its field
@@ -20,7 +20,7 @@ pub ends : {s : List ℕ} {want : Read ℕ} {n m : Number} (stop : ℕ) → Read
 ends stop e r = record { answer = e.answer ∙ ap (ended stop) r.answer; inside = e.inside }
 
 -- a decimal field is below its limit
-pub told_below : (s : List ℕ) (stop limit : ℕ) (bs : List ℕ) {n : Number} {v next : ℕ} → Reads (decimal_field stop limit bs) s n → n ≡ Number.Is v next → v < limit
+pub told_below : (s : List ℕ) (stop limit : ℕ) (bs : List ℕ) {n : Number} {v next : ℕ} → Reads (decimal_field stop limit bs) s n → n ≡ Some (v, next) → v < limit
 told_below s stop limit bs r q = (decimal_only limit _ bs _ (ended_only stop _ _ _ (told s r q))).0
 
 -- a word that stands at a place stands within the text

@@ -1,9 +1,9 @@
 -- Two answers that the contract of a reader or a writer allows are one. Assumes nothing.
 use Rattle.std.proofs.Common.{◌≡◌, ℕ, ◌≤◌, List, length, drop, sym, refl, ap, ◌∙◌, arith, length-drop}
-use Rattle.text.specs.declared.reading.Number.{Number}
+use Rattle.std.specs.Prelude.{Some, None}
 use Rattle.text.specs.Reading.{Read}
 use Rattle.text.specs.Put.{Put}
-use Rattle.text.specs.Seen.{seen, Inside, Reads}
+use Rattle.text.specs.Seen.{Number, seen, Inside, Reads}
 use Rattle.text.proofs.Only.{never}
 
 -- `Put` is the contract of every writer
@@ -20,7 +20,7 @@ pub one_number_lem : {want : Read ℕ} {text : List ℕ} {r r' : Number} → Rea
 one_number_lem {want} {text} {r} {r'} a b = go r r' (a.answer ∙ sym b.answer) a.inside b.inside
   where
     go : (r r' : Number) → seen text r ≡ seen text r' → Inside text r → Inside text r' → r ≡ r'
-    go (Number.Is v i) (Number.Is w j) e p q = let x : v ≡ w = cc in let y : i ≡ j = one_place text i j p q cc in λ k. Number.Is (x k) (y k)
-    go (Number.Is v i) Number.Bad e p q = never (sym e)
-    go Number.Bad (Number.Is w j) e p q = never e
-    go Number.Bad Number.Bad e p q = refl
+    go (Some (v, i)) (Some (w, j)) e p q = let x : v ≡ w = cc in let y : i ≡ j = one_place text i j p q cc in λ k. Some (x k, y k)
+    go (Some (v, i)) None e p q = never (sym e)
+    go None (Some (w, j)) e p q = never e
+    go None None e p q = refl

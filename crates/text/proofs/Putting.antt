@@ -1,8 +1,9 @@
 -- The equations of `digits` without fuel, an induction along them, and the laws of `Put`: how writers follow one another. Assumes nothing.
-use Rattle.std.proofs.Common.{◌≡◌, ℕ, zero, suc, ◌+◌, ◌-◌, ◌/◌, ◌%◌, ◌^◌, ◌<◌, ◌≤◌, true, ltb, List, [], ◌∷◌, ◌++◌, length, get_or, take, set, sym, refl, ap, ◌∙◌, append_assoc, append-nil, add-zero, pow-suc, add-one, arith, length-append, take_all, take-suc, le-ltb, lt-ltb}
+use Rattle.std.proofs.Common.{◌≡◌, ℕ, zero, suc, ◌+◌, ◌-◌, ◌/◌, ◌%◌, ◌^◌, ◌<◌, ◌≤◌, true, ltb, List, [], ◌∷◌, ◌++◌, length, take, drop, set, sym, refl, ap, ◌∙◌, append_assoc, append-nil, add-zero, pow-suc, arith, length-append, le-ltb, lt-ltb}
 use mathlib.Core.List.{map-append}
 use native.Mathlib.Decide.{dec_lt}
-use lib.Seq.{sets, length-sets}
+use lib.Seq.{sets, paste, length-sets}
+use Rattle.std.proofs.lemmas.List.Edits.{sets-eq, paste_all}
 use Rattle.text.specs.Writing.{byte_of, in_decimal, last_hex, in_hex}
 use Rattle.text.specs.Digits.{digits_by, digits}
 use Rattle.text.specs.Put.{Put}
@@ -97,19 +98,13 @@ put_byte e at b = record { place = refl; stored = refl }
 pub put_length : {e x xs : List ℕ} {at r : ℕ} → Put e at xs r x → length x ≡ length e
 put_length {e} {x} {xs} {at} {r} p = rw p.stored (length-sets e at xs)
 
--- ---- a list, byte by byte
+-- ---- a list
 
 pub put_none : (e : List ℕ) (at : ℕ) → Put e at [] (at + 0) e
 put_none e at = record { place = refl; stored = refl }
 
-pub put_next : {e m : List ℕ} {at : ℕ} (w : List ℕ) (k : ℕ) → k < length w → Put e at (take k w) (at + k) m
-    → Put e at (take (k + 1) w) (at + (k + 1)) (set m (at + k) (get_or w k 0))
-put_next {e} {m} {at} w k h p =
-    let z : at + suc k ≡ at + k + 1 = omega arith in
-    rw (add-one, take-suc w k 0 h, z) (put_then p (put_byte m (at + k) (get_or w k 0)))
-
-pub put_all : {e m : List ℕ} {at : ℕ} (w : List ℕ) (k : ℕ) → length w ≤ k → Put e at (take k w) (at + k) m → Put e at w (at + k) m
-put_all w k h p = rw (take_all k w h) at p
+pub put_pasted : {e out : List ℕ} {at : ℕ} (w : List ℕ) → at + length w ≤ length e → out ≡ paste e at w (length w) → Put e at w (at + length w) out
+put_pasted {e} {out} {at} w h p = record { place = refl; stored = p ∙ paste_all e at w (length w) refl ∙ sym (append_assoc (take at e) w (drop (at + length w) e)) ∙ sym (sets-eq w e at h) }
 
 -- ---- a decimal number
 

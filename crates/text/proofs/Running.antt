@@ -1,11 +1,12 @@
 -- The loops of `read_decimal`, `read_hex` and `word_at`: what each turn needs, over plain lists and numbers. Assumes nothing.
-use Rattle.std.proofs.Common.{◌≡◌, ℕ, zero, suc, ◌+◌, ◌-◌, ◌*◌, ◌%◌, ◌^◌, ◌<◌, ◌≤◌, max, Bool, true, false, cond, ◌&&◌, eqb, ltb, List, [], ◌∷◌, length, get_or, drop, sym, refl, ap, ◌∙◌, pow-suc, add-one, arith, length-drop, drop_of_length-le, drop-cons, drop-drop, le-ltb, lt-ltb, eq-eqb, ne_eqb, le-leb}
+use Rattle.std.proofs.Common.{◌≡◌, ℕ, zero, suc, ◌+◌, ◌-◌, ◌*◌, ◌%◌, ◌^◌, ◌<◌, ◌≤◌, max, min, Bool, true, false, cond, ◌&&◌, eqb, ltb, List, [], ◌∷◌, length, get_or, take, drop, take_all, sym, refl, ap, ◌∙◌, pow-suc, add-one, arith, length-drop, drop_of_length-le, drop-cons, drop-drop, le-ltb, lt-ltb, eq-eqb, ne_eqb, le-leb}
 use native.Mathlib.Nat.{pow-le-pow_right}
-use native.Mathlib.Decide.{dec_lt}
+use native.Mathlib.Decide.{dec_lt, ℕ_discrete}
 use lib.ListN.{get_or-eq_default}
 use borrow.Author.Tests.{lt-leb}
-use Rattle.text.specs.declared.reading.Number.{Number}
-use Rattle.text.specs.Seen.{low_digit, high_digit}
+use Rattle.std.specs.Prelude.{Some}
+use Rattle.std.specs.List.{starts_with, slice_range}
+use Rattle.text.specs.Seen.{Number, low_digit, high_digit}
 use Rattle.text.specs.Reading.{is, bad, ended, digit_of, run, value, spelt, decimal, hex_from, hex, starts}
 
 -- ---- a byte of the text
@@ -17,7 +18,7 @@ inside s i h = elim (dec_lt i (length s)) [
   | no nlt ↦ let e : get_or s i 0 ≡ 0 = get_or-eq_default s 0 (omega arith) in absurd (omega (arith, rw e at h))
 ]
 
-pub told_inside : (s : List ℕ) {n : Number} {v next b : ℕ} → n ≡ Number.Is v next → b ≡ get_or s next 0 → 0 < b → next < length s
+pub told_inside : (s : List ℕ) {n : Number} {v next b : ℕ} → n ≡ Some (v, next) → b ≡ get_or s next 0 → 0 < b → next < length s
 told_inside s {next = next} q e h = inside s next (omega (arith, e, h))
 
 -- so does a digit
@@ -304,23 +305,21 @@ module _ {s : List ℕ} {at v worst k : ℕ} (g : Hexing s at v worst k) where
 
 -- ---- a word
 
-pub record Matching (s w : List ℕ) (at i k : ℕ) : Type 0 where
-  pub few : k ≤ length w
-  pub rest : starts (drop k w) (drop i s) ≡ starts w (drop at s)
+eqb_sym : (a b : ℕ) → eqb a b ≡ eqb b a
+eqb_sym a b = elim (ℕ_discrete a b) [ yes e ↦ rw e | no n ↦ rw (ne_eqb a b n, ne_eqb b a (λ e. n (sym e))) ]
 
-module _ {s w : List ℕ} {at i k : ℕ} (g : Matching s w at i k) where
-  pub word_short : k < length w → length s ≤ i → false ≡ starts w (drop at s)
-  unfolding starts
-  word_short h e = rw (drop-cons w k 0 h, drop_of_length-le s {i = i} e) at g.rest
+starts_as : (w bs : List ℕ) → starts_with eqb bs w ≡ starts w bs
+unfolding starts
+starts_as [] bs = refl
+starts_as (w ∷ ws) [] = refl
+starts_as (w ∷ ws) (b ∷ bs) = rw (eqb_sym w b, starts_as ws bs)
 
-  pub word_other : k < length w → i < length s → (get_or s i 0 ≡ get_or w k 0 → ⊥) → false ≡ starts w (drop at s)
-  unfolding starts
-  word_other h e n = rw (drop-cons w k 0 h, drop-cons s i 0 e, ne_eqb _ _ n) at g.rest
-
-  pub word_more : k < length w → i < length s → get_or s i 0 ≡ get_or w k 0 → Matching s w at (i + 1) (k + 1)
-  unfolding starts
-  word_more h e n = record { few = omega arith; rest = rw (add-one, add-one) (rw (drop-cons w k 0 h, drop-cons s i 0 e, eq-eqb _ _ n) at g.rest) }
-
-  pub word_all : length w ≤ k → true ≡ starts w (drop at s)
-  unfolding starts
-  word_all h = rw (drop_of_length-le w {i = k} h) at g.rest
+-- from the place, or from the end where the place is past it
+pub word_starts : (s w : List ℕ) (at : ℕ) {from : ℕ} {r : Bool} → from ≡ min at (length s) → r ≡ starts_with eqb (slice_range s from (length s)) w → r ≡ starts w (drop at s)
+word_starts s w at {from} {r} p q =
+    let t : take (length s - from) (drop from s) ≡ drop from s = take_all (length s - from) (drop from s) (omega (arith, length-drop from s)) in
+    let m : drop from s ≡ drop at s = elim (dec_lt at (length s)) [
+      | yes l ↦ ap (λ k. drop k s) (omega (arith, p))
+      | no n ↦ rw (drop_of_length-le s {i = at} (omega arith)) (drop_of_length-le s {i = from} (omega (arith, p)))
+    ] in
+    q ∙ rw (t, m) (starts_as w (drop at s))

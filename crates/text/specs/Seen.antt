@@ -1,17 +1,20 @@
 -- What the code's answer says, as what is read of a list of bytes. Only connecting.
-use Rattle.std.specs.Prelude.{◌≡◌, ℕ, ◌+◌, ◌-◌, ◌≤◌, cond, List, length, drop, nat_lt}
-use Rattle.text.specs.declared.reading.Number.{Number}
+use Rattle.std.specs.Prelude.{◌≡◌, ℕ, Option, Some, None, ◌+◌, ◌-◌, ◌≤◌, cond, List, length, drop, nat_lt}
 use Rattle.text.specs.Reading.{Read, is, bad}
+
+-- what is read at a place: a number and the place after it, or none such
+abbrev pub Number : Type 0
+Number = Option (ℕ × ℕ)
 
 -- a place in the text as the bytes from there on
 abbrev pub seen : List ℕ → Number → Read ℕ
-seen text (Number.Is v next) = is v (drop next text)
-seen text Number.Bad = bad
+seen text (Some (v, next)) = is v (drop next text)
+seen text None = bad
 
 -- the place is one of the text or its end
 abbrev pub Inside : List ℕ → Number → Type 0
-Inside text (Number.Is v next) = next ≤ length text
-Inside text Number.Bad = Unit {0}
+Inside text (Some (v, next)) = next ≤ length text
+Inside text None = Unit {0}
 
 -- what a reader ensures: it finds what the definition says, and a place inside the text, so that its answer is determined (proofs/OneAnswer.antt,
 -- `one_number`)

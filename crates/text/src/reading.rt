@@ -1,16 +1,12 @@
 // Numbers, names and fields at a place of a text. Past the end there is no digit, no letter and no end of a field.
-ghost use Rattle.std.specs.Prelude.{◌≡◌, ◌^◌, ◌<◌, ◌≤◌, max, drop, slice_index};
+ghost use Rattle.std.specs.Prelude.{◌≡◌, ◌^◌, ◌<◌, ◌≤◌, drop, slice_index};
 ghost use Rattle.text.specs.Reading.{digit_of, decimal, hex, starts, ended, decimal_field, hex_field};
 ghost use Rattle.text.specs.Seen.{seen, Reads, low_digit, high_digit};
 
 use std::num::wrapping_sub_u8;
 
 // What is read at a place: a number and the place after it, or none such.
-#[derive(Clone, Copy)]
-pub enum Number {
-    Is(u64, usize),
-    Bad,
-}
+pub type Number = Option<(u64, usize)>;
 
 // The byte at a place, and 0 past the end.
 pub fn byte_at(s: &[u8], i: usize) -> u8
@@ -58,12 +54,6 @@ fn decimal_digit(b: u8) -> u64
     low_digit(b) as u64
 }
 
-fn greater(a: u8, b: u8) -> u8
-    ensures { result ≡ max a b }
-{
-    if a < b { b } else { a }
-}
-
 // A decimal number below the limit.
 pub fn read_decimal(s: &[u8], at: usize, limit: u64) -> Number
     requires { limit ≤ 2 ^ 33 }
@@ -73,48 +63,42 @@ pub fn read_decimal(s: &[u8], at: usize, limit: u64) -> Number
     let mut d = first;
     let mut v: u64 = 0;
     let mut i = at;
+    // No plainer over the bytes: where the digits end is answered too, and would be counted beside them.
     while d < 10 {
         v = v * 10 + d;
         if v >= limit {
-            return Number::Bad;
+            return None;
         }
         i += 1;
         d = decimal_digit(byte_at(s, i));
     }
     if i == at {
-        return Number::Bad;
+        return None;
     }
     if first == 0 {
         if 1 < i - at {
-            return Number::Bad;
+            return None;
         }
     }
-    Number::Is(v, i)
+    Some((v, i))
 }
 
 // 16 hex digits: all are read before it is asked whether one of them is none.
 pub fn read_hex(s: &[u8], at: usize) -> Number
     ensures { Reads (hex (drop at s.now)) s.now result }
 {
-    if s.len() < 16 {
-        return Number::Bad;
-    }
-    if s.len() - 16 < at {
-        return Number::Bad;
-    }
+    let digits = s.get(at..)?.get(..16)?;
     let mut v: u64 = 0;
     let mut worst: u8 = 0;
-    let mut k: usize = 0;
-    while k < 16 {
-        let d = hex_digit(s[at + k]);
+    for &b in digits {
+        let d = hex_digit(b);
         v = v * 16 + (d % 16) as u64;
-        worst = greater(worst, d);
-        k += 1;
+        worst = worst.max(d);
     }
     if 15 < worst {
-        return Number::Bad;
+        return None;
     }
-    Number::Is(v, at + 16)
+    Some((v, at + 16))
 }
 
 // The byte that ends a field, after what stood in it.
@@ -122,13 +106,11 @@ pub fn end_field(s: &[u8], n: Number, stop: u8) -> Number
     requires { 0 < stop }
     ensures { Reads (ended stop (seen s.now n)) s.now result }
 {
-    let Number::Is(v, next) = n else {
-        return Number::Bad;
-    };
+    let (v, next) = n?;
     if byte_at(s, next) != stop {
-        return Number::Bad;
+        return None;
     }
-    Number::Is(v, next + 1)
+    Some((v, next + 1))
 }
 
 pub fn decimal_field(s: &[u8], at: usize, stop: u8, limit: u64) -> Number
@@ -149,17 +131,5 @@ pub fn hex_field(s: &[u8], at: usize, stop: u8) -> Number
 pub fn word_at(s: &[u8], at: usize, word: &[u8]) -> bool
     ensures { result ≡ starts word.now (drop at s.now) }
 {
-    let mut i = at;
-    let mut k: usize = 0;
-    while k < word.len() {
-        if s.len() <= i {
-            return false;
-        }
-        if s[i] != word[k] {
-            return false;
-        }
-        i += 1;
-        k += 1;
-    }
-    true
+    s[at.min(s.len())..].starts_with(word)
 }

@@ -1,5 +1,5 @@
 // Numbers, names and the ends of fields, written at a place of an output that has room for them. Each writer hands
-// back the place after what it wrote.
+// back the place after what it wrote. Nothing here or above is written by Display: `Put` says which bytes stand there, and std promises none.
 ghost use Rattle.std.specs.Prelude.{◌≡◌, ◌+◌, ◌<◌, ◌≤◌, [], ◌∷◌, ◌++◌, length};
 ghost use Rattle.text.specs.Writing.{byte_of, in_decimal, in_hex};
 ghost use Rattle.text.specs.Put.{Put};
@@ -57,12 +57,9 @@ pub fn write_bytes(out: &mut [u8], at: usize, bytes: &[u8]) -> usize
     requires { at + length bytes.now ≤ length out.old }
     ensures { Put out.old at bytes.now result out.new }
 {
-    let mut k: usize = 0;
-    while k < bytes.len() {
-        out[at + k] = bytes[k];
-        k += 1;
-    }
-    at + k
+    let next = at + bytes.len();
+    out[at..next].copy_from_slice(bytes);
+    next
 }
 
 // The usual numbers of lines, without a call for each digit.
@@ -121,10 +118,8 @@ pub fn write_hex(out: &mut [u8], at: usize, n: u64) -> usize
     requires { at + 16 ≤ length out.old }
     ensures { Put out.old at (in_hex n) result out.new }
 {
-    let mut k: usize = 16;
     let mut rest = n;
-    while 0 < k {
-        k -= 1;
+    for k in (0..16).rev() {
         out[at + k] = digit_byte(rest % 16);
         rest /= 16;
     }

@@ -1,4 +1,5 @@
 -- The lines that `timed_read_lines` reads: each turn of its loop, and that two answers are one. Assumes nothing.
+use Rattle.std.specs.Prelude.{Some, None}
 use mathlib.Core.Path.{◌≡◌, refl, sym, ap, ◌∙◌, subst}
 use Prim.Native.Nat.{ℕ, zero, suc, ◌+◌, ◌-◌, ◌≤◌, ◌<◌}
 use mathlib.Core.List.{List}
@@ -8,7 +9,7 @@ use Rattle.expression.specs.declared.node.Expression.{Expression}
 use Rattle.expression.specs.declared.refusal.Refusal.{Refusal}
 use Rattle.store.specs.declared.node.Fields.{Fields}
 use Rattle.store.specs.Nodes.{fields_of}
-use Rattle.node_lines.specs.declared.Line.{Line}
+use Rattle.node_lines.specs.Seen.{Line}
 use Rattle.node_lines.proofs.OneAnswer.{one_line}
 use Rattle.timed.specs.Packed.{refused_of}
 use Rattle.timed.specs.Reading.{with_fields, LineAt, Answered, ends, long, bad, goes, AnsweredBy}
@@ -27,10 +28,10 @@ module _ (text : List ℕ) (at lines : ℕ) (few : lines ≤ 1024) (table : List
   too_long_lem r l o e = one_step r table (long l o e refl)
 
   module _ (found : Line) (f : LineAt text at lines found) (l : at < length text) (o : lines < 1024) where
-    pub malformed : (r : ℕ) → found ≡ Line.Bad → r ≡ refused_of (Refusal.BadList lines) → AnsweredBy (1025 - lines) text at lines table r table
+    pub malformed : (r : ℕ) → found ≡ None → r ≡ refused_of (Refusal.BadList lines) → AnsweredBy (1025 - lines) text at lines table r table
     malformed r b e = one_step r table (bad l o (subst (LineAt text at lines) b f) e refl)
 
-    pub goes_on : (e : Expression) (next : ℕ) → found ≡ Line.Node e next → (new : List ℕ) (g : Fields) → new ≡ with_fields table lines g → g ≡ fields_of e → (r : ℕ) (table' : List ℕ)
+    pub goes_on : (e : Expression) (next : ℕ) → found ≡ Some (e, next) → (new : List ℕ) (g : Fields) → new ≡ with_fields table lines g → g ≡ fields_of e → (r : ℕ) (table' : List ℕ)
         → AnsweredBy (1025 - (lines + 1)) text next (lines + 1) new r table' → AnsweredBy (1025 - lines) text at lines table r table'
     goes_on e next b new g p q r table' a =
         let z : 1025 - (lines + 1) ≡ 1024 - lines = omega arith in
@@ -60,14 +61,15 @@ module _ {Rest : (at lines : ℕ) (table : List ℕ) (r : ℕ) (table' : List �
   one_turn (bad l o f p q) (ends l' p' q') = absurd (omega (arith, l, l'))
   one_turn (bad l o f p q) (long l' o' p' q') = absurd (omega (arith, o, o'))
   one_turn (bad l o f p q) (bad l' o' f' p' q') = two p q p' q'
-  one_turn (bad l o f p q) (goes e' next' l' o' f' a') = let s = one_line Line.Bad (Line.Node e' next') f f' in let z : ◌≡◌ {A = ℕ} 0 1 = cc in absurd (omega arith)
+  one_turn (bad l o f p q) (goes e' next' l' o' f' a') = let s = one_line None (Some (e', next')) f f' in let z : ◌≡◌ {A = ℕ} 0 1 = cc in absurd (omega arith)
   one_turn (goes e next l o f a) (ends l' p' q') = absurd (omega (arith, l, l'))
   one_turn (goes e next l o f a) (long l' o' p' q') = absurd (omega (arith, o, o'))
-  one_turn (goes e next l o f a) (bad l' o' f' p' q') = let s = one_line (Line.Node e next) Line.Bad f f' in let z : ◌≡◌ {A = ℕ} 0 1 = cc in absurd (omega arith)
+  one_turn (goes e next l o f a) (bad l' o' f' p' q') = let s = one_line (Some (e, next)) None f f' in let z : ◌≡◌ {A = ℕ} 0 1 = cc in absurd (omega arith)
   one_turn (goes e next l o f a) (goes e' next' l' o' f' a') =
-      let s = one_line (Line.Node e next) (Line.Node e' next') f f' in
-      let n : next ≡ next' = cc in
-      let x : e ≡ e' = cc in
+      let s = one_line (Some (e, next)) (Some (e', next')) f f' in
+      let q : ◌≡◌ {A = Expression × ℕ} (e, next) (e', next') = cc in
+      let n : next ≡ next' = ap (λ p. p.1) q in
+      let x : e ≡ e' = ap (λ p. p.0) q in
       rest next (lines + 1) (with_fields table lines (fields_of e)) r r' t t' a
       (subst (λ y. Rest next (lines + 1) (with_fields table lines (fields_of y)) r' t') (sym x) (subst (λ k. Rest k (lines + 1) (with_fields table lines (fields_of e')) r' t') (sym n) a'))
 

@@ -2,29 +2,30 @@
 -- are packed alike, they are one number. The premises are those that the contracts of these functions have. Assumes nothing.
 use mathlib.Core.Path.{◌≡◌, refl, sym, ap, ◌∙◌, subst}
 use mathlib.Core.Bool.{false}
-use Prim.Native.Nat.{ℕ, ◌+◌, ◌<◌}
+use Prim.Native.Nat.{ℕ, ◌<◌}
 use mathlib.Core.List.{List}
-use native.Mathlib.Omega.{arith}
-use native.Mathlib.Decide.{dec_lt}
+use Rattle.std.specs.Prelude.{Result, Ok, Err}
 use lib.ListN.{length}
+use Rattle.std.specs.Prelude.{Result, Ok, Err}
+use Rattle.expression.specs.declared.refusal.Refusal.{Refusal}
 use Rattle.expression.specs.Trees.{Tree}
 use Rattle.expression.specs.declared.node.Expression.{Expression}
 use Rattle.expression.specs.Nodes.{Within}
 use Rattle.store.specs.Storing.{State, state, intern}
 use Rattle.store.specs.Memory.{Memory, tree_of}
-use Rattle.store.specs.Desk.{count, calls_on, refused_from}
+use Rattle.store.specs.declared.desk.Refused.{Refused}
+use Rattle.store.specs.Desk.{count, calls_on}
 use Rattle.store.specs.Held.{Lent, state_in, Holds, Sound}
 use Rattle.store.proofs.Trees.{length_trees}
 use Rattle.store.proofs.Stored.{OneAnswer}
 use Rattle.store.proofs.OneAnswer as Store
-use Rattle.listing.specs.declared.Listing.{Listing}
+use Rattle.listing.specs.declared.Listed.{Listed}
 use Rattle.listing.specs.Tables.{Reads}
 use Rattle.listing.proofs.OneAnswer as Listings
 use Rattle.sheet.proofs.OneAnswer as Sheets
 use Rattle.writing.proofs.OneAnswer as Writings
-use Rattle.timed.specs.Packed.{built_of, listing_of, sheet_of, written_of, node_of, calls_of, refused_of}
+use Rattle.timed.specs.Packed.{built_of, listing_of, sheet_of, written_of, node_of}
 use Rattle.timed.specs.Promises.{Packs, AddsNode, ReadsListing, ReadsSheet, WritesListing}
-use Rattle.timed.proofs.Telling.{built_node, built_refused}
 
 -- ---- for every contract of this form
 
@@ -55,28 +56,23 @@ unfolding calls_in_lem state_in
 one_calls l l' e = ap calls_in_lem e
 
 -- an answer of what builds, by its node or its refusal
-pub one_built : {l l' : Lent} (r r' : ℕ) → OneAnswer r r' l l' → built_of l.desk r ≡ built_of l'.desk r'
-one_built {l} {l'} r r' o = go (dec_lt r refused_from)
-  where
-    go : Dec (r < refused_from) → built_of l.desk r ≡ built_of l'.desk r'
-    go (yes x) =
-        let e = o.node x in
-        let n = one_count l l' o.state in
-        let c = one_calls l l' o.state in
-        built_node l.desk r x ∙ (λ v. node_of (e v) (n v) + calls_of (c v)) ∙ sym (built_node l'.desk r' (omega (arith, e, x)))
-    go (no x) =
-        let y = o.refusal (omega (arith, x)) in
-        built_refused l.desk r (omega (arith, x)) ∙ ap refused_of y.1 ∙ sym (built_refused l'.desk r' y.0)
+pub one_built : {l l' : Lent} (r r' : Result ℕ Refused) → OneAnswer r r' l l' → built_of l.desk r ≡ built_of l'.desk r'
+unfolding built_of
+one_built {l} {l'} (Ok k) r' o =
+    let n = one_count l l' o.state in
+    let c = one_calls l l' o.state in
+    rw (sym o.same, n, c) refl
+one_built (Err e) r' o = rw (sym o.same, o.refusal refl) refl
 
 -- where a store is held and the node's operands stand
 pub one_added : (e : Expression) {l l₁ l₂ : Lent} {r r' : ℕ} → Sound l → Within (count l.desk) e → AddsNode e r l l₁ → AddsNode e r' l l₂ → r ≡ r'
 one_added e s w = one_packed λ x x' p q. one_built x x' (Store.one_built (λ m. Within (count m.desk) e) (λ m. intern (tree_of m.rows e)) x x' s w p q)
 
 -- one listing, whatever desk is left
-listing_packed : {text : List ℕ} {l l₁ l₂ : Lent} {t₁ t₂ : List ℕ} (x : Listing) → Reads false text x l l₁ t₁ → Reads false text x l l₂ t₂
+listing_packed : {text : List ℕ} {l l₁ l₂ : Lent} {t₁ t₂ : List ℕ} (x : Result Listed Refusal) → Reads false text x l l₁ t₁ → Reads false text x l l₂ t₂
     → listing_of l₁.desk x ≡ listing_of l₂.desk x
-listing_packed (Listing.Read i s) p q = ap (node_of i) (Listings.one_count i s i s p q)
-listing_packed (Listing.Refused why) p q = refl
+listing_packed (Ok a) p q = ap (node_of a.root) (Listings.one_count a a p q)
+listing_packed (Err why) p q = refl
 
 pub one_listing : {text : List ℕ} {l l₁ l₂ : Lent} {t₁ t₂ : List ℕ} {r r' : ℕ} → ReadsListing text r l l₁ t₁ → ReadsListing text r' l l₂ t₂ → r ≡ r'
 one_listing {text} {l} {l₁} {l₂} {t₁} {t₂} = one_packed λ x x' p q.

@@ -5,14 +5,13 @@
 --   bits 0 to 24: a count of bytes
 --   bits 25 to 35, 36 to 46 and 47 to 57: the counts of variables, cells and function values
 --   bits 25 to 56: the number of simplify calls
-use Rattle.std.specs.Prelude.{ℕ, ◌+◌, ◌-◌, ◌*◌, ◌%◌, List, cond, ltb}
+use Rattle.std.specs.Prelude.{ℕ, ◌+◌, ◌*◌, ◌%◌, List, Result, Ok, Err}
 use Rattle.expression.specs.declared.refusal.Refusal.{Refusal}
 use Rattle.expression.specs.Refusals.{number_of, place_of}
-use Rattle.store.specs.Desk.{count, calls_on, refused_from, refusal_on}
-use Rattle.listing.specs.declared.Listing.{Listing}
-use Rattle.writing.specs.declared.Written.{Written}
+use Rattle.store.specs.declared.desk.Refused.{Refused}
+use Rattle.store.specs.Desk.{count, calls_on, refusal_on}
+use Rattle.listing.specs.declared.Listed.{Listed}
 use Rattle.sheet.specs.declared.Counts.{Counts}
-use Rattle.sheet.specs.declared.Sheet.{Sheet}
 
 -- ---- the parts
 
@@ -35,17 +34,18 @@ calls_of calls = 33554432 * (calls % 4294967296)
 
 -- ---- answers that are one number; the count of nodes and the number of calls stand on the desk
 
-unfoldable pub built_of : (desk : List ℕ) (built : ℕ) → ℕ
-built_of desk built = cond (ltb built refused_from) (node_of built (count desk) + calls_of (calls_on desk)) (refused_of (refusal_on (built - refused_from) desk))
+unfoldable pub built_of : (desk : List ℕ) (built : Result ℕ Refused) → ℕ
+built_of desk (Ok node) = node_of node (count desk) + calls_of (calls_on desk)
+built_of desk (Err e) = refused_of (refusal_on desk)
 
-abbrev pub listing_of : (desk : List ℕ) → Listing → ℕ
-listing_of desk (Listing.Read root swaps) = node_of root (count desk)
-listing_of desk (Listing.Refused why) = refused_of why
+abbrev pub listing_of : (desk : List ℕ) → Result Listed Refusal → ℕ
+listing_of desk (Ok a) = node_of a.root (count desk)
+listing_of desk (Err why) = refused_of why
 
-abbrev pub sheet_of : Sheet → ℕ
-sheet_of (Sheet.Read rows) = counts_of rows
-sheet_of (Sheet.Refused why) = refused_of why
+abbrev pub sheet_of : Result Counts Refusal → ℕ
+sheet_of (Ok rows) = counts_of rows
+sheet_of (Err why) = refused_of why
 
-abbrev pub written_of : Written → ℕ
-written_of (Written.Bytes bytes) = bytes_of bytes
-written_of (Written.Refused why) = refused_of why
+abbrev pub written_of : Result ℕ Refusal → ℕ
+written_of (Ok bytes) = bytes_of bytes
+written_of (Err why) = refused_of why

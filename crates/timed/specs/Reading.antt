@@ -1,12 +1,11 @@
 -- What `timed_read_lines` ensures: the lines of a listing one after another, of each the fields of its node in three words of the table. Definitions only.
-use Rattle.std.specs.Prelude.{ℕ, zero, suc, ◌+◌, ◌*◌, ◌≤◌, ◌<◌, ◌≡◌, List, length, get_or, set, drop}
+use Rattle.std.specs.Prelude.{ℕ, Some, None, zero, suc, ◌+◌, ◌*◌, ◌≤◌, ◌<◌, ◌≡◌, List, length, get_or, set, drop}
 use Rattle.expression.specs.declared.node.Expression.{Expression}
 use Rattle.expression.specs.declared.refusal.Refusal.{Refusal}
 use Rattle.store.specs.declared.node.Fields.{Fields}
 use Rattle.store.specs.Nodes.{fields_of}
-use Rattle.node_lines.specs.declared.Line.{Line}
 use Rattle.node_lines.specs.NodeLines.{node_fields}
-use Rattle.node_lines.specs.Seen.{Finds}
+use Rattle.node_lines.specs.Seen.{Line, Finds}
 use Rattle.timed.specs.Packed.{refused_of}
 
 -- three words for a line
@@ -22,9 +21,9 @@ LineAt text at lines found = Finds (λ earlier. node_fields earlier (get_or text
 pub data Answered (Rest : (at lines : ℕ) (table : List ℕ) (r : ℕ) (table' : List ℕ) → Type 0) (text : List ℕ) (at lines : ℕ) (table : List ℕ) (r : ℕ) (table' : List ℕ) : Type 0 where
   ends : length text ≤ at → r ≡ lines → table' ≡ table → Answered Rest text at lines table r table'
   long : at < length text → 1024 ≤ lines → r ≡ refused_of (Refusal.LongList lines) → table' ≡ table → Answered Rest text at lines table r table'
-  bad : at < length text → lines < 1024 → LineAt text at lines Line.Bad → r ≡ refused_of (Refusal.BadList lines) → table' ≡ table
+  bad : at < length text → lines < 1024 → LineAt text at lines None → r ≡ refused_of (Refusal.BadList lines) → table' ≡ table
       → Answered Rest text at lines table r table'
-  goes : (e : Expression) (next : ℕ) → at < length text → lines < 1024 → LineAt text at lines (Line.Node e next)
+  goes : (e : Expression) (next : ℕ) → at < length text → lines < 1024 → LineAt text at lines (Some (e, next))
       → Rest next (lines + 1) (with_fields table lines (fields_of e)) r table' → Answered Rest text at lines table r table'
 
 -- `fuel` is one more than the lines that may still come

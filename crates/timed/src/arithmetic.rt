@@ -11,7 +11,7 @@ use complex::Complex;
 pub extern "C" fn timed_mul(a: f64, b: f64, c: f64, d: f64, im: &mut f64) -> f64
     ensures { pair result im.new ≡ times (pair a b) (pair c d) }
 {
-    let z = complex::mul(Complex { re: a, im: b }, Complex { re: c, im: d });
+    let z = Complex { re: a, im: b } * Complex { re: c, im: d };
     *im = z.im;
     z.re
 }
@@ -21,7 +21,7 @@ pub extern "C" fn timed_mul(a: f64, b: f64, c: f64, d: f64, im: &mut f64) -> f64
 pub extern "C" fn timed_div(a: f64, b: f64, c: f64, d: f64, im: &mut f64) -> f64
     ensures { pair result im.new ≡ over (pair a b) (pair c d) }
 {
-    let z = complex::div(Complex { re: a, im: b }, Complex { re: c, im: d });
+    let z = Complex { re: a, im: b } / Complex { re: c, im: d };
     *im = z.im;
     z.re
 }

@@ -10,7 +10,7 @@ use expression::refusal::Refusal;
 use listing::read_listing;
 use memory::layout::DESK_WORDS;
 use memory::put;
-use node_lines::{Line, read_node};
+use node_lines::read_node;
 use sheet::read_sheet;
 use store::node::{Fields, fields_of};
 
@@ -46,12 +46,12 @@ pub extern "C" fn timed_read_lines(text: &[u8], table: &mut [u64]) -> u64
 {
     let mut at: usize = 0;
     let mut lines: usize = 0;
+    // No `for`: a line tells where the next one begins.
     while at < text.len() {
         if 1024 <= lines {
             return refused(Refusal::LongList(lines as u64));
         }
-        let found = read_node(text, at, lines);
-        let Line::Node(e, next) = found else {
+        let Some((e, next)) = read_node(text, at, lines) else {
             return refused(Refusal::BadList(lines as u64));
         };
         put_fields(table, lines, fields_of(e));

@@ -3,11 +3,10 @@ ghost use Rattle.std.specs.Prelude.{◌≡◌};
 ghost use Rattle.timed.specs.Packed.{refused_of, node_of, counts_of, built_of, listing_of, sheet_of, written_of};
 
 use expression::refusal::Refusal;
-use listing::Listing;
+use listing::Listed;
 use memory::layout::DESK_WORDS;
-use sheet::{Counts, Sheet};
-use store::desk::{REFUSED, calls_made, refusal_of, standing};
-use writing::Written;
+use sheet::Counts;
+use store::desk::{Refused, calls_made, refusal_of, standing};
 
 // 2^25: below it a node with the count of nodes, or a count of bytes; from it on counts of rows, or a number of calls.
 const ABOVE: u64 = 33554432;
@@ -35,39 +34,39 @@ fn packed_counts(counts: Counts) -> u64
         + 4194304 * ABOVE * (counts.functions as u64 % 2048)
 }
 
-// An answer of what builds, one number already, with the desk as it is then: a node, the count of nodes and the number of calls.
-pub fn packed_built(desk: &[u64; DESK_WORDS], built: usize) -> u64
+// An answer of what builds, with the desk as it is then: a node, the count of nodes and the number of calls.
+pub fn packed_built(desk: &[u64; DESK_WORDS], built: Result<usize, Refused>) -> u64
     ensures { result ≡ built_of desk.now built }
 {
-    if REFUSED <= built {
-        return refused(refusal_of(desk, built));
+    match built {
+        Ok(node) => packed_node(node, standing(desk)) + ABOVE * (calls_made(desk) % 4294967296),
+        Err(Refused) => refused(refusal_of(desk)),
     }
-    packed_node(built, standing(desk)) + ABOVE * (calls_made(desk) % 4294967296)
 }
 
-pub fn packed_listing(desk: &[u64; DESK_WORDS], answer: Listing) -> u64
+pub fn packed_listing(desk: &[u64; DESK_WORDS], answer: Result<Listed, Refusal>) -> u64
     ensures { result ≡ listing_of desk.now answer }
 {
     match answer {
-        Listing::Read { root, swaps: _ } => packed_node(root, standing(desk)),
-        Listing::Refused(why) => refused(why),
+        Ok(listed) => packed_node(listed.root, standing(desk)),
+        Err(why) => refused(why),
     }
 }
 
-pub fn packed_sheet(answer: Sheet) -> u64
+pub fn packed_sheet(answer: Result<Counts, Refusal>) -> u64
     ensures { result ≡ sheet_of answer }
 {
     match answer {
-        Sheet::Read(counts) => packed_counts(counts),
-        Sheet::Refused(why) => refused(why),
+        Ok(counts) => packed_counts(counts),
+        Err(why) => refused(why),
     }
 }
 
-pub fn packed_written(answer: Written) -> u64
+pub fn packed_written(answer: Result<usize, Refusal>) -> u64
     ensures { result ≡ written_of answer }
 {
     match answer {
-        Written::Bytes(bytes) => bytes as u64 % ABOVE,
-        Written::Refused(why) => refused(why),
+        Ok(bytes) => bytes as u64 % ABOVE,
+        Err(why) => refused(why),
     }
 }

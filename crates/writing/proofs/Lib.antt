@@ -2,6 +2,7 @@
 pub mod Orders
 pub mod Visiting
 pub mod LineTexts
+pub mod AllText
 pub mod Texts
 pub mod TracedLines
 pub mod TracedTexts

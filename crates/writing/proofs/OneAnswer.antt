@@ -5,6 +5,8 @@ use mathlib.Core.List.{List, []}
 use Prim.Native.Nat.{ℕ, ◌<◌}
 use native.Mathlib.Omega.{arith}
 use lib.ListN.{length, get_or}
+use Rattle.std.specs.Prelude.{Result}
+use Rattle.expression.specs.declared.refusal.Refusal.{Refusal}
 use Rattle.expression.specs.Trees.{Tree, leaf, pi}
 use Rattle.store.specs.Memory.{Memory, columns, tree_at}
 use Rattle.store.specs.Desk.{count}
@@ -13,16 +15,15 @@ use Rattle.store.specs.Tracing.{Traced}
 use Rattle.store.proofs.Stored.{one_node}
 use Rattle.memory.proofs.Values.{length_up_to, at_up_to}
 use Rattle.listing.specs.Tables.{line_trees}
-use Rattle.writing.specs.declared.Written.{Written}
 use Rattle.writing.specs.Ordering.{Writes, KeepsRows, WritesTraced, Listed, Visited, Visits}
 
-pub one_written : {m : Memory} {n root : ℕ} {r r' : Written} (out : List ℕ) {out₁ out₂ : List ℕ} → Holds m n → root < n
-    → Writes m root r out out₁ → Writes m root r' out out₂ → ◌≡◌ {A = Written × List ℕ} (r, out₁) (r', out₂)
+pub one_written : {m : Memory} {n root : ℕ} {r r' : Result ℕ Refusal} (out : List ℕ) {out₁ out₂ : List ℕ} → Holds m n → root < n
+    → Writes m root r out out₁ → Writes m root r' out out₂ → ◌≡◌ {A = Result ℕ Refusal × List ℕ} (r, out₁) (r', out₂)
 one_written {n = n} out h o p q = p n h o ∙ sym (q n h o)
 
-pub one_traced : {m : Memory} {root : ℕ} {r r' : Written} (given : List Tree) (desk out : List ℕ) {out₁ out₂ : List ℕ} → Sound (record { rows = m; desk = desk })
+pub one_traced : {m : Memory} {root : ℕ} {r r' : Result ℕ Refusal} (given : List Tree) (desk out : List ℕ) {out₁ out₂ : List ℕ} → Sound (record { rows = m; desk = desk })
     → Traced given (record { rows = m; desk = desk }) → root < count desk → WritesTraced m root r out out₁ → WritesTraced m root r' out out₂
-    → ◌≡◌ {A = Written × List ℕ} (r, out₁) (r', out₂)
+    → ◌≡◌ {A = Result ℕ Refusal × List ℕ} (r, out₁) (r', out₂)
 one_traced given desk out s t o p q = p given desk s t o ∙ sym (q given desk s t o)
 
 -- tags, firsts and seconds of all rows

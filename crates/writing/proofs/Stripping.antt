@@ -10,6 +10,7 @@ use lib.Dec.{T, ltb, ltb→lt, eqb}
 use lib.ListN.{length, take, drop}
 use lib.Seq.{take-append_seam}
 use borrow.Author.Tests.{lt-ltb, le-ltb, eq-eqb, ne_eqb}
+use Rattle.std.specs.Prelude.{Ok, Err}
 use Rattle.complex.specs.Bits.{bits_of}
 use Rattle.expression.specs.declared.InfixOperator.{InfixOperator}
 use Rattle.expression.specs.declared.PrefixOperator.{PrefixOperator}
@@ -31,7 +32,6 @@ use Rattle.text.specs.Digits.{digits}
 use Rattle.text.specs.Writing.{byte_of, in_decimal, last_hex, in_hex, line}
 use Rattle.text.proofs.Putting.{hex_length}
 use Rattle.text.proofs.RoundTrip.{ended_here}
-use Rattle.writing.specs.declared.Written.{Written}
 use Rattle.writing.specs.Order.{order, line_fields, text, text_of, written}
 use Rattle.writing.specs.Origins.{traced_line, traced_text, traced_text_of, written_traced}
 use Rattle.writing.proofs.FirstLine.{origin_few}
@@ -213,9 +213,9 @@ strips_nothing t = text_stays (order t) (order t)
 -- with origins and without, into the same output: both are refused as too long; or there is no room for the origins; or both are written, and the
 -- bytes of the one, without its origins, are those of the other
 pub data Alongside (given : List Tree) (t : Tree) (out : List ℕ) : Type 0 where
-  too_long_lem : written_traced given t out ≡ (Written.Refused (Refusal.LongList 0), out) → written t out ≡ (Written.Refused (Refusal.LongList 0), out) → Alongside given t out
-  no_room : written_traced given t out ≡ (Written.Refused Refusal.OutRoom, out) → Alongside given t out
-  both : (n plain : ℕ) (out₁ out₂ : List ℕ) → written_traced given t out ≡ (Written.Bytes n, out₁) → written t out ≡ (Written.Bytes plain, out₂)
+  too_long_lem : written_traced given t out ≡ (Err (Refusal.LongList 0), out) → written t out ≡ (Err (Refusal.LongList 0), out) → Alongside given t out
+  no_room : written_traced given t out ≡ (Err Refusal.OutRoom, out) → Alongside given t out
+  both : (n plain : ℕ) (out₁ out₂ : List ℕ) → written_traced given t out ≡ (Ok n, out₁) → written t out ≡ (Ok plain, out₂)
       → without_origins (take n out₁) ≡ take plain out₂ → Alongside given t out
 
 pub written_stripped : (given : List Tree) → length given ≤ 1024 → (t : Tree) (out : List ℕ) → Alongside given t out

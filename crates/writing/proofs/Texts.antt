@@ -3,13 +3,13 @@ use mathlib.Core.Path.{◌≡◌, refl, sym, ap, ◌∙◌, subst}
 use mathlib.Core.List.{List, [], ◌∷◌, ◌++◌, append_assoc, append-nil}
 use mathlib.Core.Logic.{⊎_elim}
 use mathlib.Core.Bool.{true}
-use Prim.Native.Nat.{ℕ, zero, suc, ◌+◌, ◌-◌, ◌≤◌, ◌<◌}
+use Prim.Native.Nat.{ℕ, zero, suc, ◌+◌, ◌≤◌, ◌<◌}
 use native.Mathlib.Nat.{eq-or-lt_of_le}
-use native.Mathlib.Numerals.{add-one}
 use native.Mathlib.Omega.{arith}
-use lib.ListN.{length, get_or, length-append}
+use lib.ListN.{length, get_or}
 use lib.Seq.{sets-eq}
 use borrow.Author.Tests.{lt-ltb, le-ltb}
+use Rattle.std.specs.Prelude.{Ok, Err}
 use Rattle.expression.specs.declared.refusal.Refusal.{Refusal}
 use Rattle.expression.specs.Trees.{Tree, leaf, pi}
 use Rattle.expression.specs.Alike.{identical}
@@ -25,10 +25,8 @@ use Rattle.memory.specs.Keys.{up_to}
 use Rattle.memory.proofs.Values.{length_up_to, at_up_to, up_to_snoc}
 use Rattle.text.specs.Writing.{line}
 use Rattle.text.specs.Put.{Put}
-use Rattle.text.proofs.Putting.{put_then}
-use Rattle.writing.specs.declared.Written.{Written}
 use Rattle.writing.specs.Order.{order, line_fields, text, text_of, written}
-use Rattle.writing.specs.Ordering.{AllIn, empty, Listed, visited, Visited, no_child, text_fields, line_text, line_at, lines_text}
+use Rattle.writing.specs.Ordering.{AllIn, empty, Listed, visited, Visited, no_child, text_fields, line_text, line_at, lines_text, all_text}
 use Rattle.memory.specs.Layout.{table_words}
 use Rattle.listing.specs.Tables.{line_trees, moved_to, moved}
 use Rattle.writing.proofs.Orders.{laid_all, all_is, true_not_false}
@@ -36,46 +34,6 @@ use Rattle.writing.proofs.Visiting.{place_of, room_small, expression_kept}
 
 pub from_zero : (n : ℕ) → 0 + n ≡ n
 from_zero n = omega arith
-
--- ---- the first lines
-
-module _ (rows : Memory) (table : List ℕ) where
-  pub more_text : (i : ℕ) → lines_text rows table (i + 1) ≡ lines_text rows table i ++ line_text (line_at rows table i)
-  unfolding lines_text
-  more_text i = rw add-one
-
-  pub more_length : (i : ℕ) → length (lines_text rows table (i + 1)) ≡ length (lines_text rows table i) + length (line_text (line_at rows table i))
-  more_length i = rw (more_text i) (length-append (lines_text rows table i) (line_text (line_at rows table i)))
-
-  grows : (i k : ℕ) → length (lines_text rows table i) ≤ length (lines_text rows table (i + k))
-  grows i zero = let z : i + 0 ≡ i = omega arith in rw z (omega arith)
-  grows i (suc k) = let z : i + suc k ≡ (i + k) + 1 = omega arith in rw z (omega (arith, grows i k, more_length (i + k)))
-
-  -- the next line fits where all lines do
-  pub line_fits : (i count room : ℕ) → i < count → length (lines_text rows table count) ≤ room
-      → length (lines_text rows table i) + length (line_text (line_at rows table i)) ≤ room
-  line_fits i count room h f =
-      let z : (i + 1) + (count - (i + 1)) ≡ count = omega arith in
-      omega (arith, more_length i, rw z at (grows (i + 1) (count - (i + 1))))
-
-  pub no_text : (e : List ℕ) → Put e 0 (lines_text rows table 0) 0 e
-  unfolding lines_text
-  no_text e = record { place = refl; stored = refl }
-
-  pub no_length : 0 ≡ length (lines_text rows table 0)
-  unfolding lines_text
-  no_length = refl
-
-  pub next_text : {e x y : List ℕ} {at next : ℕ} (i : ℕ) → Put e 0 (lines_text rows table i) at x → Put x at (line_text (line_at rows table i)) next y
-      → Put e 0 (lines_text rows table (i + 1)) next y
-  next_text i a b = rw (more_text i) (put_then a b)
-
-  -- a loop has reached the last line
-  pub all_counted : {count i total : ℕ} → i ≤ count → count ≤ i → total ≡ length (lines_text rows table i) → total ≡ length (lines_text rows table count)
-  all_counted {count} {i} p q e = let z : i ≡ count = omega arith in rw z at e
-
-  pub all_written : {e x : List ℕ} {count i at : ℕ} → i ≤ count → count ≤ i → Put e 0 (lines_text rows table i) at x → Put e 0 (lines_text rows table count) at x
-  all_written {count = count} {i = i} p q e = let z : i ≡ count = omega arith in rw z at e
 
 -- ---- as lines of the tree
 
@@ -120,7 +78,7 @@ module _ {m : Memory} {n : ℕ} (h : Holds m n) {rows : Memory} {table : List �
   line_is i o = ap line (line_fields_lem i o)
 
   first_lines : (i : ℕ) → i ≤ count → lines_text rows table i ≡ text (line_trees m table count) (line_trees m table i)
-  unfolding lines_text text up_to
+  unfolding all_text text up_to
   first_lines zero o = refl
   first_lines (suc i) o =
       rw (first_lines i (omega arith), line_is i (omega arith)) (sym (ap (text (line_trees m table count)) (up_to_snoc i _) ∙ text_snoc (line_trees m table count) (line_trees m table i) (tree_at m (get_or table i 0))))
@@ -152,18 +110,18 @@ module _ {m : Memory} {n : ℕ} (h : Holds m n) {root count : ℕ} {rows : Memor
   pub text_is : lines_text rows table count ≡ text_of (tree_at m root)
   text_is = all_lines h v.listed ∙ ap (λ ts. text ts ts) order_is
 
-  pub too_long_lem : (out : List ℕ) → 1024 < count → (Written.Refused (Refusal.LongList 0), out) ≡ written (tree_at m root) out
+  pub too_long_lem : (out : List ℕ) → 1024 < count → (Err (Refusal.LongList 0), out) ≡ written (tree_at m root) out
   unfolding written
   too_long_lem out o = rw (count_is, lt-ltb 1024 count o)
 
   module _ (few : count ≤ 1024) where
     pub no_room : (out : List ℕ) (size : ℕ) → size ≡ length (lines_text rows table count) → length out < size
-        → (Written.Refused Refusal.OutRoom, out) ≡ written (tree_at m root) out
+        → (Err Refusal.OutRoom, out) ≡ written (tree_at m root) out
     unfolding written
     no_room out size e o = rw (count_is, le-ltb 1024 count few, lt-ltb (length out) (length (text_of (tree_at m root))) (omega (arith, o, e, ap length text_is)))
 
     pub wrote : (out out' : List ℕ) (r size : ℕ) → size ≡ length (lines_text rows table count) → size ≤ length out
-        → Put out 0 (lines_text rows table count) r out' → (Written.Bytes r, out') ≡ written (tree_at m root) out
+        → Put out 0 (lines_text rows table count) r out' → (Ok r, out') ≡ written (tree_at m root) out
     unfolding written
     wrote out out' r size e o p =
         let t = text_of (tree_at m root) in
@@ -171,4 +129,4 @@ module _ {m : Memory} {n : ℕ} (h : Holds m n) {root count : ℕ} {rows : Memor
         let f : length t ≤ length out = omega (arith, o, e, ap length text_is) in
         let z : r ≡ length t = omega (arith, q.place) in
         let y : 0 + length t ≡ length t = omega arith in
-        rw (count_is, le-ltb 1024 count few, le-ltb (length out) (length t) f, z) (ap (λ x. (Written.Bytes (length t), x)) (q.stored ∙ sets-eq t out 0 (omega (arith, f)) ∙ rw y))
+        rw (count_is, le-ltb 1024 count few, le-ltb (length out) (length t) f, z) (ap (λ x. (Ok (length t), x)) (q.stored ∙ sets-eq t out 0 (omega (arith, f)) ∙ rw y))

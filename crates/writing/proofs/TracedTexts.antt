@@ -1,14 +1,15 @@
 -- The text with origins of the lines that a table orders is that of the tree, where the tags say where the nodes came from. Assumes nothing.
 use mathlib.Core.Path.{◌≡◌, refl, sym, ap, ◌∙◌, subst}
 use mathlib.Core.List.{List, [], ◌∷◌, ◌++◌, append_assoc, append-nil}
-use Prim.Native.Nat.{ℕ, zero, suc, ◌+◌, ◌-◌, ◌≤◌, ◌<◌}
-use native.Mathlib.Numerals.{add-one}
+use Prim.Native.Nat.{ℕ, zero, suc, ◌+◌, ◌≤◌, ◌<◌}
 use native.Mathlib.Omega.{arith}
-use lib.ListN.{length, get_or, length-append}
+use lib.ListN.{length, get_or}
 use lib.Seq.{sets-eq}
 use borrow.Author.Tests.{lt-ltb, le-ltb}
+use Rattle.std.specs.Prelude.{Ok, Err}
 use Rattle.expression.specs.declared.refusal.Refusal.{Refusal}
 use Rattle.expression.specs.Trees.{Tree}
+use Rattle.expression.specs.declared.node.Expression.{Expression}
 use Rattle.memory.specs.Keys.{up_to}
 use Rattle.memory.proofs.Values.{up_to_snoc}
 use Rattle.origins.specs.Fields.{origin_text}
@@ -18,11 +19,10 @@ use Rattle.store.specs.Desk.{count}
 use Rattle.store.specs.Held.{Sound}
 use Rattle.store.specs.Tracing.{Traced}
 use Rattle.text.specs.Put.{Put}
-use Rattle.text.proofs.Putting.{put_then, few_digits}
+use Rattle.text.proofs.Putting.{few_digits}
 use Rattle.listing.specs.Tables.{line_trees}
-use Rattle.writing.specs.declared.Written.{Written}
 use Rattle.writing.specs.Order.{order}
-use Rattle.writing.specs.Ordering.{Listed, Visited, no_child, line_text, line_at, traced_text, traced_lines_text}
+use Rattle.writing.specs.Ordering.{Listed, Visited, no_child, line_text, line_at, traced_text, traced_lines_text, all_text}
 use Rattle.writing.specs.Origins as Spec
 use Rattle.writing.specs.Origins.{traced_line, traced_text_of, written_traced}
 use Rattle.writing.proofs.Texts.{line_fields_lem, order_is, count_is}
@@ -40,51 +40,9 @@ pub origin_said : (tag : List ℕ) (k : ℕ) {o n : ℕ} → n ≡ length (origi
 unfolding origin_on
 origin_said tag k {o} p q = omega (arith, p, text_short o (omega (arith, q)))
 
-module _ (rows : Memory) (table : List ℕ) where
-  abbrev traced_at : ℕ → List ℕ
-  traced_at i = traced_text (origin_at rows (get_or table i 0)) (line_at rows table i)
-
-  more_text : (i : ℕ) → traced_lines_text rows table (i + 1) ≡ traced_lines_text rows table i ++ traced_at i
-  unfolding traced_lines_text
-  more_text i = rw add-one
-
-  more_length : (i : ℕ) → length (traced_lines_text rows table (i + 1)) ≡ length (traced_lines_text rows table i) + length (traced_at i)
-  more_length i = rw (more_text i) (length-append (traced_lines_text rows table i) (traced_at i))
-
-  grows : (i k : ℕ) → length (traced_lines_text rows table i) ≤ length (traced_lines_text rows table (i + k))
-  grows i zero = let z : i + 0 ≡ i = omega arith in rw z (omega arith)
-  grows i (suc k) = let z : i + suc k ≡ (i + k) + 1 = omega arith in rw z (omega (arith, grows i k, more_length (i + k)))
-
-  -- the next line fits where all lines do
-  pub line_fits : (i count room : ℕ) → i < count → length (traced_lines_text rows table count) ≤ room
-      → length (traced_lines_text rows table i) + length (traced_at i) ≤ room
-  line_fits i count room h f =
-      let z : (i + 1) + (count - (i + 1)) ≡ count = omega arith in
-      omega (arith, more_length i, rw z at (grows (i + 1) (count - (i + 1))))
-
-  pub no_text : (e : List ℕ) → Put e 0 (traced_lines_text rows table 0) 0 e
-  unfolding traced_lines_text
-  no_text e = record { place = refl; stored = refl }
-
-  pub no_length : 0 ≡ length (traced_lines_text rows table 0)
-  unfolding traced_lines_text
-  no_length = refl
-
-  -- the length of a line and of its origin, and one for the tab
-  pub next_length : {total line origin : ℕ} (i : ℕ) → total ≡ length (traced_lines_text rows table i) → line ≡ length (line_text (line_at rows table i))
-      → origin ≡ length (origin_text (origin_at rows (get_or table i 0))) → total + (line + origin + 1) ≡ length (traced_lines_text rows table (i + 1))
-  next_length i p q r = omega (arith, p, q, r, more_length i, traced_long (origin_at rows (get_or table i 0)) (line_at rows table i))
-
-  pub next_text : {e x y : List ℕ} {at next : ℕ} (i : ℕ) → Put e 0 (traced_lines_text rows table i) at x → Put x at (traced_at i) next y
-      → Put e 0 (traced_lines_text rows table (i + 1)) next y
-  next_text i a b = rw (more_text i) (put_then a b)
-
-  -- a loop has reached the last line
-  pub all_counted : {count i total : ℕ} → i ≤ count → count ≤ i → total ≡ length (traced_lines_text rows table i) → total ≡ length (traced_lines_text rows table count)
-  all_counted {count} {i} p q e = let z : i ≡ count = omega arith in rw z at e
-
-  pub all_written : {e x : List ℕ} {count i at : ℕ} → i ≤ count → count ≤ i → Put e 0 (traced_lines_text rows table i) at x → Put e 0 (traced_lines_text rows table count) at x
-  all_written {count = count} {i = i} p q e = let z : i ≡ count = omega arith in rw z at e
+-- the length of a line and of its origin, and one for the tab
+pub traced_length_lem : (o : ℕ) (e : Expression) {line origin : ℕ} → line ≡ length (line_text e) → origin ≡ length (origin_text o) → line + origin + 1 ≡ length (traced_text o e)
+traced_length_lem o e q r = omega (arith, q, r, traced_long o e)
 
 -- ---- as lines of the tree
 
@@ -105,7 +63,7 @@ module _ {m : Memory} {desk : List ℕ} {given : List Tree} (s : Sound (record {
     line_is i o = rw (line_fields_lem s.holds l i o, origin_is i o)
 
     first_lines : (i : ℕ) → i ≤ lines → traced_lines_text rows table i ≡ Spec.traced_text given (line_trees m table lines) (line_trees m table i)
-    unfolding traced_lines_text Spec.traced_text up_to
+    unfolding all_text Spec.traced_text up_to
     first_lines zero o = refl
     first_lines (suc i) o =
         rw (first_lines i (omega arith), line_is i (omega arith))
@@ -120,18 +78,18 @@ module _ {m : Memory} {desk : List ℕ} {given : List Tree} (s : Sound (record {
     text_is : traced_lines_text rows table lines ≡ traced_text_of given (tree_at m root)
     text_is = first_lines v.listed lines (omega arith) ∙ ap (λ ts. Spec.traced_text given ts ts) (order_is s.holds inside v)
 
-    pub too_long_lem : (out : List ℕ) → 1024 < lines → (Written.Refused (Refusal.LongList 0), out) ≡ written_traced given (tree_at m root) out
+    pub too_long_lem : (out : List ℕ) → 1024 < lines → (Err (Refusal.LongList 0), out) ≡ written_traced given (tree_at m root) out
     unfolding written_traced
     too_long_lem out o = rw (lines_are, lt-ltb 1024 lines o)
 
     module _ (few : lines ≤ 1024) where
       pub no_room : (out : List ℕ) (size : ℕ) → size ≡ length (traced_lines_text rows table lines) → length out < size
-          → (Written.Refused Refusal.OutRoom, out) ≡ written_traced given (tree_at m root) out
+          → (Err Refusal.OutRoom, out) ≡ written_traced given (tree_at m root) out
       unfolding written_traced
       no_room out size e o = rw (lines_are, le-ltb 1024 lines few, lt-ltb (length out) (length (traced_text_of given (tree_at m root))) (omega (arith, o, e, ap length text_is)))
 
       pub wrote : (out out' : List ℕ) (r size : ℕ) → size ≡ length (traced_lines_text rows table lines) → size ≤ length out
-          → Put out 0 (traced_lines_text rows table lines) r out' → (Written.Bytes r, out') ≡ written_traced given (tree_at m root) out
+          → Put out 0 (traced_lines_text rows table lines) r out' → (Ok r, out') ≡ written_traced given (tree_at m root) out
       unfolding written_traced
       wrote out out' r size e o p =
           let t = traced_text_of given (tree_at m root) in
@@ -139,4 +97,4 @@ module _ {m : Memory} {desk : List ℕ} {given : List Tree} (s : Sound (record {
           let f : length t ≤ length out = omega (arith, o, e, ap length text_is) in
           let z : r ≡ length t = omega (arith, q.place) in
           let y : 0 + length t ≡ length t = omega arith in
-          rw (lines_are, le-ltb 1024 lines few, le-ltb (length out) (length t) f, z) (ap (λ x. (Written.Bytes (length t), x)) (q.stored ∙ sets-eq t out 0 (omega (arith, f)) ∙ rw y))
+          rw (lines_are, le-ltb 1024 lines few, le-ltb (length out) (length t) f, z) (ap (λ x. (Ok (length t), x)) (q.stored ∙ sets-eq t out 0 (omega (arith, f)) ∙ rw y))

@@ -1,5 +1,5 @@
 -- How a tree is written as a listing: its lines in order, and their bytes. Definitions only.
-use Rattle.std.specs.Prelude.{ℕ, List, [], ◌∷◌, ◌++◌, cond, length, drop, ltb}
+use Rattle.std.specs.Prelude.{ℕ, List, [], ◌∷◌, ◌++◌, cond, length, drop, ltb, Result, Ok, Err}
 use Rattle.complex.specs.Bits.{bits_of}
 use Rattle.expression.specs.declared.refusal.Refusal.{Refusal}
 use Rattle.spelling.specs.Names.{function_name, prefix_name, infix_name}
@@ -8,7 +8,6 @@ use Rattle.expression.specs.Alike.{identical}
 use Rattle.store.specs.Storing.{among, place}
 use Rattle.text.specs.Letters.{bytes}
 use Rattle.text.specs.Writing.{in_decimal, in_hex, line}
-use Rattle.writing.specs.declared.Written.{Written}
 use Rattle.listing.specs.Listings.{most_nodes}
 
 -- "A written listing holds the reachable nodes once each, in the order in which evaluation first finishes them": a tree after those in `done`,
@@ -52,13 +51,13 @@ abbrev pub text_of : Tree → List ℕ
 text_of t = text (order t) (order t)
 
 -- "13 OUT_ROOM: output shorter than the result"; "A success writes its bytes at the start of the output and keeps the rest"
-abbrev pub fitted : (result out : List ℕ) → Written × List ℕ
+abbrev pub fitted : (result out : List ℕ) → Result ℕ Refusal × List ℕ
 fitted result out =
-    cond (ltb (length out) (length result)) (Written.Refused Refusal.OutRoom, out)
-    (Written.Bytes (length result), result ++ drop (length result) out)
+    cond (ltb (length out) (length result)) (Err Refusal.OutRoom, out)
+    (Ok (length result), result ++ drop (length result) out)
 
 -- "2 LONG_LIST: a result listing of over 1024 lines", 0; then 13
-unfoldable pub written : Tree → (out : List ℕ) → Written × List ℕ
+unfoldable pub written : Tree → (out : List ℕ) → Result ℕ Refusal × List ℕ
 written t out =
-    cond (ltb most_nodes (length (order t))) (Written.Refused (Refusal.LongList 0), out)
+    cond (ltb most_nodes (length (order t))) (Err (Refusal.LongList 0), out)
     (fitted (text_of t) out)

@@ -1,5 +1,6 @@
 -- What the table and the links say while the nodes of a tree are put in order. Only connecting.
-use Rattle.std.specs.Prelude.{◌≡◌, ℕ, zero, suc, ◌+◌, ◌≤◌, ◌<◌, List, [], ◌∷◌, ◌++◌, Bool, true, false, cond, length, get_or, set, ltb, eqb}
+use Rattle.std.specs.Prelude.{◌≡◌, ℕ, zero, suc, ◌+◌, ◌≤◌, ◌<◌, List, [], ◌∷◌, ◌++◌, Bool, true, false, cond, length, get_or, set, ltb, eqb, Result}
+use Rattle.expression.specs.declared.refusal.Refusal.{Refusal}
 use Rattle.expression.specs.Trees.{Tree, leaf, number, pi, variable, cell, function_call, prefixed, infixed}
 use Rattle.expression.specs.Limits.{Limited, Proper}
 use Rattle.store.specs.Storing.{among}
@@ -13,7 +14,6 @@ use Rattle.expression.specs.declared.node.Operands.{Operands}
 use Rattle.expression.specs.Nodes.{operands_of}
 use Rattle.memory.specs.Layout.{table_words}
 use Rattle.writing.specs.declared.order.Children.{Children}
-use Rattle.writing.specs.declared.Written.{Written}
 use Rattle.writing.specs.Order.{finished, leaf_fields, written}
 use Rattle.writing.specs.Origins.{written_traced}
 use Rattle.spelling.specs.Names.{function_name, prefix_name, infix_name}
@@ -117,12 +117,16 @@ line_text e = line (text_fields e)
 unfoldable pub line_at : (rows : Memory) (table : List ℕ) → ℕ → Expression
 line_at rows table i = moved rows.link (expression_at rows (get_or table i 0))
 
-unfoldable pub lines_text : (rows : Memory) (table : List ℕ) → ℕ → List ℕ
-lines_text rows table zero = []
-lines_text rows table (suc i) = lines_text rows table i ++ line_text (line_at rows table i)
+-- the first lines one after the other, where `bytes` are those of each
+unfoldable pub all_text : (bytes : ℕ → List ℕ) → ℕ → List ℕ
+all_text bytes zero = []
+all_text bytes (suc i) = all_text bytes i ++ bytes i
+
+abbrev pub lines_text : (rows : Memory) (table : List ℕ) → ℕ → List ℕ
+lines_text rows table = all_text (λ i. line_text (line_at rows table i))
 
 -- the tree of a node is written as the definition says, and a refusal leaves the output as it was
-abbrev pub Writes : (m : Memory) (root : ℕ) (r : Written) (out out' : List ℕ) → Type 0
+abbrev pub Writes : (m : Memory) (root : ℕ) (r : Result ℕ Refusal) (out out' : List ℕ) → Type 0
 Writes m root r out out' = (n : ℕ) → Holds m n → root < n → (r, out') ≡ written (tree_at m root) out
 
 -- and leaves the rows as they were, but for the links
@@ -138,11 +142,10 @@ origin_end origin = tab ∷ (origin_text origin ++ (lf ∷ []))
 unfoldable pub traced_text : (origin : ℕ) → Expression → List ℕ
 traced_text origin e = line (text_fields e ++ (origin_text origin ∷ []))
 
-unfoldable pub traced_lines_text : (rows : Memory) (table : List ℕ) → ℕ → List ℕ
-traced_lines_text rows table zero = []
-traced_lines_text rows table (suc i) = traced_lines_text rows table i ++ traced_text (origin_at rows (get_or table i 0)) (line_at rows table i)
+abbrev pub traced_lines_text : (rows : Memory) (table : List ℕ) → ℕ → List ℕ
+traced_lines_text rows table = all_text (λ i. traced_text (origin_at rows (get_or table i 0)) (line_at rows table i))
 
-abbrev pub WritesTraced : (m : Memory) (root : ℕ) (r : Written) (out out' : List ℕ) → Type 0
+abbrev pub WritesTraced : (m : Memory) (root : ℕ) (r : Result ℕ Refusal) (out out' : List ℕ) → Type 0
 WritesTraced m root r out out' =
     (given : List Tree) (desk : List ℕ) → Sound (record { rows = m; desk = desk }) → Traced given (record { rows = m; desk = desk }) → root < count desk
     → (r, out') ≡ written_traced given (tree_at m root) out

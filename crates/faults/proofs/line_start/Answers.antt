@@ -1,33 +1,22 @@
--- `line_start` meets its contract. The invariant is `At`; the measure is what is left of the text. Assumes nothing.
-use mathlib.Core.Path.{refl}
+-- `line_start` meets its contract. The invariant is `At`. Assumes nothing.
+use mathlib.Core.Path.{refl, ap, ◌∙◌}
 use native.Mathlib.Omega.{arith}
+use lib.ListN.{drop}
 use Rattle.faults.proofs.Telling.{line_ended, line_other, line_passed, line_found}
 use Rattle.faults.proofs.line_start.Goals as goal
-use Rattle.faults.proofs.line_start.Goals.{then-text-i-eq-LF, else-text-i-eq-LF}
+use Rattle.faults.proofs.line_start.Goals.{then-byte-eq-LF, else-byte-eq-LF}
 
-pub loop-left-init : goal.loop-left-init
-loop-left-init c = record { inside = omega arith; rest = refl }
+pub loop-i-init : goal.loop-i-init
+loop-i-init c = record { inside = omega arith; rest = refl }
 
-pub returns-then-text-i : goal.returns-then-text-i
-returns-then-text-i c = (c.loop-left.invariant.inside, line_ended c.loop-left.invariant c.if-text-i.true)
+pub returns-then-left-eq0 : goal.returns-then-left-eq0
+returns-then-left-eq0 c = (c.loop-i.invariant.inside, line_found c.loop-i.invariant (omega arith))
 
-pub bounds-text-i : goal.bounds-text-i
-bounds-text-i c = omega arith
-
-pub overflow_sub-left : goal.overflow_sub-left
-overflow_sub-left c = omega arith
-
-pub overflow_add-i : goal.overflow_add-i
-overflow_add-i c = omega arith
-
-pub loop-left-smaller : goal.loop-left-smaller
-loop-left-smaller c = omega arith
-
-pub loop-left-preserved : goal.loop-left-preserved
-loop-left-preserved c = elim c.if-text-i-eq-LF.branch [
-  | then-text-i-eq-LF w ↦ rw w.left-is (line_passed c.loop-left.invariant c.loop-left-test.true c.if-text-i.false w.if-text-i-eq-LF.true)
-  | else-text-i-eq-LF w ↦ rw w.left-is (line_other c.loop-left.invariant c.loop-left-test.true c.if-text-i.false w.if-text-i-eq-LF.false)
+pub loop-i-preserved : goal.loop-i-preserved
+loop-i-preserved c = elim c.if-byte-eq-LF.branch [
+  | then-byte-eq-LF w ↦ rw w.left-is (line_passed c.loop-i.invariant (omega arith) c.loop-i-test.true w.if-byte-eq-LF.true)
+  | else-byte-eq-LF w ↦ rw w.left-is (line_other c.loop-i.invariant (omega arith) c.loop-i-test.true w.if-byte-eq-LF.false)
 ]
 
 pub returns : goal.returns
-returns c = (c.loop-left.invariant.inside, line_found c.loop-left.invariant c.loop-left-test.false)
+returns c = (omega arith, ap (λ i. drop i c.args.text.now) (omega (arith, c.loop-i.invariant.inside)) ∙ line_ended c.loop-i.invariant c.loop-i-test.false)

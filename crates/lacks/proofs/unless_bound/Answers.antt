@@ -2,10 +2,10 @@
 use Rattle.lacks.specs.Lacking.{unless_bound}
 use Rattle.lacks.proofs.unless_bound.Goals as goal
 
-pub returns-in-Value : goal.returns-in-Value
+pub returns-in-Some : goal.returns-in-Some
 unfolding unless_bound
-returns-in-Value c = rw c.in-Value.is
+returns-in-Some c = rw c.in-Some.is
 
-pub returns-in-Nothing : goal.returns-in-Nothing
+pub returns-in-None : goal.returns-in-None
 unfolding unless_bound
-returns-in-Nothing c = rw c.in-Nothing.is
+returns-in-None c = rw c.in-None.is

@@ -23,14 +23,14 @@ pub overflow_add-at-2 : goal.overflow_add-at-2
 unfolding swap_fields child_by then
 overflow_add-at-2 c = let l = inside c.args.s.now (c.args.at + 1) (omega (arith, c.byte_at.ensures, c.if-byte_at-ne-TAB.false)) in omega (arith, l)
 
-pub returns-in_default : goal.returns-in_default
+pub returns-in_err-variable : goal.returns-in_err-variable
 unfolding swap_fields child_by then
-returns-in_default c = record { seen = λ nodes q. sym (rw (ended_is c.args.s.now (get_or c.args.s.now c.args.at 0) (c.args.at + 1) 9 (omega arith) (sym c.byte_at.ensures ∙ c.if-byte_at-ne-TAB.false), next_two c.args.at, told_bad c.args.s.now c.decimal_field-x.ensures c.in_default.is)); within = tt }
+returns-in_err-variable c = rw c.from_residual.ensures record { seen = λ nodes q. sym (rw (ended_is c.args.s.now (get_or c.args.s.now c.args.at 0) (c.args.at + 1) 9 (omega arith) (sym c.byte_at.ensures ∙ c.if-byte_at-ne-TAB.false), next_two c.args.at, told_bad c.args.s.now c.decimal_field.ensures c.in_err-variable.was)); within = tt }
 
-pub returns-in_default-y : goal.returns-in_default-y
+pub returns-in_err-line : goal.returns-in_err-line
 unfolding swap_fields child_by then
-returns-in_default-y c = record { seen = λ nodes q. sym (rw (ended_is c.args.s.now (get_or c.args.s.now c.args.at 0) (c.args.at + 1) 9 (omega arith) (sym c.byte_at.ensures ∙ c.if-byte_at-ne-TAB.false), next_two c.args.at, told c.args.s.now c.decimal_field-x.ensures c.in-Is.is, q, told_bad c.args.s.now c.decimal_field-y.ensures c.in_default-y.is)); within = tt }
+returns-in_err-line c = rw c.from_residual-in_err-line.ensures record { seen = λ nodes q. sym (rw (ended_is c.args.s.now (get_or c.args.s.now c.args.at 0) (c.args.at + 1) 9 (omega arith) (sym c.byte_at.ensures ∙ c.if-byte_at-ne-TAB.false), next_two c.args.at, told c.args.s.now c.decimal_field.ensures c.in_ok-variable.was, q, told_bad c.args.s.now c.decimal_field-2.ensures c.in_err-line.was)); within = tt }
 
 pub returns : goal.returns
 unfolding swap_fields child_by then
-returns c = record { seen = λ nodes q. sym (rw (ended_is c.args.s.now (get_or c.args.s.now c.args.at 0) (c.args.at + 1) 9 (omega arith) (sym c.byte_at.ensures ∙ c.if-byte_at-ne-TAB.false), next_two c.args.at, told c.args.s.now c.decimal_field-x.ensures c.in-Is.is, q, told c.args.s.now c.decimal_field-y.ensures c.in-Is-y.is)); within = told_below c.args.s.now _ _ _ c.decimal_field-y.ensures c.in-Is-y.is }
+returns c = record { seen = λ nodes q. sym (rw (ended_is c.args.s.now (get_or c.args.s.now c.args.at 0) (c.args.at + 1) 9 (omega arith) (sym c.byte_at.ensures ∙ c.if-byte_at-ne-TAB.false), next_two c.args.at, told c.args.s.now c.decimal_field.ensures c.in_ok-variable.was, q, told c.args.s.now c.decimal_field-2.ensures c.in_ok-line.was)); within = told_below c.args.s.now _ _ _ c.decimal_field-2.ensures c.in_ok-line.was }

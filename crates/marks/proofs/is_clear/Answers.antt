@@ -1,19 +1,12 @@
--- `is_clear` meets its contract: no mark that was passed is other than 0. Assumes nothing.
-use native.Mathlib.Omega.{arith}
-use Rattle.marks.proofs.Numbering.{none_passed, clear_on, not_clear, all_clear}
+-- `is_clear` meets its contract. Assumes nothing.
+use Rattle.std.proofs.Common.{rules, ◌∙◌, nat_eq}
+use Rattle.std.proofs.lemmas.Iterator.{YieldsList-from_slice}
+use Rattle.std.proofs.lemmas.Iterator.Search.{all_from_yields_List}
+use borrow.Author.Tests.{tests}
+use Rattle.marks.proofs.Numbering.{none_marked}
 use Rattle.marks.proofs.is_clear.Goals as goal
 
-pub loop-k-init : goal.loop-k-init
-loop-k-init c = none_passed _
-
-pub returns-then-marks-k-ne0 : goal.returns-then-marks-k-ne0
-returns-then-marks-k-ne0 c = not_clear c.loop-k.invariant c.loop-k-test.true c.if-marks-k-ne0.true
-
-pub loop-k-smaller : goal.loop-k-smaller
-loop-k-smaller c = omega (arith, c.loop-k-test.true)
-
-pub loop-k-preserved : goal.loop-k-preserved
-loop-k-preserved c = clear_on c.loop-k.invariant c.loop-k-test.true c.if-marks-k-ne0.false
-
 pub returns : goal.returns
-returns c = all_clear c.loop-k.invariant c.loop-k-test.false
+returns c =
+    all_from_yields_List (λ x. nat_eq x 0) _ _ c.all.result c.all.ensures.ran (YieldsList-from_slice c.args.marks.now cc) (λ x b q k. search (rules, tests))
+    ∙ none_marked 0 c.args.marks.now

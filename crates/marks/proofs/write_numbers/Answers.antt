@@ -10,9 +10,6 @@ loop-k-init c = begins _ _ _ _
 pub write_mark-next-requires : goal.write_mark-next-requires
 write_mark-next-requires c = (omega (arith, c.requires.0, c.loop-k-test.true), omega (arith, c.requires.0, c.requires.1, c.loop-k-test.true, c.loop-k.invariant.few, put_length c.loop-k.invariant.put))
 
-pub loop-k-smaller : goal.loop-k-smaller
-loop-k-smaller c = omega (arith, c.loop-k-test.true)
-
 pub loop-k-preserved : goal.loop-k-preserved
 loop-k-preserved c = goes_on c.loop-k.invariant c.loop-k-test.true c.write_mark-next.ensures
 

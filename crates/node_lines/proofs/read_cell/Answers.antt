@@ -8,22 +8,22 @@ use Rattle.text.proofs.Fields.{told, told_place, told_bad, told_below}
 use Rattle.origins.proofs.Ending.{line_ends, end_below}
 use Rattle.node_lines.proofs.read_cell.Goals as goal
 
-pub returns-in_default : goal.returns-in_default
+pub returns-in_err-region : goal.returns-in_err-region
 unfolding cell_fields then grown
-returns-in_default c = λ lines. record { seen = λ earlier q. sym (rw (told_bad c.args.s.now c.decimal_field-x.ensures c.in_default.is)); inside = tt; within = tt }
+returns-in_err-region c = λ lines. rw c.from_residual.ensures record { seen = λ earlier q. sym (rw (told_bad c.args.s.now c.decimal_field.ensures c.in_err-region.was)); inside = tt; within = tt }
 
-pub returns-in_default-y : goal.returns-in_default-y
+pub returns-in_err-index : goal.returns-in_err-index
 unfolding cell_fields then grown
-returns-in_default-y c = λ lines. record { seen = λ earlier q. sym (rw (told c.args.s.now c.decimal_field-x.ensures c.in-Is.is, told_bad c.args.s.now (line_ends c.end_line-y.ensures c.read_decimal.ensures) c.in_default-y.is)); inside = tt; within = tt }
+returns-in_err-index c = λ lines. rw c.from_residual-in_err-index.ensures record { seen = λ earlier q. sym (rw (told c.args.s.now c.decimal_field.ensures c.in_ok-region.was, told_bad c.args.s.now (line_ends c.end_line.ensures c.read_decimal.ensures) c.in_err-index.was)); inside = tt; within = tt }
 
 pub overflow_cast-result : goal.overflow_cast-result
 unfolding cell_fields then grown
-overflow_cast-result c = let l = told_below c.args.s.now _ _ _ c.decimal_field-x.ensures c.in-Is.is in omega (arith, l)
+overflow_cast-result c = let l = told_below c.args.s.now _ _ _ c.decimal_field.ensures c.in_ok-region.was in omega (arith, l)
 
 pub overflow_cast-result-2 : goal.overflow_cast-result-2
 unfolding cell_fields then grown
-overflow_cast-result-2 c = let l = end_below c.args.s.now _ _ (line_ends c.end_line-y.ensures c.read_decimal.ensures) c.in-Is-y.is in omega (arith, l)
+overflow_cast-result-2 c = let l = end_below c.args.s.now _ _ (line_ends c.end_line.ensures c.read_decimal.ensures) c.in_ok-index.was in omega (arith, l)
 
 pub returns : goal.returns
 unfolding cell_fields then grown
-returns c = λ lines. record { seen = λ earlier q. sym (rw (told c.args.s.now c.decimal_field-x.ensures c.in-Is.is, told c.args.s.now (line_ends c.end_line-y.ensures c.read_decimal.ensures) c.in-Is-y.is)); inside = told_place c.args.s.now (line_ends c.end_line-y.ensures c.read_decimal.ensures) c.in-Is-y.is; within = tt }
+returns c = λ lines. record { seen = λ earlier q. sym (rw (told c.args.s.now c.decimal_field.ensures c.in_ok-region.was, told c.args.s.now (line_ends c.end_line.ensures c.read_decimal.ensures) c.in_ok-index.was)); inside = told_place c.args.s.now (line_ends c.end_line.ensures c.read_decimal.ensures) c.in_ok-index.was; within = tt }

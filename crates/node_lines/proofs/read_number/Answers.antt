@@ -7,14 +7,14 @@ use Rattle.text.proofs.Fields.{told, told_place, told_bad}
 use Rattle.origins.proofs.Ending.{line_ends}
 use Rattle.node_lines.proofs.read_number.Goals as goal
 
-pub returns-in_default : goal.returns-in_default
+pub returns-in_err-re : goal.returns-in_err-re
 unfolding number_fields then grown
-returns-in_default c = λ lines. record { seen = λ earlier q. sym (rw (told_bad c.args.s.now c.hex_field-x.ensures c.in_default.is)); inside = tt; within = tt }
+returns-in_err-re c = λ lines. rw c.from_residual.ensures record { seen = λ earlier q. sym (rw (told_bad c.args.s.now c.hex_field.ensures c.in_err-re.was)); inside = tt; within = tt }
 
-pub returns-in_default-y : goal.returns-in_default-y
+pub returns-in_err-im : goal.returns-in_err-im
 unfolding number_fields then grown
-returns-in_default-y c = λ lines. record { seen = λ earlier q. sym (rw (told c.args.s.now c.hex_field-x.ensures c.in-Is.is, told_bad c.args.s.now (line_ends c.end_line-y.ensures c.read_hex.ensures) c.in_default-y.is)); inside = tt; within = tt }
+returns-in_err-im c = λ lines. rw c.from_residual-in_err-im.ensures record { seen = λ earlier q. sym (rw (told c.args.s.now c.hex_field.ensures c.in_ok-re.was, told_bad c.args.s.now (line_ends c.end_line.ensures c.read_hex.ensures) c.in_err-im.was)); inside = tt; within = tt }
 
 pub returns : goal.returns
 unfolding number_fields then grown
-returns c = λ lines. record { seen = λ earlier q. sym (rw (told c.args.s.now c.hex_field-x.ensures c.in-Is.is, told c.args.s.now (line_ends c.end_line-y.ensures c.read_hex.ensures) c.in-Is-y.is, c.from_bits.ensures, c.from_bits-2.ensures)); inside = told_place c.args.s.now (line_ends c.end_line-y.ensures c.read_hex.ensures) c.in-Is-y.is; within = tt }
+returns c = λ lines. record { seen = λ earlier q. sym (rw (told c.args.s.now c.hex_field.ensures c.in_ok-re.was, told c.args.s.now (line_ends c.end_line.ensures c.read_hex.ensures) c.in_ok-im.was, c.from_bits.ensures, c.from_bits-2.ensures)); inside = told_place c.args.s.now (line_ends c.end_line.ensures c.read_hex.ensures) c.in_ok-im.was; within = tt }

@@ -6,10 +6,10 @@ use Rattle.text.proofs.Fields.{told, told_place, told_bad}
 use Rattle.node_lines.specs.NodeLines.{pi_line}
 use Rattle.node_lines.proofs.read_pi.Goals as goal
 
-pub returns-in_default : goal.returns-in_default
+pub returns-in_err-next : goal.returns-in_err-next
 unfolding pi_line then grown
-returns-in_default c lines = record { seen = λ earlier q. sym (rw (told_bad c.args.s.now c.end_line-x.ensures c.in_default.is)); inside = tt; within = tt }
+returns-in_err-next c lines = rw c.from_residual.ensures record { seen = λ earlier q. sym (rw (told_bad c.args.s.now c.end_line.ensures c.in_err-next.was)); inside = tt; within = tt }
 
 pub returns : goal.returns
 unfolding pi_line then grown
-returns c lines = record { seen = λ earlier q. sym (rw (told c.args.s.now c.end_line-x.ensures c.in-Is.is)); inside = told_place c.args.s.now c.end_line-x.ensures c.in-Is.is; within = tt }
+returns c lines = record { seen = λ earlier q. sym (rw (told c.args.s.now c.end_line.ensures c.in_ok-next.was)); inside = told_place c.args.s.now c.end_line.ensures c.in_ok-next.was; within = tt }

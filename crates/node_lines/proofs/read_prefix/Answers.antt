@@ -7,14 +7,14 @@ use Rattle.text.proofs.Fields.{told, told_place, told_bad, ends}
 use Rattle.origins.proofs.Ending.{line_ends, end_below}
 use Rattle.node_lines.proofs.read_prefix.Goals as goal
 
-pub returns-in_default : goal.returns-in_default
+pub returns-in_err-o : goal.returns-in_err-o
 unfolding prefix_fields child_by then grown
-returns-in_default c = record { seen = λ earlier q. sym (rw (told_bad c.args.s.now (ends 9 c.end_field-x.ensures c.prefix_at.ensures) c.in_default.is)); inside = tt; within = tt }
+returns-in_err-o c = rw c.from_residual.ensures record { seen = λ earlier q. sym (rw (told_bad c.args.s.now (ends 9 c.end_field.ensures c.prefix_at.ensures) c.in_err-o.was)); inside = tt; within = tt }
 
-pub returns-in_default-y : goal.returns-in_default-y
+pub returns-in_err-child : goal.returns-in_err-child
 unfolding prefix_fields child_by then grown
-returns-in_default-y c = record { seen = λ earlier q. sym (rw (told c.args.s.now (ends 9 c.end_field-x.ensures c.prefix_at.ensures) c.in-Is.is, q, told_bad c.args.s.now (line_ends c.end_line-y.ensures c.read_decimal.ensures) c.in_default-y.is)); inside = tt; within = tt }
+returns-in_err-child c = rw c.from_residual-in_err-child.ensures record { seen = λ earlier q. sym (rw (told c.args.s.now (ends 9 c.end_field.ensures c.prefix_at.ensures) c.in_ok-o.was, q, told_bad c.args.s.now (line_ends c.end_line.ensures c.read_decimal.ensures) c.in_err-child.was)); inside = tt; within = tt }
 
 pub returns : goal.returns
 unfolding prefix_fields child_by then grown
-returns c = record { seen = λ earlier q. sym (rw (told c.args.s.now (ends 9 c.end_field-x.ensures c.prefix_at.ensures) c.in-Is.is, q, told c.args.s.now (line_ends c.end_line-y.ensures c.read_decimal.ensures) c.in-Is-y.is, c.from_code.ensures)); inside = told_place c.args.s.now (line_ends c.end_line-y.ensures c.read_decimal.ensures) c.in-Is-y.is; within = end_below c.args.s.now _ _ (line_ends c.end_line-y.ensures c.read_decimal.ensures) c.in-Is-y.is }
+returns c = record { seen = λ earlier q. sym (rw (told c.args.s.now (ends 9 c.end_field.ensures c.prefix_at.ensures) c.in_ok-o.was, q, told c.args.s.now (line_ends c.end_line.ensures c.read_decimal.ensures) c.in_ok-child.was, c.from_code.ensures)); inside = told_place c.args.s.now (line_ends c.end_line.ensures c.read_decimal.ensures) c.in_ok-child.was; within = end_below c.args.s.now _ _ (line_ends c.end_line.ensures c.read_decimal.ensures) c.in_ok-child.was }

@@ -9,14 +9,14 @@ use lib.ListN.{drop}
 use Rattle.origins.proofs.Ending.{line_ends, end_below}
 use Rattle.node_lines.proofs.read_variable.Goals as goal
 
-pub returns-in_default : goal.returns-in_default
+pub returns-in_err-number : goal.returns-in_err-number
 unfolding variable_fields then grown
-returns-in_default c = λ lines. record { seen = λ earlier q. sym (rw (told_bad c.args.s.now (line_ends c.end_line-x.ensures c.read_decimal.ensures) c.in_default.is)); inside = tt; within = tt }
+returns-in_err-number c = λ lines. rw c.from_residual.ensures record { seen = λ earlier q. sym (rw (told_bad c.args.s.now (line_ends c.end_line.ensures c.read_decimal.ensures) c.in_err-number.was)); inside = tt; within = tt }
 
 pub overflow_cast-result : goal.overflow_cast-result
 unfolding variable_fields then grown
-overflow_cast-result c = let l = end_below c.args.s.now 65536 (drop c.args.at c.args.s.now) (line_ends c.end_line-x.ensures c.read_decimal.ensures) c.in-Is.is in omega (arith, l)
+overflow_cast-result c = let l = end_below c.args.s.now 65536 (drop c.args.at c.args.s.now) (line_ends c.end_line.ensures c.read_decimal.ensures) c.in_ok-number.was in omega (arith, l)
 
 pub returns : goal.returns
 unfolding variable_fields then grown
-returns c = λ lines. record { seen = λ earlier q. sym (rw (told c.args.s.now (line_ends c.end_line-x.ensures c.read_decimal.ensures) c.in-Is.is)); inside = told_place c.args.s.now (line_ends c.end_line-x.ensures c.read_decimal.ensures) c.in-Is.is; within = tt }
+returns c = λ lines. record { seen = λ earlier q. sym (rw (told c.args.s.now (line_ends c.end_line.ensures c.read_decimal.ensures) c.in_ok-number.was)); inside = told_place c.args.s.now (line_ends c.end_line.ensures c.read_decimal.ensures) c.in_ok-number.was; within = tt }

@@ -16,12 +16,6 @@ fields_at-requires c = omega (arith, c.loop-i-test.true)
 pub write_line-at-requires : goal.write_line-at-requires
 write_line-at-requires c = room c.loop-i.invariant c.loop-i-test.true c.requires
 
-pub overflow_add-i : goal.overflow_add-i
-overflow_add-i c = omega (arith, c.loop-i-test.true)
-
-pub loop-i-smaller : goal.loop-i-smaller
-loop-i-smaller c = omega (arith, c.loop-i-test.true)
-
 pub loop-i-preserved : goal.loop-i-preserved
 loop-i-preserved c = goes_on c.loop-i.invariant c.loop-i-test.true c.fields_at.ensures c.step_of-step.ensures c.write_line-at.ensures
 

@@ -4,7 +4,7 @@ use mathlib.Core.Path.{refl, ◌≡◌}
 use lib.Dec.{lit<}
 use Prim.Native.Nat.{ℕ, ◌<◌, ◌+◌, ◌*◌, ◌-◌}
 use Rattle.expression.specs.Nodes.{grown}
-use Rattle.simplification.proofs.Operating.{folded_by, performed, sound_counted, still, was_kept, was_done, carried, later, chosen_later}
+use Rattle.simplification.proofs.Operating.{folded_by, performed, sound_counted, still, was_kept, was_done, was_refused, carried, later, chosen_later}
 use Rattle.store.proofs.Building.{stays, named, older, then_node, then_refused}
 use Rattle.simplification.specs.Simplifying.{carry_out, perform, simplify_function_call, simplify_infix, simplify_prefix}
 use native.Mathlib.Omega.{arith}
@@ -24,70 +24,55 @@ lowered m k a b e l h = omega arith
 pub falls_to : (m k a : ℕ) {t : ℕ} → 16 * m + 0 ≡ t → (m ≡ 0 → ⊥) → k ≡ m - 1 → a < 16 → 16 * k + a < t
 falls_to m k a e p l h = omega arith
 
-pub add_simplified-again-left-requires : goal.add_simplified-again-left-requires
-add_simplified-again-left-requires t c = (down c.args.limit.0 2 3 c.decreases (lit< tt), tt)
+pub add_simplified-again-requires-2 : goal.add_simplified-again-requires-2
+add_simplified-again-requires-2 t c = (down c.args.limit.0 2 3 c.decreases (lit< tt), tt)
 
-pub add_simplified-returns-then-left-ge-REFUSED : goal.add_simplified-returns-then-left-ge-REFUSED
-add_simplified-returns-then-left-ge-REFUSED t c = λ held h w. added_refused _ _ _ _ _ (c.again-left.ensures held h w.0) c.if-left-ge-REFUSED.true
-
-pub add_simplified-again-right-requires : goal.add_simplified-again-right-requires
-add_simplified-again-right-requires t c = (down c.args.limit.0 2 3 c.decreases (lit< tt), tt)
-
-pub add_simplified-returns-then-right-ge-REFUSED : goal.add_simplified-returns-then-right-ge-REFUSED
-add_simplified-returns-then-right-ge-REFUSED t c = λ held h w. added_second _ _ _ c.args.b _ w.1 (c.again-left.ensures held h w.0) c.if-left-ge-REFUSED.false (λ p. c.again-right.ensures held p.sound (within_older p c.args.b w.1)) c.if-right-ge-REFUSED.true
+pub add_simplified-returns-in_err-left : goal.add_simplified-returns-in_err-left
+add_simplified-returns-in_err-left t c = λ held h w. added_refused _ _ _ _ _ (c.again.ensures held h w.0) c.in_err-left.was c.from_residual.ensures.0
 
 pub add_simplified-again-requires : goal.add_simplified-again-requires
 add_simplified-again-requires t c = (down c.args.limit.0 2 3 c.decreases (lit< tt), tt)
 
+pub add_simplified-returns-in_err-right : goal.add_simplified-returns-in_err-right
+add_simplified-returns-in_err-right t c = λ held h w. added_second _ _ _ c.args.b _ w.1 (c.again.ensures held h w.0) c.in_ok-left.was (λ p. c.again-2.ensures held p.sound (within_older p c.args.b w.1)) c.in_err-right.was c.from_residual-in_err-right.ensures.0
+
+pub add_simplified-again-requires-3 : goal.add_simplified-again-requires-3
+add_simplified-again-requires-3 t c = (down c.args.limit.0 2 3 c.decreases (lit< tt), tt)
+
 pub add_simplified-returns : goal.add_simplified-returns
-add_simplified-returns t c = λ held h w. added_node _ _ _ c.args.b _ w.1 (c.again-left.ensures held h w.0) c.if-left-ge-REFUSED.false (λ p. c.again-right.ensures held p.sound (within_older p c.args.b w.1)) c.if-right-ge-REFUSED.false λ g x y. c.again.ensures held g (x, y)
+add_simplified-returns t c = λ held h w. added_node _ _ _ c.args.b _ w.1 (c.again.ensures held h w.0) c.in_ok-left.was (λ p. c.again-2.ensures held p.sound (within_older p c.args.b w.1)) c.in_ok-right.was λ g x y. c.again-3.ensures held g (x, y)
 
-pub affine-again-sum_as-requires : goal.affine-again-sum_as-requires
-affine-again-sum_as-requires t c = (down c.args.limit.0 2 4 c.decreases (lit< tt), tt)
+pub affine-again-requires : goal.affine-again-requires
+affine-again-requires t c = (down c.args.limit.0 2 4 c.decreases (lit< tt), tt)
 
-pub affine-returns-then-sum_as-ge-REFUSED : goal.affine-returns-then-sum_as-ge-REFUSED
+pub affine-returns-in_err-sum_as : goal.affine-returns-in_err-sum_as
 unfolding grown
-affine-returns-then-sum_as-ge-REFUSED t c = λ held h w. affine_refused _ _ _ c.args.a c.args.x c.args.b _ (c.again-sum_as.ensures held h w.0) c.if-sum_as-ge-REFUSED.true
+affine-returns-in_err-sum_as t c = λ held h w. affine_refused _ _ _ c.args.a c.args.x c.args.b _ (c.again.ensures held h w.0) c.in_err-sum_as.was c.from_residual.ensures.0
 
-pub affine-again-sum_bs-requires : goal.affine-again-sum_bs-requires
-affine-again-sum_bs-requires t c = (down c.args.limit.0 2 4 c.decreases (lit< tt), tt)
+pub affine-again-requires-2 : goal.affine-again-requires-2
+affine-again-requires-2 t c = (down c.args.limit.0 2 4 c.decreases (lit< tt), tt)
 
-pub affine-returns-then-sum_bs-ge-REFUSED : goal.affine-returns-then-sum_bs-ge-REFUSED
+pub affine-returns-in_err-sum_bs : goal.affine-returns-in_err-sum_bs
 unfolding grown
-affine-returns-then-sum_bs-ge-REFUSED t c = λ held h w. affine_second _ _ _ c.args.a c.args.x c.args.b _ w.2 (c.again-sum_as.ensures held h w.0) c.if-sum_as-ge-REFUSED.false (λ p. c.again-sum_bs.ensures held p.sound (within_older p c.args.b w.2)) c.if-sum_bs-ge-REFUSED.true
+affine-returns-in_err-sum_bs t c = λ held h w. affine_second _ _ _ c.args.a c.args.x c.args.b _ w.2 (c.again.ensures held h w.0) c.in_ok-sum_as.was (λ p. c.again-2.ensures held p.sound (within_older p c.args.b w.2)) c.in_err-sum_bs.was c.from_residual-in_err-sum_bs.ensures.0
 
 pub affine-regroup-requires : goal.affine-regroup-requires
 affine-regroup-requires t c = (down c.args.limit.0 3 4 c.decreases (lit< tt), tt)
 
 pub affine-returns : goal.affine-returns
 unfolding grown
-affine-returns t c = λ held h w. affine_node _ _ _ c.args.a c.args.x c.args.b _ w.1 w.2 (c.again-sum_as.ensures held h w.0) c.if-sum_as-ge-REFUSED.false (λ p. c.again-sum_bs.ensures held p.sound (within_older p c.args.b w.2)) c.if-sum_bs-ge-REFUSED.false λ g i x j. c.regroup.ensures held g ((i, x), j)
+affine-returns t c = λ held h w. affine_node _ _ _ c.args.a c.args.x c.args.b _ w.1 w.2 (c.again.ensures held h w.0) c.in_ok-sum_as.was (λ p. c.again-2.ensures held p.sound (within_older p c.args.b w.2)) c.in_ok-sum_bs.was λ g i x j. c.regroup.ensures held g ((i, x), j)
 
-pub again-add-added-requires : goal.again-add-added-requires
-again-add-added-requires t c = tt
-
-pub again-returns-then-added-ge-REFUSED : goal.again-returns-then-added-ge-REFUSED
+pub again-returns-in_err-added : goal.again-returns-in_err-added
 unfolding grown
-again-returns-then-added-ge-REFUSED t c = λ held h w. again_refused _ _ _ _ (c.add-added.ensures h w) c.if-added-ge-REFUSED.true
+again-returns-in_err-added t c = λ held h w. again_refused _ _ _ _ (c.add.ensures h w) c.in_err-added.was c.from_residual.ensures.0
 
 pub again-simplify-requires : goal.again-simplify-requires
 again-simplify-requires t c = (down c.args.limit.0 1 2 c.decreases (lit< tt), tt)
 
 pub again-returns : goal.again-returns
 unfolding grown
-again-returns t c = λ held h w. again_node _ _ _ _ (c.add-added.ensures h w) c.if-added-ge-REFUSED.false λ p. c.simplify.ensures held p.sound p.inside
-
-pub carry_out-add-requires : goal.carry_out-add-requires
-carry_out-add-requires t c = tt
-
-pub carry_out-calculate_infix-asked-requires : goal.carry_out-calculate_infix-asked-requires
-carry_out-calculate_infix-asked-requires t c = tt
-
-pub carry_out-store_value-requires : goal.carry_out-store_value-requires
-carry_out-store_value-requires t c = tt
-
-pub carry_out-calculate_function-asked-requires : goal.carry_out-calculate_function-asked-requires
-carry_out-calculate_function-asked-requires t c = tt
+again-returns t c = λ held h w. again_node _ _ _ _ (c.add.ensures h w) c.in_ok-added.was λ p. c.simplify.ensures held p.sound p.inside
 
 pub carry_out-store_value-requires-in-Call : goal.carry_out-store_value-requires-in-Call
 carry_out-store_value-requires-in-Call t c = tt
@@ -157,69 +142,39 @@ pub carry_out-returns-in-Affine : goal.carry_out-returns-in-Affine
 unfolding carry_out
 carry_out-returns-in-Affine t c = rw c.in-Affine.is c.affine.ensures
 
-pub distribute-add-product-requires : goal.distribute-add-product-requires
-distribute-add-product-requires t c = tt
+pub distribute-returns-in_err-product : goal.distribute-returns-in_err-product
+distribute-returns-in_err-product t c = λ held h w. lesser_refused _ _ _ _ _ (c.add.ensures h w.0) c.in_err-product.was c.from_residual.ensures.0
 
-pub distribute-returns-then-product-ge-REFUSED : goal.distribute-returns-then-product-ge-REFUSED
-distribute-returns-then-product-ge-REFUSED t c = λ held h w. lesser_refused _ _ _ _ _ (c.add-product.ensures h w.0) c.if-product-ge-REFUSED.true
+pub distribute-add_simplified-requires : goal.distribute-add_simplified-requires
+distribute-add_simplified-requires t c = (down c.args.limit.0 3 4 c.decreases (lit< tt), tt)
 
-pub distribute-add_simplified-sum-requires : goal.distribute-add_simplified-sum-requires
-distribute-add_simplified-sum-requires t c = (down c.args.limit.0 3 4 c.decreases (lit< tt), tt)
-
-pub distribute-returns-then-sum-ge-REFUSED : goal.distribute-returns-then-sum-ge-REFUSED
-distribute-returns-then-sum-ge-REFUSED t c = λ held h w. lesser_second _ _ _ _ _ (c.add-product.ensures h w.0) c.if-product-ge-REFUSED.false (λ p. named (added_later _ _ p c.args.a c.args.b w.1 w.2 _) (c.add_simplified-sum.ensures held p.sound (within_older p c.args.a w.1, within_older p c.args.b w.2))) c.if-sum-ge-REFUSED.true
-
-pub distribute-smaller-requires : goal.distribute-smaller-requires
-distribute-smaller-requires t c = tt
+pub distribute-returns-in_err-sum : goal.distribute-returns-in_err-sum
+distribute-returns-in_err-sum t c = λ held h w. lesser_second _ _ _ _ _ (c.add.ensures h w.0) c.in_ok-product.was (λ p. named (added_later _ _ p c.args.a c.args.b w.1 w.2 _) (c.add_simplified.ensures held p.sound (within_older p c.args.a w.1, within_older p c.args.b w.2))) c.in_err-sum.was c.from_residual-in_err-sum.ensures.0
 
 pub distribute-returns : goal.distribute-returns
-distribute-returns t c = λ held h w. lesser_node _ _ _ _ _ (c.add-product.ensures h w.0) c.if-product-ge-REFUSED.false (λ p. named (added_later _ _ p c.args.a c.args.b w.1 w.2 _) (c.add_simplified-sum.ensures held p.sound (within_older p c.args.a w.1, within_older p c.args.b w.2))) c.if-sum-ge-REFUSED.false (λ g. c.smaller.ensures _ g.holds)
+distribute-returns t c = λ held h w. lesser_node _ _ _ _ _ (c.add.ensures h w.0) c.in_ok-product.was (λ p. named (added_later _ _ p c.args.a c.args.b w.1 w.2 _) (c.add_simplified.ensures held p.sound (within_older p c.args.a w.1, within_older p c.args.b w.2))) c.in_ok-sum.was (λ g. c.smaller.ensures _ g.holds)
 
-pub double-two-requires : goal.double-two-requires
-double-two-requires t c = tt
-
-pub double-add-factor-requires : goal.double-add-factor-requires
-double-add-factor-requires t c = tt
-
-pub double-returns-then-factor-ge-REFUSED : goal.double-returns-then-factor-ge-REFUSED
+pub double-returns-in_err-factor : goal.double-returns-in_err-factor
 unfolding grown
-double-returns-then-factor-ge-REFUSED t c = λ held h w. double_refused _ _ _ _ _ _ _ (rw c.two.ensures at (c.add-factor.ensures h tt)) c.if-factor-ge-REFUSED.true
+double-returns-in_err-factor t c = λ held h w. double_refused _ _ _ _ _ _ _ (rw c.two.ensures at (c.add.ensures h tt)) c.in_err-factor.was c.from_residual.ensures.0
 
 pub double-add_simplified-requires : goal.double-add_simplified-requires
 double-add_simplified-requires t c = (down c.args.limit.0 3 4 c.decreases (lit< tt), tt)
 
 pub double-returns : goal.double-returns
 unfolding grown
-double-returns t c = λ held h w. double_node _ _ _ _ _ _ _ w.0 w.1 w.2 (rw c.two.ensures at (c.add-factor.ensures h tt)) c.if-factor-ge-REFUSED.false λ p. c.add_simplified.ensures held p.sound ((p.inside, older p w.0), (older p w.1, older p w.2))
+double-returns t c = λ held h w. double_node _ _ _ _ _ _ _ w.0 w.1 w.2 (rw c.two.ensures at (c.add.ensures h tt)) c.in_ok-factor.was λ p. c.add_simplified.ensures held p.sound ((p.inside, older p w.0), (older p w.1, older p w.2))
 
-pub inverse-one-requires : goal.inverse-one-requires
-inverse-one-requires t c = tt
-
-pub inverse-add-dividend-requires : goal.inverse-add-dividend-requires
-inverse-add-dividend-requires t c = tt
-
-pub inverse-returns-then-dividend-ge-REFUSED : goal.inverse-returns-then-dividend-ge-REFUSED
+pub inverse-returns-in_err-dividend : goal.inverse-returns-in_err-dividend
 unfolding grown
-inverse-returns-then-dividend-ge-REFUSED t c = λ held h l. inverse_refused _ _ _ _ _ (rw c.one.ensures at (c.add-dividend.ensures h tt)) c.if-dividend-ge-REFUSED.true
+inverse-returns-in_err-dividend t c = λ held h l. inverse_refused _ _ _ _ _ (rw c.one.ensures at (c.add.ensures h tt)) c.in_err-dividend.was c.from_residual.ensures.0
 
 pub inverse-again-requires : goal.inverse-again-requires
 inverse-again-requires t c = (down c.args.limit.0 2 3 c.decreases (lit< tt), tt)
 
 pub inverse-returns : goal.inverse-returns
 unfolding grown
-inverse-returns t c = λ held h l. inverse_node _ _ _ _ _ l (rw c.one.ensures at (c.add-dividend.ensures h tt)) c.if-dividend-ge-REFUSED.false λ p. c.again.ensures held p.sound (p.inside, older p l)
-
-pub perform-task_at-task-requires : goal.perform-task_at-task-requires
-perform-task_at-task-requires t c = tt
-
-pub perform-lowered-limit-requires : goal.perform-lowered-limit-requires
-perform-lowered-limit-requires t c = tt
-
-pub perform-pi-requires : goal.perform-pi-requires
-perform-pi-requires t c = tt
-
-pub perform-add-requires : goal.perform-add-requires
-perform-add-requires t c = tt
+inverse-returns t c = λ held h l. inverse_node _ _ _ _ _ l (rw c.one.ensures at (c.add.ensures h tt)) c.in_ok-dividend.was λ p. c.again.ensures held p.sound (p.inside, older p l)
 
 pub perform-simplify_function_call-requires : goal.perform-simplify_function_call-requires
 perform-simplify_function_call-requires t c = (falls_to c.args.limit.0 _ 6 c.decreases (λ z. rw c.in-FunctionCall.is at ((decided _ _ _ c.task_at-task.ensures).rests z)) c.lowered-limit.ensures (lit< tt), tt)
@@ -250,130 +205,95 @@ pub perform-returns-in-Prefix : goal.perform-returns-in-Prefix
 unfolding perform
 perform-returns-in-Prefix t c = λ held h x. performed _ _ _ _ (rw c.in-Prefix.is at (decided _ _ _ c.task_at-task.ensures)) x λ w. rw c.lowered-limit.ensures at (c.simplify_prefix.ensures held h w)
 
-pub regroup-again-it-requires : goal.regroup-again-it-requires
-regroup-again-it-requires t c = (down c.args.limit.0 2 3 c.decreases (lit< tt), tt)
-
-pub regroup-returns-then-it-ge-REFUSED : goal.regroup-returns-then-it-ge-REFUSED
-regroup-returns-then-it-ge-REFUSED t c = λ held h w. regroup_refused _ _ _ c.args.inner c.args.outer _ (c.again-it.ensures held h w.0) c.if-it-ge-REFUSED.true
-
-pub regroup-applied-requires : goal.regroup-applied-requires
-regroup-applied-requires t c = tt
-
 pub regroup-again-requires : goal.regroup-again-requires
 regroup-again-requires t c = (down c.args.limit.0 2 3 c.decreases (lit< tt), tt)
 
+pub regroup-returns-in_err-it : goal.regroup-returns-in_err-it
+regroup-returns-in_err-it t c = λ held h w. regroup_refused _ _ _ c.args.inner c.args.outer _ (c.again.ensures held h w.0) c.in_err-it.was c.from_residual.ensures.0
+
+pub regroup-again-requires-2 : goal.regroup-again-requires-2
+regroup-again-requires-2 t c = (down c.args.limit.0 2 3 c.decreases (lit< tt), tt)
+
 pub regroup-returns : goal.regroup-returns
-regroup-returns t c = λ held h w. regroup_node _ _ _ c.args.inner c.args.outer _ w.1 c.applied.ensures (c.again-it.ensures held h w.0) c.if-it-ge-REFUSED.false λ p v. c.again.ensures held p.sound v
+regroup-returns t c = λ held h w. regroup_node _ _ _ c.args.inner c.args.outer _ w.1 c.applied.ensures (c.again.ensures held h w.0) c.in_ok-it.was λ p v. c.again-2.ensures held p.sound v
 
-pub simplify-count_call-requires : goal.simplify-count_call-requires
-simplify-count_call-requires t c = tt
+pub simplify-returns-in-Some : goal.simplify-returns-in-Some
+simplify-returns-in-Some t c = λ held h l. was_kept _ _ _ l h c.count_call.ensures c.kept_at.ensures c.in-Some.is
 
-pub simplify-kept_at-kept-requires : goal.simplify-kept_at-kept-requires
-simplify-kept_at-kept-requires t c = tt
+pub simplify-perform-requires : goal.simplify-perform-requires
+simplify-perform-requires t c = (down c.args.limit.0 0 1 c.decreases (lit< tt), tt)
 
-pub simplify-shape_of-store-then-kept-ne0 : goal.simplify-shape_of-store-then-kept-ne0
-simplify-shape_of-store-then-kept-ne0 t c = refl
-
-pub simplify-returns-then-kept-ne0 : goal.simplify-returns-then-kept-ne0
-simplify-returns-then-kept-ne0 t c = λ held h l. was_kept _ _ l h c.count_call.ensures c.kept_at-kept.ensures c.if-kept-ne0.true
-
-pub simplify-expression_at-e-requires : goal.simplify-expression_at-e-requires
-simplify-expression_at-e-requires t c = tt
-
-pub simplify-perform-answer-requires : goal.simplify-perform-answer-requires
-simplify-perform-answer-requires t c = (down c.args.limit.0 0 1 c.decreases (lit< tt), tt)
-
-pub simplify-keep_answer-requires : goal.simplify-keep_answer-requires
-simplify-keep_answer-requires t c = tt
+pub simplify-returns-in_err-answer : goal.simplify-returns-in_err-answer
+simplify-returns-in_err-answer t c =
+    λ held h l.
+    let s = sound_counted _ c.count_call.ensures _ h in
+    let e = sits s.holds (still _ c.count_call.ensures l) c.expression_at-e.ensures in
+    was_refused _ _ _ l h c.count_call.ensures c.kept_at.ensures c.in_default.is e (c.perform.ensures held s e) c.in_err-answer.was c.from_residual.ensures.0
 
 pub simplify-returns : goal.simplify-returns
 simplify-returns t c =
     λ held h l.
     let s = sound_counted _ c.count_call.ensures _ h in
     let e = sits s.holds (still _ c.count_call.ensures l) c.expression_at-e.ensures in
-    was_done _ _ l h c.count_call.ensures c.kept_at-kept.ensures c.if-kept-ne0.false e (c.perform-answer.ensures held s e) c.keep_answer.ensures
+    was_done _ _ _ l h c.count_call.ensures c.kept_at.ensures c.in_default.is e (c.perform.ensures held s e) c.in_ok-answer.was c.keep.ensures
 
-pub simplify_function_call-simplify-x-requires : goal.simplify_function_call-simplify-x-requires
-simplify_function_call-simplify-x-requires t c = (down c.args.limit.0 1 6 c.decreases (lit< tt), tt)
+pub simplify_function_call-simplify-requires : goal.simplify_function_call-simplify-requires
+simplify_function_call-simplify-requires t c = (down c.args.limit.0 1 6 c.decreases (lit< tt), tt)
 
-pub simplify_function_call-returns-then-x-ge-REFUSED : goal.simplify_function_call-returns-then-x-ge-REFUSED
+pub simplify_function_call-returns-in_err-x : goal.simplify_function_call-returns-in_err-x
 unfolding simplify_function_call
-simplify_function_call-returns-then-x-ge-REFUSED t c = λ held h l. then_refused _ (c.simplify-x.ensures held h l) c.if-x-ge-REFUSED.true
-
-pub simplify_function_call-choose_function-arm-requires : goal.simplify_function_call-choose_function-arm-requires
-simplify_function_call-choose_function-arm-requires t c = tt
-
-pub simplify_function_call-lowered-limit-requires : goal.simplify_function_call-lowered-limit-requires
-simplify_function_call-lowered-limit-requires t c = tt
+simplify_function_call-returns-in_err-x t c = λ held h l. then_refused _ (c.simplify.ensures held h l) c.in_err-x.was c.from_residual.ensures.0
 
 pub simplify_function_call-carry_out-requires : goal.simplify_function_call-carry_out-requires
 simplify_function_call-carry_out-requires t c = (lowered c.args.limit.0 _ 5 6 c.decreases c.lowered-limit.ensures (lit< tt), tt)
 
 pub simplify_function_call-returns : goal.simplify_function_call-returns
 unfolding simplify_function_call
-simplify_function_call-returns t c = λ held h l. then_node _ (c.simplify-x.ensures held h l) c.if-x-ge-REFUSED.false λ p. carried _ _ c.lowered-limit.ensures (c.choose_function-arm.ensures _ p.sound.holds p.inside) (c.carry_out.ensures held p.sound)
+simplify_function_call-returns t c = λ held h l. then_node _ (c.simplify.ensures held h l) c.in_ok-x.was λ p. carried _ _ c.lowered-limit.ensures (c.choose_function-arm.ensures _ p.sound.holds p.inside) (c.carry_out.ensures held p.sound)
 
-pub simplify_infix-simplify-x-requires : goal.simplify_infix-simplify-x-requires
-simplify_infix-simplify-x-requires t c = (down c.args.limit.0 1 6 c.decreases (lit< tt), tt)
+pub simplify_infix-simplify-requires : goal.simplify_infix-simplify-requires
+simplify_infix-simplify-requires t c = (down c.args.limit.0 1 6 c.decreases (lit< tt), tt)
 
-pub simplify_infix-returns-then-x-ge-REFUSED : goal.simplify_infix-returns-then-x-ge-REFUSED
+pub simplify_infix-returns-in_err-x : goal.simplify_infix-returns-in_err-x
 unfolding simplify_infix
-simplify_infix-returns-then-x-ge-REFUSED t c = λ held h w. then_refused _ (c.simplify-x.ensures held h w.0) c.if-x-ge-REFUSED.true
+simplify_infix-returns-in_err-x t c = λ held h w. then_refused _ (c.simplify.ensures held h w.0) c.in_err-x.was c.from_residual.ensures.0
 
-pub simplify_infix-simplify-y-requires : goal.simplify_infix-simplify-y-requires
-simplify_infix-simplify-y-requires t c = (down c.args.limit.0 1 6 c.decreases (lit< tt), tt)
+pub simplify_infix-simplify-requires-2 : goal.simplify_infix-simplify-requires-2
+simplify_infix-simplify-requires-2 t c = (down c.args.limit.0 1 6 c.decreases (lit< tt), tt)
 
-pub simplify_infix-returns-then-y-ge-REFUSED : goal.simplify_infix-returns-then-y-ge-REFUSED
+pub simplify_infix-returns-in_err-y : goal.simplify_infix-returns-in_err-y
 unfolding simplify_infix
-simplify_infix-returns-then-y-ge-REFUSED t c = λ held h w. then_node _ (c.simplify-x.ensures held h w.0) c.if-x-ge-REFUSED.false λ p. then_refused _ (later _ _ _ (p.stays _ w.1) (c.simplify-y.ensures held p.sound (older p w.1))) c.if-y-ge-REFUSED.true
-
-pub simplify_infix-choose_infix-arm-requires : goal.simplify_infix-choose_infix-arm-requires
-simplify_infix-choose_infix-arm-requires t c = tt
-
-pub simplify_infix-lowered-limit-requires : goal.simplify_infix-lowered-limit-requires
-simplify_infix-lowered-limit-requires t c = tt
+simplify_infix-returns-in_err-y t c = λ held h w. then_node _ (c.simplify.ensures held h w.0) c.in_ok-x.was λ p. then_refused _ (later _ _ _ (p.stays _ w.1) (c.simplify-2.ensures held p.sound (older p w.1))) c.in_err-y.was c.from_residual-in_err-y.ensures.0
 
 pub simplify_infix-carry_out-requires : goal.simplify_infix-carry_out-requires
 simplify_infix-carry_out-requires t c = (lowered c.args.limit.0 _ 5 6 c.decreases c.lowered-limit.ensures (lit< tt), tt)
 
 pub simplify_infix-returns : goal.simplify_infix-returns
 unfolding simplify_infix
-simplify_infix-returns t c = λ held h w. then_node _ (c.simplify-x.ensures held h w.0) c.if-x-ge-REFUSED.false λ p. then_node _ (later _ _ _ (p.stays _ w.1) (c.simplify-y.ensures held p.sound (older p w.1))) c.if-y-ge-REFUSED.false λ q. carried _ _ c.lowered-limit.ensures (chosen_later _ _ (q.stays _ p.inside) (c.choose_infix-arm.ensures _ q.sound.holds (older q p.inside) q.inside)) (c.carry_out.ensures held q.sound)
+simplify_infix-returns t c = λ held h w. then_node _ (c.simplify.ensures held h w.0) c.in_ok-x.was λ p. then_node _ (later _ _ _ (p.stays _ w.1) (c.simplify-2.ensures held p.sound (older p w.1))) c.in_ok-y.was λ q. carried _ _ c.lowered-limit.ensures (chosen_later _ _ (q.stays _ p.inside) (c.choose_infix-arm.ensures _ q.sound.holds (older q p.inside) q.inside)) (c.carry_out.ensures held q.sound)
 
-pub simplify_prefix-simplify-x-requires : goal.simplify_prefix-simplify-x-requires
-simplify_prefix-simplify-x-requires t c = (down c.args.limit.0 1 6 c.decreases (lit< tt), tt)
+pub simplify_prefix-simplify-requires : goal.simplify_prefix-simplify-requires
+simplify_prefix-simplify-requires t c = (down c.args.limit.0 1 6 c.decreases (lit< tt), tt)
 
-pub simplify_prefix-returns-then-x-ge-REFUSED : goal.simplify_prefix-returns-then-x-ge-REFUSED
+pub simplify_prefix-returns-in_err-x : goal.simplify_prefix-returns-in_err-x
 unfolding simplify_prefix
-simplify_prefix-returns-then-x-ge-REFUSED t c = λ held h l. then_refused _ (c.simplify-x.ensures held h l) c.if-x-ge-REFUSED.true
-
-pub simplify_prefix-choose_prefix-arm-requires : goal.simplify_prefix-choose_prefix-arm-requires
-simplify_prefix-choose_prefix-arm-requires t c = tt
-
-pub simplify_prefix-lowered-limit-requires : goal.simplify_prefix-lowered-limit-requires
-simplify_prefix-lowered-limit-requires t c = tt
+simplify_prefix-returns-in_err-x t c = λ held h l. then_refused _ (c.simplify.ensures held h l) c.in_err-x.was c.from_residual.ensures.0
 
 pub simplify_prefix-carry_out-requires : goal.simplify_prefix-carry_out-requires
 simplify_prefix-carry_out-requires t c = (lowered c.args.limit.0 _ 5 6 c.decreases c.lowered-limit.ensures (lit< tt), tt)
 
 pub simplify_prefix-returns : goal.simplify_prefix-returns
 unfolding simplify_prefix
-simplify_prefix-returns t c = λ held h l. then_node _ (c.simplify-x.ensures held h l) c.if-x-ge-REFUSED.false λ p. carried _ _ c.lowered-limit.ensures (c.choose_prefix-arm.ensures _ p.sound.holds p.inside) (c.carry_out.ensures held p.sound)
+simplify_prefix-returns t c = λ held h l. then_node _ (c.simplify.ensures held h l) c.in_ok-x.was λ p. carried _ _ c.lowered-limit.ensures (c.choose_prefix-arm.ensures _ p.sound.holds p.inside) (c.carry_out.ensures held p.sound)
 
-pub smaller_regrouped-add-first-requires : goal.smaller_regrouped-add-first-requires
-smaller_regrouped-add-first-requires t c = tt
+pub smaller_regrouped-returns-in_err-first : goal.smaller_regrouped-returns-in_err-first
+smaller_regrouped-returns-in_err-first t c = λ held h w. lesser_refused _ _ _ _ _ (c.add.ensures h w.0) c.in_err-first.was c.from_residual.ensures.0
 
-pub smaller_regrouped-returns-then-first-ge-REFUSED : goal.smaller_regrouped-returns-then-first-ge-REFUSED
-smaller_regrouped-returns-then-first-ge-REFUSED t c = λ held h w. lesser_refused _ _ _ _ _ (c.add-first.ensures h w.0) c.if-first-ge-REFUSED.true
+pub smaller_regrouped-regroup-requires : goal.smaller_regrouped-regroup-requires
+smaller_regrouped-regroup-requires t c = (down c.args.limit.0 3 4 c.decreases (lit< tt), tt)
 
-pub smaller_regrouped-regroup-second-requires : goal.smaller_regrouped-regroup-second-requires
-smaller_regrouped-regroup-second-requires t c = (down c.args.limit.0 3 4 c.decreases (lit< tt), tt)
-
-pub smaller_regrouped-returns-then-second-ge-REFUSED : goal.smaller_regrouped-returns-then-second-ge-REFUSED
-smaller_regrouped-returns-then-second-ge-REFUSED t c = λ held h w. lesser_second _ _ _ _ _ (c.add-first.ensures h w.0) c.if-first-ge-REFUSED.false (λ p. named (regroup_later _ _ p c.args.e c.args.outer w.1 w.2 _) (c.regroup-second.ensures held p.sound (within_older p c.args.e w.1, outer_older p c.args.outer w.2))) c.if-second-ge-REFUSED.true
-
-pub smaller_regrouped-smaller-requires : goal.smaller_regrouped-smaller-requires
-smaller_regrouped-smaller-requires t c = tt
+pub smaller_regrouped-returns-in_err-second : goal.smaller_regrouped-returns-in_err-second
+smaller_regrouped-returns-in_err-second t c = λ held h w. lesser_second _ _ _ _ _ (c.add.ensures h w.0) c.in_ok-first.was (λ p. named (regroup_later _ _ p c.args.e c.args.outer w.1 w.2 _) (c.regroup.ensures held p.sound (within_older p c.args.e w.1, outer_older p c.args.outer w.2))) c.in_err-second.was c.from_residual-in_err-second.ensures.0
 
 pub smaller_regrouped-returns : goal.smaller_regrouped-returns
-smaller_regrouped-returns t c = λ held h w. lesser_node _ _ _ _ _ (c.add-first.ensures h w.0) c.if-first-ge-REFUSED.false (λ p. named (regroup_later _ _ p c.args.e c.args.outer w.1 w.2 _) (c.regroup-second.ensures held p.sound (within_older p c.args.e w.1, outer_older p c.args.outer w.2))) c.if-second-ge-REFUSED.false (λ g. c.smaller.ensures _ g.holds)
+smaller_regrouped-returns t c = λ held h w. lesser_node _ _ _ _ _ (c.add.ensures h w.0) c.in_ok-first.was (λ p. named (regroup_later _ _ p c.args.e c.args.outer w.1 w.2 _) (c.regroup.ensures held p.sound (within_older p c.args.e w.1, outer_older p c.args.outer w.2))) c.in_ok-second.was (λ g. c.smaller.ensures _ g.holds)

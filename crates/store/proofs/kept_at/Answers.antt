@@ -6,4 +6,4 @@ use Rattle.store.proofs.kept_at.Goals as goal
 
 pub returns : goal.returns
 unfolding kept_on
-returns c = recalls _ _ (c.kept_in.ensures ∙ rw (c.link_at.ensures, c.class_at-class.ensures) refl)
+returns c = recalls _ _ _ c.checked_sub.ensures (c.kept_in-kept.ensures ∙ rw (c.link_at.ensures, c.class_at-class.ensures) refl)

@@ -1,18 +1,9 @@
 -- `rebuild` meets its contract. Assumes nothing.
-use mathlib.Core.Path.{refl}
-use native.Mathlib.Omega.{arith}
+use Rattle.substitution.proofs.Replacing.{is_rebuilt, not_rebuilt}
 use Rattle.substitution.proofs.rebuild.Goals as goal
 
-pub returns-then-last-ge-REFUSED : goal.returns-then-last-ge-REFUSED
-returns-then-last-ge-REFUSED c = record {
-  added = λ h. absurd (omega (arith, h, c.if-last-ge-REFUSED.true));
-  passed = λ h. (refl, refl);
-  noted = record { became = λ h. absurd (omega (arith, h, c.if-last-ge-REFUSED.true)); refusal = λ h. refl };
-}
+pub returns-in_err-became : goal.returns-in_err-became
+returns-in_err-became c = not_rebuilt (rw c.with_operands.ensures at c.add.ensures) c.in_err-became.was c.from_residual.ensures.0
 
 pub returns : goal.returns
-returns c = record {
-  added = λ h. rw (← c.with_operands.ensures) c.add-became.ensures;
-  passed = λ h. absurd (omega (arith, h, c.if-last-ge-REFUSED.false));
-  noted = c.remember.ensures;
-}
+returns c = is_rebuilt (rw c.with_operands.ensures at c.add.ensures) c.in_ok-became.was c.remember.ensures

@@ -12,20 +12,14 @@ overflow_mul-i c = omega (arith, c.loop-i-test.true, c.requires.1)
 pub fields_at-requires : goal.fields_at-requires
 fields_at-requires c = omega (arith, c.loop-i-test.true, c.requires.0)
 
-pub values_after-next-requires : goal.values_after-next-requires
-values_after-next-requires c = c.loop-i.invariant.few
+pub values_after-requires : goal.values_after-requires
+values_after-requires c = c.loop-i.invariant.few
 
-pub returns-then-next-eq0 : goal.returns-then-next-eq0
-returns-then-next-eq0 c = rest_bad c.loop-i.invariant c.loop-i-test.true c.fields_at.ensures c.values_after-next.ensures c.if-next-eq0.true
-
-pub overflow_add-i : goal.overflow_add-i
-overflow_add-i c = omega (arith, c.loop-i-test.true, c.requires.1)
-
-pub loop-i-smaller : goal.loop-i-smaller
-loop-i-smaller c = omega (arith, c.loop-i-test.true)
+pub returns-in_default : goal.returns-in_default
+returns-in_default c = rest_bad c.loop-i.invariant c.loop-i-test.true c.fields_at.ensures c.values_after.ensures c.in_default.is
 
 pub loop-i-preserved : goal.loop-i-preserved
-loop-i-preserved c = rest_on c.loop-i.invariant c.loop-i-test.true c.fields_at.ensures c.values_after-next.ensures c.if-next-eq0.false
+loop-i-preserved c = rest_on c.loop-i.invariant c.loop-i-test.true c.fields_at.ensures c.values_after.ensures c.in-Some.is
 
 pub returns-then-values-eq1 : goal.returns-then-values-eq1
 returns-then-values-eq1 c = rest_sound c.loop-i.invariant c.loop-i-test.false c.if-values-eq1.true

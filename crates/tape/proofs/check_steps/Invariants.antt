@@ -1,10 +1,6 @@
 -- `check_steps` meets its contract: the steps that are left. Assumes nothing.
-use Prim.Native.Nat.{◌-◌}
 use Rattle.tape.proofs.Checking.{Rest}
 use Rattle.tape.proofs.check_steps.Given as goal
 
 abbrev pub invariant-loop-i : goal.invariant-loop-i
 invariant-loop-i l = Rest l.tape l.count l.i l.values
-
-abbrev pub decreases-loop-i : goal.decreases-loop-i
-decreases-loop-i l = l.count - l.i

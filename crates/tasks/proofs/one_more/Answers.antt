@@ -1,14 +1,21 @@
 -- `one_more` meets its contract. Assumes nothing.
-use mathlib.Core.Path.{refl}
+use mathlib.Core.Path.{◌≡◌, ◌∙◌}
+use mathlib.Core.Bool.{cond}
+use Prim.Native.Nat.{ℕ, suc, ◌+◌, ◌≤◌, min}
 use native.Mathlib.Omega.{arith}
+use native.Mathlib.Decide.{dec_lt}
+use lib.Dec.{ltb}
 use borrow.Author.Tests.{lt-ltb, le-ltb}
 use Rattle.tasks.specs.Deciding.{one_more}
 use Rattle.tasks.proofs.one_more.Goals as goal
 
-pub returns-then-calls-lt18446744073709551615 : goal.returns-then-calls-lt18446744073709551615
-unfolding one_more
-returns-then-calls-lt18446744073709551615 c = rw (lt-ltb _ _ c.if-calls-lt18446744073709551615.true) (omega arith)
+-- one more, but no more than the largest
+up_to : (n most : ℕ) → n ≤ most → min (n + 1) most ≡ cond (ltb n most) (suc n) n
+up_to n most l = elim (dec_lt n most) [
+  | yes h ↦ rw (lt-ltb n most h) (omega (arith, h))
+  | no h ↦ rw (le-ltb n most (omega (arith, h))) (omega (arith, h, l))
+]
 
-pub returns-else-calls-lt18446744073709551615 : goal.returns-else-calls-lt18446744073709551615
+pub returns : goal.returns
 unfolding one_more
-returns-else-calls-lt18446744073709551615 c = rw (le-ltb _ _ c.if-calls-lt18446744073709551615.false) refl
+returns c = c.saturating_add.ensures ∙ up_to _ _ (omega (arith, c.ranges.calls.fits))

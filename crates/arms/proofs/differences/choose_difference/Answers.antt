@@ -17,10 +17,10 @@ pub returns-then-equal_at : goal.returns-then-equal_at
 unfolding difference_plan
 returns-then-equal_at c = λ n h x y. past _ (so (c.is_zero_number.ensures _) c.if-is_zero_number.false) (past _ (so (c.is_zero_number-2.ensures _) c.if-is_zero_number-2.false) (hit _ (so (compared c.equal_at.ensures h x.at y.at) c.if-equal_at.true) (build (numeral c.zero.ensures))))
 
-pub returns-then-are_numbers : goal.returns-then-are_numbers
+pub returns-in-Some : goal.returns-in-Some
 unfolding difference_plan
-returns-then-are_numbers c = λ n h x y. past _ (so (c.is_zero_number.ensures _) c.if-is_zero_number.false) (past _ (so (c.is_zero_number-2.ensures _) c.if-is_zero_number-2.false) (past _ (so (compared c.equal_at.ensures h x.at y.at) c.if-equal_at.false) (hit _ (so (c.are_numbers.ensures _) c.if-are_numbers.true) (fold (c.number_in.ensures _) (c.number_in-then-are_numbers.ensures _)))))
+returns-in-Some c = λ n h x y. let p = c.in-Some.ensures _ in past _ (so (c.is_zero_number.ensures _) c.if-is_zero_number.false) (past _ (so (c.is_zero_number-2.ensures _) c.if-is_zero_number-2.false) (past _ (so (compared c.equal_at.ensures h x.at y.at) c.if-equal_at.false) (hit _ p.0 (fold p.1.0 p.1.1))))
 
 pub returns : goal.returns
 unfolding difference_plan
-returns c = λ n h x y. past _ (so (c.is_zero_number.ensures _) c.if-is_zero_number.false) (past _ (so (c.is_zero_number-2.ensures _) c.if-is_zero_number-2.false) (past _ (so (compared c.equal_at.ensures h x.at y.at) c.if-equal_at.false) (past _ (so (c.are_numbers.ensures _) c.if-are_numbers.false) (c.choose_signed_difference.ensures _ n x y refl))))
+returns c = λ n h x y. past _ (so (c.is_zero_number.ensures _) c.if-is_zero_number.false) (past _ (so (c.is_zero_number-2.ensures _) c.if-is_zero_number-2.false) (past _ (so (compared c.equal_at.ensures h x.at y.at) c.if-equal_at.false) (past _ (c.in_default.ensures _) (c.choose_signed_difference.ensures _ n x y refl))))

@@ -1,21 +1,20 @@
 -- `choose_signed_difference` meets its contract. Assumes nothing.
 use Rattle.arms.specs.Tables.{signed_difference}
-use Rattle.arms.proofs.Looking.{so, operand_parts}
-use Rattle.arms.proofs.Choosing.{hit, past, infix_of_lem, build, again, smaller_negated}
+use Rattle.arms.proofs.Choosing.{hit, past, infix_of_lem, again, smaller_negated, build}
 use Rattle.arms.proofs.differences.choose_signed_difference.Goals as goal
 
-pub returns-then-is_negation : goal.returns-then-is_negation
+pub returns-in-Some : goal.returns-in-Some
 unfolding signed_difference
-returns-then-is_negation c = λ m n x y g. hit _ (so (c.is_negation.ensures _) c.if-is_negation.true) (again (infix_of_lem x.at (operand_parts _ c.operand_in.ensures _ n y.within (so (c.is_negation.ensures _) c.if-is_negation.true))))
+returns-in-Some c = λ m n x y g. let p = c.in-Some.ensures m n y.within in hit _ p.0 (again (infix_of_lem x.at p.1))
 
-pub returns-then-is_negation-2 : goal.returns-then-is_negation-2
+pub returns-in-Some-negated : goal.returns-in-Some-negated
 unfolding signed_difference
-returns-then-is_negation-2 c = λ m n x y g. past _ (so (c.is_negation.ensures _) c.if-is_negation.false) (hit _ (so (c.is_negation-2.ensures _) c.if-is_negation-2.true) (smaller_negated (infix_of_lem x.at y.at) (infix_of_lem (operand_parts _ c.operand_in-then-is_negation-2.ensures _ n x.within (so (c.is_negation-2.ensures _) c.if-is_negation-2.true)) y.at)))
+returns-in-Some-negated c = λ m n x y g. let p = c.in-Some-negated.ensures m n x.within in past _ (c.in_default.ensures m n y.within) (hit _ p.0 (smaller_negated (infix_of_lem x.at y.at) (infix_of_lem p.1 y.at)))
 
-pub returns-then-has_infix : goal.returns-then-has_infix
+pub returns-in-Some-choose_grouped : goal.returns-in-Some-choose_grouped
 unfolding signed_difference
-returns-then-has_infix c = λ m n x y g. past _ (so (c.is_negation.ensures _) c.if-is_negation.false) (past _ (so (c.is_negation-2.ensures _) c.if-is_negation-2.false) (hit _ (so (c.has_infix.ensures _) c.if-has_infix.true) (c.choose_grouped.ensures _ n x y (so (c.has_infix.ensures _) c.if-has_infix.true))))
+returns-in-Some-choose_grouped c = λ m n x y g. let p = c.in-Some-choose_grouped.ensures m n x y in past _ (c.in_default.ensures m n y.within) (past _ (c.in_default-negated.ensures m n x.within) (hit _ p.0 (p.1)))
 
 pub returns : goal.returns
 unfolding signed_difference
-returns c = λ m n x y g. past _ (so (c.is_negation.ensures _) c.if-is_negation.false) (past _ (so (c.is_negation-2.ensures _) c.if-is_negation-2.false) (past _ (so (c.has_infix.ensures _) c.if-has_infix.false) (build (infix_of_lem x.at y.at))))
+returns c = λ m n x y g. past _ (c.in_default.ensures m n y.within) (past _ (c.in_default-negated.ensures m n x.within) (past _ (c.in_default-choose_grouped.ensures m n x y) (build (infix_of_lem x.at y.at))))

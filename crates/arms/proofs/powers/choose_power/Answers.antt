@@ -20,10 +20,10 @@ pub returns-then-is_one_number-2 : goal.returns-then-is_one_number-2
 unfolding power_plan
 returns-then-is_one_number-2 c = λ m n x y g. past _ (so (c.is_zero_number.ensures _) c.if-is_zero_number.false) (past _ (so (c.is_zero_number-2.ensures _) c.if-is_zero_number-2.false) (past _ (so (c.is_one_number.ensures _) c.if-is_one_number.false) (hit _ (so (c.is_one_number-2.ensures _) c.if-is_one_number-2.true) (use_it x.at))))
 
-pub returns-then-are_numbers : goal.returns-then-are_numbers
+pub returns-in-Some : goal.returns-in-Some
 unfolding power_plan
-returns-then-are_numbers c = λ m n x y g. past _ (so (c.is_zero_number.ensures _) c.if-is_zero_number.false) (past _ (so (c.is_zero_number-2.ensures _) c.if-is_zero_number-2.false) (past _ (so (c.is_one_number.ensures _) c.if-is_one_number.false) (past _ (so (c.is_one_number-2.ensures _) c.if-is_one_number-2.false) (hit _ (so (c.are_numbers.ensures _) c.if-are_numbers.true) (fold (c.number_in.ensures _) (c.number_in-then-are_numbers.ensures _))))))
+returns-in-Some c = λ m n x y g. let p = c.in-Some.ensures _ in past _ (so (c.is_zero_number.ensures _) c.if-is_zero_number.false) (past _ (so (c.is_zero_number-2.ensures _) c.if-is_zero_number-2.false) (past _ (so (c.is_one_number.ensures _) c.if-is_one_number.false) (past _ (so (c.is_one_number-2.ensures _) c.if-is_one_number-2.false) (hit _ p.0 (fold p.1.0 p.1.1)))))
 
 pub returns : goal.returns
 unfolding power_plan
-returns c = λ m n x y g. past _ (so (c.is_zero_number.ensures _) c.if-is_zero_number.false) (past _ (so (c.is_zero_number-2.ensures _) c.if-is_zero_number-2.false) (past _ (so (c.is_one_number.ensures _) c.if-is_one_number.false) (past _ (so (c.is_one_number-2.ensures _) c.if-is_one_number-2.false) (past _ (so (c.are_numbers.ensures _) c.if-are_numbers.false) (build (infix_of_lem x.at y.at))))))
+returns c = λ m n x y g. past _ (so (c.is_zero_number.ensures _) c.if-is_zero_number.false) (past _ (so (c.is_zero_number-2.ensures _) c.if-is_zero_number-2.false) (past _ (so (c.is_one_number.ensures _) c.if-is_one_number.false) (past _ (so (c.is_one_number-2.ensures _) c.if-is_one_number-2.false) (past _ (c.in_default.ensures _) (build (infix_of_lem x.at y.at))))))

@@ -1,26 +1,25 @@
 -- `choose_cancelled` meets its contract. Assumes nothing.
 use mathlib.Core.Path.{refl}
 use Rattle.arms.specs.Tables.{cancelled}
-use Rattle.arms.proofs.Looking.{so, first_of_both, left_parts, right_parts}
 use Rattle.arms.proofs.Choosing.{hit, past, use_it, inverse}
 use Rattle.arms.proofs.quotients.choose_cancelled.Goals as goal
 
-pub returns-then-begins_with : goal.returns-then-begins_with
+pub returns-in-Some : goal.returns-in-Some
 unfolding cancelled
-returns-then-begins_with c = λ n h x y. hit _ (so (c.begins_with.ensures n _ h x.within y.at) c.if-begins_with.true) (use_it (right_parts _ c.right_in.ensures _ _ n x.within (first_of_both _ _ (so (c.begins_with.ensures n _ h x.within y.at) c.if-begins_with.true))))
+returns-in-Some c = λ n h x y. let p = c.in-Some.ensures n _ h x.within y.at in hit _ p.0 (use_it p.1)
 
-pub returns-then-ends_with : goal.returns-then-ends_with
+pub returns-in-Some-beside_last : goal.returns-in-Some-beside_last
 unfolding cancelled
-returns-then-ends_with c = λ n h x y. past _ (so (c.begins_with.ensures n _ h x.within y.at) c.if-begins_with.false) (hit _ (so (c.ends_with.ensures n _ h x.within y.at) c.if-ends_with.true) (use_it (left_parts _ c.left_in.ensures _ _ n x.within (first_of_both _ _ (so (c.ends_with.ensures n _ h x.within y.at) c.if-ends_with.true)))))
+returns-in-Some-beside_last c = λ n h x y. let p = c.in-Some-beside_last.ensures n _ h x.within y.at in past _ (c.in_default.ensures n _ h x.within y.at) (hit _ p.0 (use_it p.1))
 
-pub returns-then-begins_with-2 : goal.returns-then-begins_with-2
+pub returns-in-Some-beside_first : goal.returns-in-Some-beside_first
 unfolding cancelled
-returns-then-begins_with-2 c = λ n h x y. past _ (so (c.begins_with.ensures n _ h x.within y.at) c.if-begins_with.false) (past _ (so (c.ends_with.ensures n _ h x.within y.at) c.if-ends_with.false) (hit _ (so (c.begins_with-2.ensures n _ h y.within x.at) c.if-begins_with-2.true) (inverse (right_parts _ c.right_in-then-begins_with-2.ensures _ _ n y.within (first_of_both _ _ (so (c.begins_with-2.ensures n _ h y.within x.at) c.if-begins_with-2.true))))))
+returns-in-Some-beside_first c = λ n h x y. let p = c.in-Some-beside_first.ensures n _ h y.within x.at in past _ (c.in_default.ensures n _ h x.within y.at) (past _ (c.in_default-beside_last.ensures n _ h x.within y.at) (hit _ p.0 (inverse p.1)))
 
-pub returns-then-ends_with-2 : goal.returns-then-ends_with-2
+pub returns-in-Some-beside_last-2 : goal.returns-in-Some-beside_last-2
 unfolding cancelled
-returns-then-ends_with-2 c = λ n h x y. past _ (so (c.begins_with.ensures n _ h x.within y.at) c.if-begins_with.false) (past _ (so (c.ends_with.ensures n _ h x.within y.at) c.if-ends_with.false) (past _ (so (c.begins_with-2.ensures n _ h y.within x.at) c.if-begins_with-2.false) (hit _ (so (c.ends_with-2.ensures n _ h y.within x.at) c.if-ends_with-2.true) (inverse (left_parts _ c.left_in-then-ends_with-2.ensures _ _ n y.within (first_of_both _ _ (so (c.ends_with-2.ensures n _ h y.within x.at) c.if-ends_with-2.true)))))))
+returns-in-Some-beside_last-2 c = λ n h x y. let p = c.in-Some-beside_last-2.ensures n _ h y.within x.at in past _ (c.in_default.ensures n _ h x.within y.at) (past _ (c.in_default-beside_last.ensures n _ h x.within y.at) (past _ (c.in_default-beside_first.ensures n _ h y.within x.at) (hit _ p.0 (inverse p.1))))
 
 pub returns : goal.returns
 unfolding cancelled
-returns c = λ n h x y. past _ (so (c.begins_with.ensures n _ h x.within y.at) c.if-begins_with.false) (past _ (so (c.ends_with.ensures n _ h x.within y.at) c.if-ends_with.false) (past _ (so (c.begins_with-2.ensures n _ h y.within x.at) c.if-begins_with-2.false) (past _ (so (c.ends_with-2.ensures n _ h y.within x.at) c.if-ends_with-2.false) (c.choose_split.ensures _ n x y refl))))
+returns c = λ n h x y. past _ (c.in_default.ensures n _ h x.within y.at) (past _ (c.in_default-beside_last.ensures n _ h x.within y.at) (past _ (c.in_default-beside_first.ensures n _ h y.within x.at) (past _ (c.in_default-beside_last-2.ensures n _ h y.within x.at) (c.choose_split.ensures _ n x y refl))))

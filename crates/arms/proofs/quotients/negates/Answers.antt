@@ -1,10 +1,10 @@
 -- `negates` meets its contract. Assumes nothing.
-use mathlib.Core.Path.{sym}
-use Rattle.arms.proofs.Looking.{so, both_yes, both_not, compared, operand_parts}
+use mathlib.Core.Path.{refl}
+use Rattle.arms.proofs.Looking.{both_yes, both_not, compared}
 use Rattle.arms.proofs.quotients.negates.Goals as goal
 
-pub returns-then-is_negation : goal.returns-then-is_negation
-returns-then-is_negation c = λ n t h w a. both_yes (sym (c.is_negation.ensures _)) c.if-is_negation.true (compared c.equal_at.ensures h (operand_parts _ c.operand_in.ensures _ n w (so (c.is_negation.ensures _) c.if-is_negation.true)) a)
+pub returns-in-Some : goal.returns-in-Some
+returns-in-Some c = λ n t h w a. let p = c.in-Some.ensures _ n w in both_yes p.0 refl (compared c.equal_at.ensures h p.1 a)
 
-pub returns-else-is_negation : goal.returns-else-is_negation
-returns-else-is_negation c = λ n t h w a. both_not _ (sym (c.is_negation.ensures _)) c.if-is_negation.false
+pub returns-in-None : goal.returns-in-None
+returns-in-None c = λ n t h w a. both_not _ (c.in-None.ensures _ n w) refl

@@ -9,11 +9,11 @@ returns-then-line-ne10 c = no_line c.args.line.now c.args.marks.now c.if-line-ne
 pub loop-row-init : goal.loop-row-init
 loop-row-init c = none_yet _
 
-pub returns-then-marks-row : goal.returns-then-marks-row
-returns-then-marks-row c = row_no c.args.line.now c.args.marks.now c.loop-row.row _ _ c.digit.ensures c.mark_in.ensures c.loop-row-test.true c.if-marks-row.true
+pub returns-then-mark-mark_in : goal.returns-then-mark-mark_in
+returns-then-mark-mark_in c = row_no c.args.line.now c.args.marks.now c.loop-row.row _ _ c.digit.ensures c.mark_in.ensures c.loop-row-test.true c.if-mark-mark_in.true
 
 pub loop-row-preserved : goal.loop-row-preserved
-loop-row-preserved c = row_more c.args.line.now c.args.marks.now c.loop-row.row _ _ c.digit.ensures c.mark_in.ensures c.loop-row.invariant c.if-marks-row.false
+loop-row-preserved c = row_more c.args.line.now c.args.marks.now c.loop-row.row _ _ c.digit.ensures c.mark_in.ensures c.loop-row.invariant c.if-mark-mark_in.false
 
 pub returns : goal.returns
 returns c = rows_yes c.args.line.now c.args.marks.now c.loop-row.row c.loop-row-test.false c.if-line-ne10.false c.loop-row.invariant

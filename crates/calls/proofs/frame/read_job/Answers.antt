@@ -1,13 +1,13 @@
 -- `read_job` meets its contract: the listing, then the sheet. Assumes nothing.
-use mathlib.Core.Path.{◌∙◌}
-use Rattle.calls.proofs.Framing.{job_read, job_refused}
+use Rattle.expression.proofs.Passing.{passed_on}
+use Rattle.calls.proofs.Framing.{job_read, job_refused, job_unread}
 use Rattle.calls.proofs.frame.read_job.Goals as goal
 
-pub shape_of-table-in-Read : goal.shape_of-table-in-Read
-shape_of-table-in-Read c = c.read_sheet.auto.table ∙ c.read_listing-listed.auto.table
+pub returns-in_err-listed : goal.returns-in_err-listed
+returns-in_err-listed c = rw (passed_on _ c.from_residual.ensures.1) (job_refused _ c.read_listing.ensures c.in_err-listed.was)
 
-pub returns-in-Read : goal.returns-in-Read
-returns-in-Read c = job_read _ c.read_listing-listed.ensures _ c.read_sheet.result c.in-Read.is c.read_sheet.ensures c.add_sheet.ensures
+pub returns-in_err-counts : goal.returns-in_err-counts
+returns-in_err-counts c = rw (passed_on _ c.from_residual-in_err-counts.ensures.1) (job_unread _ c.read_listing.ensures _ _ c.in_ok-listed.was c.read_sheet.ensures c.in_err-counts.was)
 
-pub returns-in-Refused : goal.returns-in-Refused
-returns-in-Refused c = job_refused _ c.read_listing-listed.ensures c.in-Refused.is
+pub returns : goal.returns
+returns c = job_read _ c.read_listing.ensures _ _ c.in_ok-listed.was c.read_sheet.ensures c.in_ok-counts.was

@@ -6,8 +6,8 @@ use Rattle.calls.proofs.frame.write_answer.Goals as goal
 pub refusal_of-requires : goal.refusal_of-requires
 refusal_of-requires c = search rules
 
-pub returns-then-built-ge-REFUSED : goal.returns-then-built-ge-REFUSED
-returns-then-built-ge-REFUSED c = writes_refusal _ _ _ c.if-built-ge-REFUSED.true c.refusal_of.ensures
+pub returns-in_default : goal.returns-in_default
+returns-in_default c = writes_refusal _ _ _ c.in_default.is c.refusal_of.ensures
 
 pub write_origins-requires : goal.write_origins-requires
 write_origins-requires c = search rules
@@ -22,7 +22,7 @@ pub shape_of-out-then-traced : goal.shape_of-out-then-traced
 shape_of-out-then-traced c = search rules
 
 pub returns-then-traced : goal.returns-then-traced
-returns-then-traced c = writes_traced_node _ _ _ c.if-built-ge-REFUSED.false c.if-traced.true c.write_origins.ensures
+returns-then-traced c = writes_traced_node _ _ _ c.in-Ok.is c.if-traced.true c.write_origins.ensures
 
 pub write_listing-requires : goal.write_listing-requires
 write_listing-requires c = search rules
@@ -37,4 +37,4 @@ pub shape_of-out : goal.shape_of-out
 shape_of-out c = search rules
 
 pub returns : goal.returns
-returns c = writes_node _ _ _ c.if-built-ge-REFUSED.false c.if-traced.false c.write_listing.ensures.writes
+returns c = writes_node _ _ _ c.in-Ok.is c.if-traced.false c.write_listing.ensures.writes

@@ -2,10 +2,10 @@
 use Rattle.calls.specs.Marks.{is_shown}
 use Rattle.calls.proofs.marks.is_shown.Goals as goal
 
-pub returns-in-Bytes : goal.returns-in-Bytes
+pub returns-in-Ok : goal.returns-in-Ok
 unfolding is_shown
-returns-in-Bytes c = rw c.in-Bytes.is
+returns-in-Ok c = rw c.in-Ok.is
 
-pub returns-in-Refused : goal.returns-in-Refused
+pub returns-in-Err : goal.returns-in-Err
 unfolding is_shown
-returns-in-Refused c = rw c.in-Refused.is c.is_lack.ensures
+returns-in-Err c = rw c.in-Err.is c.is_lack.ensures

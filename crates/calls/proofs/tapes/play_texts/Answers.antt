@@ -1,16 +1,17 @@
 -- `play_texts` meets its contract: the tape before the sheet. Assumes nothing.
 use mathlib.Core.Path.{sym, ◌∙◌}
-use Rattle.calls.proofs.Taping.{plays_sound, plays_bad}
+use Rattle.expression.proofs.Passing.{passed_on}
+use Rattle.calls.proofs.Taping.{plays_read, plays_refused, plays_sound, plays_bad}
 use Rattle.calls.proofs.tapes.play_texts.Goals as goal
 
-pub play_sheet-requires : goal.play_sheet-requires
-play_sheet-requires c = sym c.check-checked.ensures ∙ c.in-Sound.is
+pub returns-in_err-check : goal.returns-in_err-check
+returns-in_err-check c = λ z. rw (passed_on _ c.from_residual.ensures.1) (plays_bad _ _ (sym c.check.ensures ∙ c.in_err-check.was) z)
 
-pub shape_of-table : goal.shape_of-table
-shape_of-table c = c.read_sheet-found.auto.table
+pub returns-in_err-counts : goal.returns-in_err-counts
+returns-in_err-counts c = λ z. rw (passed_on _ c.from_residual-in_err-counts.ensures.1) (plays_sound _ _ (sym c.check.ensures ∙ c.in_ok-check.was) (plays_refused _ _ _ _ c.read_sheet.ensures c.in_err-counts.was z))
 
-pub returns-in-Sound : goal.returns-in-Sound
-returns-in-Sound c = λ z. plays_sound _ _ (sym c.check-checked.ensures ∙ c.in-Sound.is) (c.play_sheet.ensures _ c.read_sheet-found.ensures.0 c.read_sheet-found.ensures.1 z)
+pub play-requires : goal.play-requires
+play-requires c = sym c.check.ensures ∙ c.in_ok-check.was
 
-pub returns-in-Bad : goal.returns-in-Bad
-returns-in-Bad c = plays_bad _ _ (sym c.check-checked.ensures ∙ c.in-Bad.is)
+pub returns : goal.returns
+returns c = λ z. plays_sound _ _ (sym c.check.ensures ∙ c.in_ok-check.was) (plays_read _ _ _ _ c.read_sheet.ensures c.in_ok-counts.was c.play.ensures c.answer_of.ensures z)

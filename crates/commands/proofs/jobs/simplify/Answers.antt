@@ -1,10 +1,19 @@
 -- `simplify` meets its contract. Assumes nothing.
-use mathlib.Core.Path.{ap}
-use Rattle.commands.proofs.Resulting.{listing_comes, refusal_comes}
+use Rattle.commands.proofs.Resulting.{simplified_as, listing_comes, refusal_comes}
 use Rattle.commands.proofs.jobs.simplify.Goals as goal
 
-pub returns-in-Bytes : goal.returns-in-Bytes
-returns-in-Bytes c = record { comes = listing_comes c.args.list.now c.args.values.now _ (ap (λ x. x.0.0) c.simplify_marked-answer.ensures) c.in-Bytes.is c.part.ensures.prefix_len c.part.ensures.least; marked = ap (λ x. x.0.1) c.simplify_marked-answer.ensures }
+pub returns-in-Ok : goal.returns-in-Ok
+returns-in-Ok c = record {
+  comes =
+      simplified_as c.args.traced _ c.args.limit c.args.list.now c.args.values.now c.args.out.now
+      (listing_comes c.args.list.now c.args.values.now _ c.call_simplify-answer.ensures.answered c.in-Ok.is c.part.ensures.prefix_len c.part.ensures.least);
+  marked = c.call_simplify-answer.ensures.marked;
+}
 
-pub returns-in-Refused : goal.returns-in-Refused
-returns-in-Refused c = record { comes = refusal_comes c.args.list.now c.args.values.now _ (ap (λ x. x.0.0) c.simplify_marked-answer.ensures) c.in-Refused.is c.fault_of.ensures; marked = ap (λ x. x.0.1) c.simplify_marked-answer.ensures }
+pub returns-in-Err : goal.returns-in-Err
+returns-in-Err c = record {
+  comes =
+      simplified_as c.args.traced _ c.args.limit c.args.list.now c.args.values.now c.args.out.now
+      (refusal_comes c.args.list.now c.args.values.now _ c.call_simplify-answer.ensures.answered c.in-Err.is c.fault_of.ensures);
+  marked = c.call_simplify-answer.ensures.marked;
+}

@@ -7,7 +7,7 @@ pub returns-then-input-gt-MOST : goal.returns-then-input-gt-MOST
 returns-then-input-gt-MOST c = too_long_lem c.args.command c.args.input.now c.args.out.now c.if-input-gt-MOST.true c.requires.1
 
 pub returns-then-stores_little : goal.returns-then-stores_little
-returns-then-stores_little c = with_1024 c.args.command c.args.input.now c.args.out.now c.if-input-gt-MOST.false (c.stores_little.ensures c.if-stores_little.true) c.run_in_1024.ensures
+returns-then-stores_little c = with_1024 c.args.command c.args.input.now c.args.out.now c.if-input-gt-MOST.false (c.stores_little.ensures c.if-stores_little.true) c.run_in.ensures
 
 pub returns : goal.returns
-returns c = with_4096 c.args.command c.args.input.now c.args.out.now c.if-input-gt-MOST.false c.run_in_4096.ensures
+returns c = with_4096 c.args.command c.args.input.now c.args.out.now c.if-input-gt-MOST.false c.run_in-2.ensures

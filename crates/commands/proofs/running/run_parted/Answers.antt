@@ -10,7 +10,7 @@ returns-in-Evaluate c = parted_is _ c.args.list.now c.args.values.now c.args.out
 
 pub returns-in-Simplify : goal.returns-in-Simplify
 unfolding parted parted_marks
-returns-in-Simplify c = parted_is _ c.args.list.now c.args.values.now c.args.out.now (Parted.Simplify _ _ _) c.in-Simplify.is c.run_simplify.ensures
+returns-in-Simplify c = parted_is _ c.args.list.now c.args.values.now c.args.out.now (Parted.Simplify _ _ _) c.in-Simplify.is c.simplify.ensures
 
 pub returns-in-Played : goal.returns-in-Played
 unfolding parted parted_marks

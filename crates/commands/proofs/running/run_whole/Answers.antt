@@ -6,7 +6,7 @@ use Rattle.commands.proofs.running.run_whole.Goals as goal
 
 pub returns-in-Substitute : goal.returns-in-Substitute
 unfolding whole
-returns-in-Substitute c = whole_is _ c.args.text.now c.args.out.now (Whole.Substitute _) c.in-Substitute.is c.run_substitute.ensures
+returns-in-Substitute c = whole_is _ c.args.text.now c.args.out.now (Whole.Substitute _) c.in-Substitute.is c.substitute.ensures
 
 pub returns-in-Real : goal.returns-in-Real
 unfolding whole

@@ -10,11 +10,11 @@ use Rattle.commands.proofs.words.job_word.Goals as goal
 
 pub returns-then-word_at : goal.returns-then-word_at
 unfolding job_word
-returns-then-word_at c = takes_marks c.args.words.now 9 Parted.Evaluate c.find_at-marks.result c.find_at-marks.ensures ∙ chosen c.word_at.ensures c.if-word_at.true _ _
+returns-then-word_at c = rw (c.is_some.ensures, c.unwrap_or.ensures) (takes_marks c.args.words.now 9 Parted.Evaluate c.find_at-marks.result c.find_at-marks.ensures ∙ chosen c.word_at.ensures c.if-word_at.true _ _)
 
 pub returns-then-word_at-2 : goal.returns-then-word_at-2
 unfolding job_word
-returns-then-word_at-2 c = passed c.word_at.ensures c.if-word_at.false _ _ (takes_origins c.args.words.now 11 (λ traced. Command.Whole (Whole.Substitute traced)) c.find_at-origins.result c.find_at-origins.ensures ∙ chosen c.word_at-2.ensures c.if-word_at-2.true _ _)
+returns-then-word_at-2 c = rw (c.is_some-then-word_at-2.ensures, c.unwrap_or-then-word_at-2.ensures) (passed c.word_at.ensures c.if-word_at.false _ _ (takes_origins c.args.words.now 11 (λ traced. Command.Whole (Whole.Substitute traced)) c.find_at-origins.result c.find_at-origins.ensures ∙ chosen c.word_at-2.ensures c.if-word_at-2.true _ _))
 
 pub returns-then-word_at-3 : goal.returns-then-word_at-3
 unfolding job_word

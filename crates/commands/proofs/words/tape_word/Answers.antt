@@ -12,7 +12,7 @@ returns-then-word_at c = chosen c.word_at.ensures c.if-word_at.true _ _
 
 pub returns-then-word_at-2 : goal.returns-then-word_at-2
 unfolding tape_word
-returns-then-word_at-2 c = passed c.word_at.ensures c.if-word_at.false _ _ (takes_marks c.args.words.now 5 Parted.Play c.find_at-marks.result c.find_at-marks.ensures ∙ chosen c.word_at-2.ensures c.if-word_at-2.true _ _)
+returns-then-word_at-2 c = rw (c.is_some.ensures, c.unwrap_or.ensures) (passed c.word_at.ensures c.if-word_at.false _ _ (takes_marks c.args.words.now 5 Parted.Play c.find_at-marks.result c.find_at-marks.ensures ∙ chosen c.word_at-2.ensures c.if-word_at-2.true _ _))
 
 pub returns-then-word_at-3 : goal.returns-then-word_at-3
 unfolding tape_word

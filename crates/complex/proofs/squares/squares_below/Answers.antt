@@ -1,9 +1,9 @@
 -- `complex::squares::squares_below` meets its contract: the squares cut off at T's last place decide (`Decide`, `by_cut_squares`).
 -- Assumes nothing.
-use Rattle.std.proofs.Common.{◌%◌, ◌^◌, ltb, sym, ◌∙◌}
+use Rattle.std.proofs.Common.{◌%◌, ◌^◌, ltb, sym, ◌∙◌, arith}
 use Rattle.complex.specs.Parts.{magnitude_of_bits, cut_square}
 use Rattle.complex.proofs.Decide.{t_squared, cut_fits, by_cut_squares}
-use Rattle.complex.proofs.Limbs.{summed}
+use Rattle.complex.proofs.Limbs.{summed, less_by_limbs}
 use Rattle.complex.proofs.squares.squares_below.Goals as goal
 
 pub returns : goal.returns
@@ -14,4 +14,5 @@ returns c = λ re im.
     let B = magnitude_of_bits (c.args.im % 2 ^ 63) in
     let sum = summed (cut_square p.result) (cut_square q.result) (cut_fits A p.result p.ensures) (cut_fits B q.result q.ensures)
     c.add_square-sum.ensures c.add_square-sum-2.ensures in
-    c.less.ensures ∙ (λ i. ltb (sum i) (t_squared i)) ∙ sym (by_cut_squares A B p.result q.result p.ensures q.ensures re im)
+    c.lt.ensures ∙ less_by_limbs c.add_square-sum-2.result _ (omega arith) (omega arith)
+    ∙ (λ i. ltb (sum i) (t_squared i)) ∙ sym (by_cut_squares A B p.result q.result p.ensures q.ensures re im)

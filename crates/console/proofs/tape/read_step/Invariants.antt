@@ -1,10 +1,6 @@
 -- `read_step` meets its contract. The invariant is `Stepping`. Assumes nothing.
-use Prim.Native.Nat.{◌-◌}
 use Rattle.console.proofs.TapeLines.{Stepping}
 use Rattle.console.proofs.tape.read_step.Given as goal
 
 abbrev pub invariant-loop-k : goal.invariant-loop-k
 invariant-loop-k l = Stepping l.s l.at l.step l.next l.k
-
-abbrev pub decreases-loop-k : goal.decreases-loop-k
-decreases-loop-k l = 24 - l.k

@@ -2,10 +2,10 @@
 use Rattle.exports.specs.Words.{checked_words}
 use Rattle.exports.proofs.answer.put_checked.Goals as goal
 
-pub returns-in-Sound : goal.returns-in-Sound
+pub returns-in-Ok : goal.returns-in-Ok
 unfolding checked_words
-returns-in-Sound c = rw c.in-Sound.is c.put_words.ensures
+returns-in-Ok c = rw c.in-Ok.is c.put_words.ensures
 
-pub returns-in-Bad : goal.returns-in-Bad
+pub returns-in-Err : goal.returns-in-Err
 unfolding checked_words
-returns-in-Bad c = rw c.in-Bad.is c.put_refusal.ensures
+returns-in-Err c = rw c.in-Err.is c.put_refusal.ensures

@@ -2,10 +2,10 @@
 use Rattle.exports.specs.Words.{simplified_words}
 use Rattle.exports.proofs.answer.put_simplified.Goals as goal
 
-pub returns-in-Bytes : goal.returns-in-Bytes
+pub returns-in-Ok : goal.returns-in-Ok
 unfolding simplified_words
-returns-in-Bytes c = rw c.in-Bytes.is c.put_words.ensures
+returns-in-Ok c = rw c.in-Ok.is c.put_words.ensures
 
-pub returns-in-Refused : goal.returns-in-Refused
+pub returns-in-Err : goal.returns-in-Err
 unfolding simplified_words
-returns-in-Refused c = rw c.in-Refused.is c.put_refusal.ensures
+returns-in-Err c = rw c.in-Err.is c.put_refusal.ensures

@@ -1,6 +1,8 @@
--- `put_two` meets its contract: both are written. Assumes nothing.
-use Rattle.exports.proofs.Answers.{two}
+-- `put_two` meets its contract: all words are written. Assumes nothing.
+use mathlib.Core.Path.{refl}
+use Rattle.exports.specs.Words.{first_word}
 use Rattle.exports.proofs.answer.put_two.Goals as goal
 
 pub returns : goal.returns
-returns c = two c.args.answer.now _ _ c.requires
+unfolding first_word
+returns c = record { words = refl; number = refl }

@@ -6,9 +6,9 @@ use Rattle.faults.specs.Faulting.{field_fault}
 use Rattle.faults.proofs.Telling.{base_small, field_stuck}
 use Rattle.faults.proofs.fields.field_fault.Goals as goal
 
-pub returns-in-Is : goal.returns-in-Is
+pub returns-in-Some : goal.returns-in-Some
 unfolding field_fault
-returns-in-Is c = c.told_at.ensures ∙ sym (rw (told c.args.text.now c.field_at-n.ensures c.in-Is.is))
+returns-in-Some c = c.told_at.ensures ∙ sym (rw (told c.args.text.now c.field_at.ensures c.in-Some.is))
 
 pub no_digit-stuck-requires : goal.no_digit-stuck-requires
 unfolding field_fault
@@ -20,4 +20,4 @@ overflow_add-left c = omega (arith, c.requires)
 
 pub returns : goal.returns
 unfolding field_fault
-returns c = c.told_at-2.ensures ∙ field_stuck c.args.kind c.args.left _ c.base_of-base.ensures c.no_digit-stuck.ensures (told_bad c.args.text.now c.field_at-n.ensures c.in_default.is)
+returns c = c.told_at-2.ensures ∙ field_stuck c.args.kind c.args.left _ c.base_of-base.ensures c.no_digit-stuck.ensures (told_bad c.args.text.now c.field_at.ensures c.in_default.is)

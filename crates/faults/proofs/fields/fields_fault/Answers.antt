@@ -14,23 +14,17 @@ overflow_sub-left c = omega arith
 pub overflow_sub-left-in-loop-k : goal.overflow_sub-left-in-loop-k
 overflow_sub-left-in-loop-k c = omega arith
 
-pub end_field-n-requires : goal.end_field-n-requires
-end_field-n-requires c = rw c.stop_of.ensures (stop_positive _)
+pub end_field-requires : goal.end_field-requires
+end_field-requires c = rw c.stop_of.ensures (stop_positive _)
 
 pub field_fault-requires : goal.field_fault-requires
 field_fault-requires c = omega arith
 
 pub returns-in_default : goal.returns-in_default
-returns-in_default c = c.field_fault.ensures ∙ field_bad c.loop-k.invariant (omega (arith, c.loop-k-test.true, c.field_count-count.ensures)) (omega (arith, c.field_count-count.ensures)) c.stop_of.ensures (kind_with c.args.form.now c.args.origin c.loop-k.k c.kind_at-kind.ensures c.field_count-count.ensures c.loop-k-test.true) (ends _ c.end_field-n.ensures c.field_at.ensures) c.in_default.is
-
-pub overflow_add-k : goal.overflow_add-k
-overflow_add-k c = omega arith
-
-pub loop-k-smaller : goal.loop-k-smaller
-loop-k-smaller c = omega arith
+returns-in_default c = c.field_fault.ensures ∙ field_bad c.loop-k.invariant (omega (arith, c.loop-k-test.true, c.field_count-count.ensures)) (omega (arith, c.field_count-count.ensures)) c.stop_of.ensures (kind_with c.args.form.now c.args.origin c.loop-k.k c.kind_at-kind.ensures c.field_count-count.ensures c.loop-k-test.true) (ends _ c.end_field.ensures c.field_at.ensures) c.in_default.is
 
 pub loop-k-preserved : goal.loop-k-preserved
-loop-k-preserved c = field_read c.loop-k.invariant (omega (arith, c.loop-k-test.true, c.field_count-count.ensures)) (omega (arith, c.field_count-count.ensures)) c.stop_of.ensures (kind_with c.args.form.now c.args.origin c.loop-k.k c.kind_at-kind.ensures c.field_count-count.ensures c.loop-k-test.true) (ends _ c.end_field-n.ensures c.field_at.ensures) c.in-Is.is
+loop-k-preserved c = field_read c.loop-k.invariant (omega (arith, c.loop-k-test.true, c.field_count-count.ensures)) (omega (arith, c.field_count-count.ensures)) c.stop_of.ensures (kind_with c.args.form.now c.args.origin c.loop-k.k c.kind_at-kind.ensures c.field_count-count.ensures c.loop-k-test.true) (ends _ c.end_field.ensures c.field_at.ensures) c.in-Some.is
 
 pub returns : goal.returns
 returns c = fields_done c.loop-k.invariant (omega (arith, c.loop-k-test.false, c.field_count-count.ensures))

@@ -1,11 +1,7 @@
 -- `fields_fault` meets its contract. The invariant is `Fielding`; the measure is what is left of the form. Assumes nothing.
-use Prim.Native.Nat.{◌-◌}
 use Rattle.faults.specs.Faulting.{form_with}
 use Rattle.faults.proofs.Telling.{Fielding}
 use Rattle.faults.proofs.fields.fields_fault.Given as goal
 
 abbrev pub invariant-loop-k : goal.invariant-loop-k
 invariant-loop-k l = Fielding l.text (form_with l.origin l.form) l.at l.i l.k
-
-abbrev pub decreases-loop-k : goal.decreases-loop-k
-decreases-loop-k l = l.count - l.k

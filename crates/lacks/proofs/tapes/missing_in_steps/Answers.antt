@@ -1,7 +1,6 @@
 -- `missing_in_steps` meets its contract: the steps that are left name what the tape names. Assumes nothing.
 use native.Mathlib.Omega.{arith}
 use Rattle.lacks.proofs.Stepping.{same_begins, same_stops, same_goes, same_ends}
-use borrow.Enum.Refused.{opened}
 use Rattle.lacks.proofs.tapes.missing_in_steps.Goals as goal
 
 pub loop-i-init : goal.loop-i-init
@@ -13,17 +12,11 @@ overflow_mul-i c = omega (arith, c.loop-i-test.true)
 pub fields_at-requires : goal.fields_at-requires
 fields_at-requires c = omega (arith, c.loop-i-test.true)
 
-pub returns-in_default : goal.returns-in_default
-returns-in_default c = λ h. same_stops (c.loop-i.invariant h) c.loop-i-test.true c.fields_at.ensures c.step_of.ensures (c.missing_step-x.ensures h) (opened c.in_default.in_default-own.keys2)
-
-pub overflow_add-i : goal.overflow_add-i
-overflow_add-i c = omega (arith, c.loop-i-test.true)
-
-pub loop-i-smaller : goal.loop-i-smaller
-loop-i-smaller c = omega (arith, c.loop-i-test.true)
+pub returns-in-Some : goal.returns-in-Some
+returns-in-Some c = λ h. same_stops (c.loop-i.invariant h) c.loop-i-test.true c.fields_at.ensures c.step_of-step.ensures (c.missing_step.ensures h) c.in-Some.is
 
 pub loop-i-preserved : goal.loop-i-preserved
-loop-i-preserved c = λ h. same_goes (c.loop-i.invariant h) c.loop-i-test.true c.fields_at.ensures c.step_of.ensures (c.missing_step-x.ensures h) c.in-Nothing.is
+loop-i-preserved c = λ h. same_goes (c.loop-i.invariant h) c.loop-i-test.true c.fields_at.ensures c.step_of-step.ensures (c.missing_step.ensures h) c.in_default.is
 
 pub returns : goal.returns
 returns c = λ h. same_ends (c.loop-i.invariant h) c.loop-i-test.false

@@ -10,11 +10,11 @@ overflow_add-result c = let l = inside c.args.s.now c.args.at (omega (arith, c.b
 pub returns-then-byte_at-eq45 : goal.returns-then-byte_at-eq45
 returns-then-byte_at-eq45 c = reads_minus c.args.s.now _ c.byte_at.ensures c.if-byte_at-eq45.true
 
-pub returns-in_default : goal.returns-in_default
-returns-in_default c = reads_no_number c.args.s.now _ c.byte_at.ensures c.if-byte_at-eq45.false c.read_decimal-n.ensures c.in_default.is
+pub returns-in_err-line : goal.returns-in_err-line
+returns-in_err-line c = rw c.from_residual.ensures (reads_no_number c.args.s.now _ c.byte_at.ensures c.if-byte_at-eq45.false c.read_decimal.ensures c.in_err-line.was)
 
 pub overflow_add-result-2 : goal.overflow_add-result-2
-overflow_add-result-2 c = let l = told_low c.args.s.now _ _ c.read_decimal-n.ensures c.in-Is.is in omega (arith, l)
+overflow_add-result-2 c = let l = told_low c.args.s.now _ _ c.read_decimal.ensures c.in_ok-line.was in omega (arith, l)
 
 pub returns : goal.returns
-returns c = reads_number c.args.s.now _ c.byte_at.ensures c.if-byte_at-eq45.false c.read_decimal-n.ensures c.in-Is.is
+returns c = reads_number c.args.s.now _ c.byte_at.ensures c.if-byte_at-eq45.false c.read_decimal.ensures c.in_ok-line.was

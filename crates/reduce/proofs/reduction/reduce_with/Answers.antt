@@ -5,8 +5,8 @@ use Rattle.reduce.proofs.reduction.reduce_with.Goals as goal
 pub returns-then-text-gt-MOST : goal.returns-then-text-gt-MOST
 returns-then-text-gt-MOST c = record { reduces = (too_long_lem c.if-text-gt-MOST.true (c.write_refused.ensures.put, c.write_refused.ensures.within)).0; within = c.write_refused.ensures.within }
 
-pub returns-in-Bytes : goal.returns-in-Bytes
-returns-in-Bytes c = record { reduces = (prints_listing c.if-text-gt-MOST.false c.simplify_text-answer.ensures c.in-Bytes.is c.part.ensures.prefix_len c.part.ensures.least).0; within = (prints_listing c.if-text-gt-MOST.false c.simplify_text-answer.ensures c.in-Bytes.is c.part.ensures.prefix_len c.part.ensures.least).1 }
+pub returns-in-Ok : goal.returns-in-Ok
+returns-in-Ok c = record { reduces = (prints_listing c.if-text-gt-MOST.false c.simplify_text.ensures c.in-Ok.is c.part.ensures.prefix_len c.part.ensures.least).0; within = (prints_listing c.if-text-gt-MOST.false c.simplify_text.ensures c.in-Ok.is c.part.ensures.prefix_len c.part.ensures.least).1 }
 
-pub returns-in-Refused : goal.returns-in-Refused
-returns-in-Refused c = record { reduces = (prints_refusal c.if-text-gt-MOST.false c.simplify_text-answer.ensures c.in-Refused.is (c.write_refusal.ensures.put, c.write_refusal.ensures.within)).0; within = (prints_refusal c.if-text-gt-MOST.false c.simplify_text-answer.ensures c.in-Refused.is (c.write_refusal.ensures.put, c.write_refusal.ensures.within)).1 }
+pub returns-in-Err : goal.returns-in-Err
+returns-in-Err c = record { reduces = (prints_refusal c.if-text-gt-MOST.false c.simplify_text.ensures c.in-Err.is (c.write_refusal.ensures.put, c.write_refusal.ensures.within)).0; within = (prints_refusal c.if-text-gt-MOST.false c.simplify_text.ensures c.in-Err.is (c.write_refusal.ensures.put, c.write_refusal.ensures.within)).1 }

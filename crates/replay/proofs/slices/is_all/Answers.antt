@@ -1,16 +1,13 @@
--- `replay::slices::is_all` meets its contract: the bytes between the first place and the place are this one. Assumes nothing.
-use native.Mathlib.Omega.{arith}
-use Rattle.replay.proofs.Judging.{from_none, from_more, from_no, from_yes}
+-- `replay::slices::is_all` meets its contract. Assumes nothing.
+use Rattle.std.proofs.Common.{rules, ◌∙◌, nat_eq, drop}
+use Rattle.std.proofs.lemmas.Iterator.{YieldsList-from_slice}
+use Rattle.std.proofs.lemmas.Iterator.Adapters.{YieldsList-from_skip}
+use Rattle.std.proofs.lemmas.Iterator.Search.{all_from_yields_List}
+use borrow.Author.Tests.{tests}
+use Rattle.replay.proofs.Judging.{listed}
 use Rattle.replay.proofs.slices.is_all.Goals as goal
 
-pub loop-i-init : goal.loop-i-init
-loop-i-init c = (omega arith, from_none c.args.byte c.args.s.now c.args.from)
-
-pub returns-then-s-i : goal.returns-then-s-i
-returns-then-s-i c = from_no c.args.byte c.args.s.now c.args.from c.loop-i.i c.loop-i.invariant.0 c.loop-i-test.true c.if-s-i.true
-
-pub loop-i-preserved : goal.loop-i-preserved
-loop-i-preserved c = (omega arith, from_more c.args.byte c.args.s.now c.args.from c.loop-i.i c.loop-i.invariant.0 c.loop-i.invariant.1 c.if-s-i.false)
-
 pub returns : goal.returns
-returns c = from_yes c.args.byte c.args.s.now c.args.from c.loop-i.i c.loop-i-test.false c.loop-i.invariant.1
+returns c =
+    all_from_yields_List (λ x. nat_eq x c.args.byte) _ _ c.all.result c.all.ensures.ran (YieldsList-from_skip c.args.from (YieldsList-from_slice c.args.s.now cc) cc) (λ x b q k. search (rules, tests))
+    ∙ listed (λ x. nat_eq x c.args.byte) 0 (drop c.args.from c.args.s.now)

@@ -1,15 +1,12 @@
--- `replay::slices::is_zero` meets its contract: the words before the place are zero. Assumes nothing.
-use Rattle.replay.proofs.Judging.{none_yet, all_more, all_no, all_yes}
+-- `replay::slices::is_zero` meets its contract. Assumes nothing.
+use Rattle.std.proofs.Common.{rules, ◌∙◌, nat_eq}
+use Rattle.std.proofs.lemmas.Iterator.{YieldsList-from_slice}
+use Rattle.std.proofs.lemmas.Iterator.Search.{all_from_yields_List}
+use borrow.Author.Tests.{tests}
+use Rattle.replay.proofs.Judging.{listed}
 use Rattle.replay.proofs.slices.is_zero.Goals as goal
 
-pub loop-i-init : goal.loop-i-init
-loop-i-init c = none_yet _
-
-pub returns-then-s-i-ne0 : goal.returns-then-s-i-ne0
-returns-then-s-i-ne0 c = all_no 0 c.args.s.now c.loop-i.i c.loop-i-test.true c.if-s-i-ne0.true
-
-pub loop-i-preserved : goal.loop-i-preserved
-loop-i-preserved c = all_more 0 c.args.s.now c.loop-i.i c.loop-i.invariant c.if-s-i-ne0.false
-
 pub returns : goal.returns
-returns c = all_yes 0 c.args.s.now c.loop-i.i c.loop-i-test.false c.loop-i.invariant
+returns c =
+    all_from_yields_List (λ x. nat_eq x 0) _ _ c.all.result c.all.ensures.ran (YieldsList-from_slice c.args.s.now cc) (λ x b q k. search (rules, tests))
+    ∙ listed (λ x. nat_eq x 0) 0 c.args.s.now

@@ -1,19 +1,13 @@
--- `replay::slices::is_zero_in` meets its contract: the rows before the place are blank. Assumes nothing.
-use mathlib.Core.Path.{sym, ◌∙◌}
-use mathlib.Core.List.{[]}
-use lib.ListN.{get_or}
+-- `replay::slices::is_zero_in` meets its contract. Assumes nothing.
+use Rattle.std.proofs.Common.{rules, ◌∙◌}
+use Rattle.std.proofs.lemmas.Iterator.{YieldsList-from_slice}
+use Rattle.std.proofs.lemmas.Iterator.Search.{all_from_yields_List}
+use borrow.Author.Tests.{tests}
 use Rattle.replay.specs.Judges.{blank}
-use Rattle.replay.proofs.Judging.{none_yet, one_more_lem, rows_no, rows_yes}
+use Rattle.replay.proofs.Judging.{rows_listed}
 use Rattle.replay.proofs.slices.is_zero_in.Goals as goal
 
-pub loop-i-init : goal.loop-i-init
-loop-i-init c = none_yet _
-
-pub returns-then-not-is_blank : goal.returns-then-not-is_blank
-returns-then-not-is_blank c = rows_no c.args.n c.args.s.now c.part_of_rows-most.ensures.least c.loop-i.i c.loop-i-test.true (sym c.is_blank.ensures ∙ c.if-not-is_blank.true)
-
-pub loop-i-preserved : goal.loop-i-preserved
-loop-i-preserved c = one_more_lem (λ k. blank (get_or c.args.s.now k [])) c.loop-i.i c.loop-i.invariant (sym c.is_blank.ensures ∙ c.if-not-is_blank.false)
-
 pub returns : goal.returns
-returns c = rows_yes c.args.n c.args.s.now c.part_of_rows-most.ensures.least c.loop-i.i c.loop-i-test.false c.loop-i.invariant
+returns c =
+    all_from_yields_List blank _ _ c.all.result c.all.ensures.ran (YieldsList-from_slice _ cc) (λ x b q k. search (rules, tests))
+    ∙ rows_listed c.args.n c.args.s.now c.part.ensures.least

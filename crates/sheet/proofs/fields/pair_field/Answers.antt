@@ -4,14 +4,14 @@ use Rattle.text.specs.Reading.{then}
 use Rattle.sheet.specs.Rows.{complex_field}
 use Rattle.sheet.proofs.fields.pair_field.Goals as goal
 
-pub returns-in_default : goal.returns-in_default
+pub returns-in_err-re : goal.returns-in_err-re
 unfolding complex_field then
-returns-in_default c = (rw (sym (rw c.in_default.is at c.hex_field-first.ensures.answer)), tt)
+returns-in_err-re c = rw c.from_residual.ensures (rw (sym (rw c.in_err-re.was at c.hex_field.ensures.answer)), tt)
 
-pub returns-in_default-last : goal.returns-in_default-last
+pub returns-in_err-im : goal.returns-in_err-im
 unfolding complex_field then
-returns-in_default-last c = (rw (sym (rw c.in-Is.is at c.hex_field-first.ensures.answer), sym (rw c.in_default-last.is at c.hex_field-last.ensures.answer)), tt)
+returns-in_err-im c = rw c.from_residual-in_err-im.ensures (rw (sym (rw c.in_ok-re.was at c.hex_field.ensures.answer), sym (rw c.in_err-im.was at c.hex_field-2.ensures.answer)), tt)
 
 pub returns : goal.returns
 unfolding complex_field then
-returns c = (rw (sym (rw c.in-Is.is at c.hex_field-first.ensures.answer), sym (rw c.in-Is-last.is at c.hex_field-last.ensures.answer)), rw c.in-Is-last.is at c.hex_field-last.ensures.inside)
+returns c = (rw (sym (rw c.in_ok-re.was at c.hex_field.ensures.answer), sym (rw c.in_ok-im.was at c.hex_field-2.ensures.answer)), rw c.in_ok-im.was at c.hex_field-2.ensures.inside)

@@ -5,22 +5,22 @@ use Rattle.sheet.specs.Rows.{cell_fields}
 use Rattle.sheet.proofs.Parsing.{below_limit}
 use Rattle.sheet.proofs.fields.read_cell.Goals as goal
 
-pub returns-in_default : goal.returns-in_default
+pub returns-in_err-start : goal.returns-in_err-start
 unfolding cell_fields then
-returns-in_default c = (rw (sym (rw c.in_default.is at c.end_field-kind.ensures.answer)), tt, tt)
+returns-in_err-start c = rw c.from_residual.ensures (rw (sym (rw c.in_err-start.was at c.end_field.ensures.answer)), tt, tt)
 
-pub returns-in_default-area : goal.returns-in_default-area
+pub returns-in_err-region : goal.returns-in_err-region
 unfolding cell_fields then
-returns-in_default-area c = (rw (sym (rw c.in-Is.is at c.end_field-kind.ensures.answer), sym (rw c.in_default-area.is at c.decimal_field-area.ensures.answer)), tt, tt)
+returns-in_err-region c = rw c.from_residual-in_err-region.ensures (rw (sym (rw c.in_ok-start.was at c.end_field.ensures.answer), sym (rw c.in_err-region.was at c.decimal_field.ensures.answer)), tt, tt)
 
-pub returns-in_default-place : goal.returns-in_default-place
+pub returns-in_err-index : goal.returns-in_err-index
 unfolding cell_fields then
-returns-in_default-place c = (rw (sym (rw c.in-Is.is at c.end_field-kind.ensures.answer), sym (rw c.in-Is-area.is at c.decimal_field-area.ensures.answer), sym (rw c.in_default-place.is at c.decimal_field-place.ensures.answer)), tt, tt)
+returns-in_err-index c = rw c.from_residual-in_err-index.ensures (rw (sym (rw c.in_ok-start.was at c.end_field.ensures.answer), sym (rw c.in_ok-region.was at c.decimal_field.ensures.answer), sym (rw c.in_err-index.was at c.decimal_field-2.ensures.answer)), tt, tt)
 
-pub returns-in_default-value : goal.returns-in_default-value
+pub returns-in_err-real : goal.returns-in_err-real
 unfolding cell_fields then
-returns-in_default-value c = (rw (sym (rw c.in-Is.is at c.end_field-kind.ensures.answer), sym (rw c.in-Is-area.is at c.decimal_field-area.ensures.answer), sym (rw c.in-Is-place.is at c.decimal_field-place.ensures.answer), sym (rw c.in_default-value.is at c.hex_field-value.ensures.answer)), tt, tt)
+returns-in_err-real c = rw c.from_residual-in_err-real.ensures (rw (sym (rw c.in_ok-start.was at c.end_field.ensures.answer), sym (rw c.in_ok-region.was at c.decimal_field.ensures.answer), sym (rw c.in_ok-index.was at c.decimal_field-2.ensures.answer), sym (rw c.in_err-real.was at c.hex_field.ensures.answer)), tt, tt)
 
 pub returns : goal.returns
 unfolding cell_fields then
-returns c = (rw (sym (rw c.in-Is.is at c.end_field-kind.ensures.answer), sym (rw c.in-Is-area.is at c.decimal_field-area.ensures.answer), sym (rw c.in-Is-place.is at c.decimal_field-place.ensures.answer), sym (rw c.in-Is-value.is at c.hex_field-value.ensures.answer)), (below_limit _ _ _ (rw c.in-Is-area.is at c.decimal_field-area.ensures.answer), below_limit _ _ _ (rw c.in-Is-place.is at c.decimal_field-place.ensures.answer)), rw c.in-Is-value.is at c.hex_field-value.ensures.inside)
+returns c = (rw (sym (rw c.in_ok-start.was at c.end_field.ensures.answer), sym (rw c.in_ok-region.was at c.decimal_field.ensures.answer), sym (rw c.in_ok-index.was at c.decimal_field-2.ensures.answer), sym (rw c.in_ok-real.was at c.hex_field.ensures.answer)), (below_limit _ _ _ (rw c.in_ok-region.was at c.decimal_field.ensures.answer), below_limit _ _ _ (rw c.in_ok-index.was at c.decimal_field-2.ensures.answer)), rw c.in_ok-real.was at c.hex_field.ensures.inside)

@@ -5,26 +5,26 @@ use Rattle.sheet.specs.Rows.{row_fields}
 use Rattle.sheet.proofs.Parsing.{name_small}
 use Rattle.sheet.proofs.fields.read_row.Goals as goal
 
-pub returns-in_default : goal.returns-in_default
+pub returns-in_err-start : goal.returns-in_err-start
 unfolding row_fields then
-returns-in_default c = (rw (sym (rw c.in_default.is at c.end_field-kind.ensures.answer)), tt, tt)
+returns-in_err-start c = rw c.from_residual.ensures (rw (sym (rw c.in_err-start.was at c.end_field.ensures.answer)), tt, tt)
 
-pub returns-in_default-word : goal.returns-in_default-word
+pub returns-in_err-name : goal.returns-in_err-name
 unfolding row_fields then
-returns-in_default-word c = (rw (sym (rw c.in-Is.is at c.end_field-kind.ensures.answer), sym (rw c.in_default-word.is at (c.end_field-word.ensures.answer ∙ ap (ended _) c.operation_at.ensures.answer))), tt, tt)
+returns-in_err-name c = rw c.from_residual-in_err-name.ensures (rw (sym (rw c.in_ok-start.was at c.end_field.ensures.answer), sym (rw c.in_err-name.was at (c.end_field-2.ensures.answer ∙ ap (ended _) c.operation_at.ensures.answer))), tt, tt)
 
-pub returns-in_default-first : goal.returns-in_default-first
+pub returns-in_err-x : goal.returns-in_err-x
 unfolding row_fields then
-returns-in_default-first c = (rw (sym (rw c.in-Is.is at c.end_field-kind.ensures.answer), sym (rw c.in-Is-word.is at (c.end_field-word.ensures.answer ∙ ap (ended _) c.operation_at.ensures.answer)), sym (rw c.in_default-first.is at c.pair_field-first.ensures.0)), tt, tt)
+returns-in_err-x c = rw c.from_residual-in_err-x.ensures (rw (sym (rw c.in_ok-start.was at c.end_field.ensures.answer), sym (rw c.in_ok-name.was at (c.end_field-2.ensures.answer ∙ ap (ended _) c.operation_at.ensures.answer)), sym (rw c.in_err-x.was at c.pair_field.ensures.0)), tt, tt)
 
-pub returns-in_default-second : goal.returns-in_default-second
+pub returns-in_err-y : goal.returns-in_err-y
 unfolding row_fields then
-returns-in_default-second c = (rw (sym (rw c.in-Is.is at c.end_field-kind.ensures.answer), sym (rw c.in-Is-word.is at (c.end_field-word.ensures.answer ∙ ap (ended _) c.operation_at.ensures.answer)), sym (rw c.in-Are.is at c.pair_field-first.ensures.0), sym (rw c.in_default-second.is at c.second_operand-second.ensures.0)), tt, tt)
+returns-in_err-y c = rw c.from_residual-in_err-y.ensures (rw (sym (rw c.in_ok-start.was at c.end_field.ensures.answer), sym (rw c.in_ok-name.was at (c.end_field-2.ensures.answer ∙ ap (ended _) c.operation_at.ensures.answer)), sym (rw c.in_ok-x.was at c.pair_field.ensures.0), sym (rw c.in_err-y.was at c.second_operand.ensures.0)), tt, tt)
 
-pub returns-in_default-value : goal.returns-in_default-value
+pub returns-in_err-value : goal.returns-in_err-value
 unfolding row_fields then
-returns-in_default-value c = (rw (sym (rw c.in-Is.is at c.end_field-kind.ensures.answer), sym (rw c.in-Is-word.is at (c.end_field-word.ensures.answer ∙ ap (ended _) c.operation_at.ensures.answer)), sym (rw c.in-Are.is at c.pair_field-first.ensures.0), sym (rw c.in-Are-second.is at c.second_operand-second.ensures.0), sym (rw c.in_default-value.is at c.pair_field-value.ensures.0)), tt, tt)
+returns-in_err-value c = rw c.from_residual-in_err-value.ensures (rw (sym (rw c.in_ok-start.was at c.end_field.ensures.answer), sym (rw c.in_ok-name.was at (c.end_field-2.ensures.answer ∙ ap (ended _) c.operation_at.ensures.answer)), sym (rw c.in_ok-x.was at c.pair_field.ensures.0), sym (rw c.in_ok-y.was at c.second_operand.ensures.0), sym (rw c.in_err-value.was at c.pair_field-2.ensures.0)), tt, tt)
 
 pub returns : goal.returns
 unfolding row_fields then
-returns c = (rw (sym (rw c.in-Is.is at c.end_field-kind.ensures.answer), sym (rw c.in-Is-word.is at (c.end_field-word.ensures.answer ∙ ap (ended _) c.operation_at.ensures.answer)), sym (rw c.in-Are.is at c.pair_field-first.ensures.0), sym (rw c.in-Are-second.is at c.second_operand-second.ensures.0), sym (rw c.in-Are-value.is at c.pair_field-value.ensures.0)), name_small _ _ (sym (sym (rw c.in-Is-word.is at (c.end_field-word.ensures.answer ∙ ap (ended _) c.operation_at.ensures.answer)))), rw c.in-Are-value.is at c.pair_field-value.ensures.1)
+returns c = (rw (sym (rw c.in_ok-start.was at c.end_field.ensures.answer), sym (rw c.in_ok-name.was at (c.end_field-2.ensures.answer ∙ ap (ended _) c.operation_at.ensures.answer)), sym (rw c.in_ok-x.was at c.pair_field.ensures.0), sym (rw c.in_ok-y.was at c.second_operand.ensures.0), sym (rw c.in_ok-value.was at c.pair_field-2.ensures.0)), name_small _ _ (sym (sym (rw c.in_ok-name.was at (c.end_field-2.ensures.answer ∙ ap (ended _) c.operation_at.ensures.answer)))), rw c.in_ok-value.was at c.pair_field-2.ensures.1)

@@ -5,26 +5,26 @@ use Rattle.text.specs.Reading.{then}
 use Rattle.sheet.specs.Rows.{second_operand}
 use Rattle.sheet.proofs.fields.second_operand.Goals as goal
 
-pub returns-in_default : goal.returns-in_default
+pub returns-in_err-re : goal.returns-in_err-re
 unfolding second_operand then
-returns-in_default c = (rw (sym (rw c.in_default.is at c.hex_field-first.ensures.answer)), tt)
+returns-in_err-re c = rw c.from_residual.ensures (rw (sym (rw c.in_err-re.was at c.hex_field.ensures.answer)), tt)
 
-pub returns-in_default-last : goal.returns-in_default-last
+pub returns-in_err-im : goal.returns-in_err-im
 unfolding second_operand then
-returns-in_default-last c = (rw (sym (rw c.in-Is.is at c.hex_field-first.ensures.answer), sym (rw c.in_default-last.is at c.hex_field-last.ensures.answer)), tt)
+returns-in_err-im c = rw c.from_residual-in_err-im.ensures (rw (sym (rw c.in_ok-re.was at c.hex_field.ensures.answer), sym (rw c.in_err-im.was at c.hex_field-2.ensures.answer)), tt)
 
 pub returns-then-name-eq-POWER : goal.returns-then-name-eq-POWER
 unfolding second_operand then
-returns-then-name-eq-POWER c = (rw (sym (rw c.in-Is.is at c.hex_field-first.ensures.answer), sym (rw c.in-Is-last.is at c.hex_field-last.ensures.answer), eq-eqb _ _ c.if-name-eq-POWER.true), rw c.in-Is-last.is at c.hex_field-last.ensures.inside)
+returns-then-name-eq-POWER c = (rw (sym (rw c.in_ok-re.was at c.hex_field.ensures.answer), sym (rw c.in_ok-im.was at c.hex_field-2.ensures.answer), eq-eqb _ _ c.if-name-eq-POWER.true), rw c.in_ok-im.was at c.hex_field-2.ensures.inside)
 
 pub returns-then-re-ne0 : goal.returns-then-re-ne0
 unfolding second_operand then
-returns-then-re-ne0 c = (rw (sym (rw c.in-Is.is at c.hex_field-first.ensures.answer), sym (rw c.in-Is-last.is at c.hex_field-last.ensures.answer), ne_eqb _ _ c.if-name-eq-POWER.false, ne_eqb _ _ c.if-re-ne0.true), tt)
+returns-then-re-ne0 c = (rw (sym (rw c.in_ok-re.was at c.hex_field.ensures.answer), sym (rw c.in_ok-im.was at c.hex_field-2.ensures.answer), ne_eqb _ _ c.if-name-eq-POWER.false, ne_eqb _ _ c.if-re-ne0.true), tt)
 
 pub returns-then-im-ne0 : goal.returns-then-im-ne0
 unfolding second_operand then
-returns-then-im-ne0 c = (rw (sym (rw c.in-Is.is at c.hex_field-first.ensures.answer), sym (rw c.in-Is-last.is at c.hex_field-last.ensures.answer), ne_eqb _ _ c.if-name-eq-POWER.false, eq-eqb _ _ c.if-re-ne0.false, ne_eqb _ _ c.if-im-ne0.true), tt)
+returns-then-im-ne0 c = (rw (sym (rw c.in_ok-re.was at c.hex_field.ensures.answer), sym (rw c.in_ok-im.was at c.hex_field-2.ensures.answer), ne_eqb _ _ c.if-name-eq-POWER.false, eq-eqb _ _ c.if-re-ne0.false, ne_eqb _ _ c.if-im-ne0.true), tt)
 
 pub returns : goal.returns
 unfolding second_operand then
-returns c = (rw (sym (rw c.in-Is.is at c.hex_field-first.ensures.answer), sym (rw c.in-Is-last.is at c.hex_field-last.ensures.answer), ne_eqb _ _ c.if-name-eq-POWER.false, eq-eqb _ _ c.if-re-ne0.false, eq-eqb _ _ c.if-im-ne0.false), rw c.in-Is-last.is at c.hex_field-last.ensures.inside)
+returns c = (rw (sym (rw c.in_ok-re.was at c.hex_field.ensures.answer), sym (rw c.in_ok-im.was at c.hex_field-2.ensures.answer), ne_eqb _ _ c.if-name-eq-POWER.false, eq-eqb _ _ c.if-re-ne0.false, eq-eqb _ _ c.if-im-ne0.false), rw c.in_ok-im.was at c.hex_field-2.ensures.inside)

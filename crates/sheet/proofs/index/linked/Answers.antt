@@ -5,4 +5,4 @@ use Rattle.sheet.proofs.index.linked.Goals as goal
 
 pub returns : goal.returns
 unfolding linked
-returns c = refl
+returns c = rw c.link_of.ensures refl

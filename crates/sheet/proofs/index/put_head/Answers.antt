@@ -5,4 +5,4 @@ use Rattle.sheet.proofs.index.put_head.Goals as goal
 
 pub returns : goal.returns
 unfolding headed
-returns c = rw (c.put.ensures, c.word_at-word.ensures) refl
+returns c = rw (c.put.ensures, c.link_of.ensures, c.word_at-word.ensures) refl

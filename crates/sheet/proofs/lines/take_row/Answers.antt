@@ -10,13 +10,13 @@ pub returns-then-count-ge-MOST_FUNCTIONS : goal.returns-then-count-ge-MOST_FUNCT
 returns-then-count-ge-MOST_FUNCTIONS c = refuses (row_many c.args.table.now c.args.counts c.line_number-line.result c.line_number-line.ensures _ _ c.if-count-ge-MOST_FUNCTIONS.true)
 
 pub returns-in_default : goal.returns-in_default
-returns-in_default c = refuses (row_malformed c.args.table.now c.args.counts c.line_number-line.result c.line_number-line.ensures _ _ c.if-count-ge-MOST_FUNCTIONS.false (rw c.in_default.is at c.read_row-fields.ensures.0))
+returns-in_default c = refuses (row_malformed c.args.table.now c.args.counts c.line_number-line.result c.line_number-line.ensures _ _ c.if-count-ge-MOST_FUNCTIONS.false (rw c.in_default.is at c.read_row.ensures.0))
 
 pub put_row-requires : goal.put_row-requires
-put_row-requires c = (c.if-count-ge-MOST_FUNCTIONS.false, c.requires.0, (rw c.in-Are.is at c.read_row-fields.ensures.1).0, (rw c.in-Are.is at c.read_row-fields.ensures.1).1)
+put_row-requires c = (c.if-count-ge-MOST_FUNCTIONS.false, c.requires.0, (rw c.in-Some.is at c.read_row.ensures.1).0, (rw c.in-Some.is at c.read_row.ensures.1).1)
 
 pub overflow_add-more : goal.overflow_add-more
 overflow_add-more c = omega arith
 
 pub returns : goal.returns
-returns c = row_taken _ c.args.table.now c.args.counts c.requires.1 c.requires.0 c.line_number-line.result c.line_number-line.ensures _ _ _ _ _ _ _ c.if-count-ge-MOST_FUNCTIONS.false (rw c.in-Are.is at c.read_row-fields.ensures.0) c.put_row.ensures (rw c.in-Are.is at c.read_row-fields.ensures.2)
+returns c = row_taken _ c.args.table.now c.args.counts c.requires.1 c.requires.0 c.line_number-line.result c.line_number-line.ensures _ _ _ _ _ _ _ c.if-count-ge-MOST_FUNCTIONS.false (rw c.in-Some.is at c.read_row.ensures.0) c.put_row.ensures (rw c.in-Some.is at c.read_row.ensures.2)

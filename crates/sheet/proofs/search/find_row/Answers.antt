@@ -1,10 +1,6 @@
 -- `find_row` meets its contract: what the walk from the head of the bucket finds. Assumes nothing.
-use native.Mathlib.Omega.{arith}
 use Rattle.sheet.proofs.Indexing.{head_within}
 use Rattle.sheet.proofs.search.find_row.Goals as goal
-
-pub returns-then-count-gt-MOST_FUNCTIONS : goal.returns-then-count-gt-MOST_FUNCTIONS
-returns-then-count-gt-MOST_FUNCTIONS c = (λ l. absurd (omega arith), λ l h. absurd (omega arith))
 
 pub bucket_of-bucket-requires : goal.bucket_of-bucket-requires
 bucket_of-bucket-requires c = tt
@@ -15,5 +11,5 @@ head_of-head-requires c = (c.if-count-gt-MOST_FUNCTIONS.false, c.bucket_of-bucke
 pub walk-requires : goal.walk-requires
 walk-requires c = (c.if-count-gt-MOST_FUNCTIONS.false, head_within c.args.table.now c.args.count c.bucket_of-bucket.result c.head_of-head.ensures)
 
-pub returns : goal.returns
-returns c = (λ l. omega (arith, c.if-count-gt-MOST_FUNCTIONS.false), λ l h. c.walk.ensures.1 h (rw c.bucket_of-bucket.ensures.0 at c.head_of-head.ensures))
+pub returns-clause-first : goal.returns-clause-first
+returns-clause-first c = λ l h. c.walk.ensures.first h (rw c.bucket_of-bucket.ensures.0 at c.head_of-head.ensures)

@@ -1,26 +1,21 @@
--- `scan` meets its contract. The invariant is `Passed`: no row before passes. Assumes nothing.
-use mathlib.Core.Path.{sym, ◌∙◌}
+-- `scan` meets its contract. Assumes nothing.
+use Rattle.std.proofs.Common.{rules}
+use mathlib.Core.Path.{◌≡◌}
+use mathlib.Core.Bool.{Bool, true, false}
+use Prim.Native.Nat.{ℕ, ◌≤◌, ◌<◌}
 use native.Mathlib.Omega.{arith}
-use Rattle.sheet.proofs.Seeking.{passed_begins, passed_hits, passed_more, passed_ends}
+use Rattle.std.specs.Prelude.{Option, Some, None, MatchOption}
+use Rattle.std.proofs.lemmas.Iterator.{first_from_Range}
+use Rattle.memory.specs.Keys.{FirstOf}
+use Rattle.sheet.specs.Table.{row_matches}
 use Rattle.sheet.proofs.search.scan.Goals as goal
 
-pub loop-j-init : goal.loop-j-init
-loop-j-init c = passed_begins _ _
-
-pub row_matches-requires : goal.row_matches-requires
-row_matches-requires c = omega (arith, c.loop-j-test.true, c.requires)
-
-pub returns-then-row_matches : goal.returns-then-row_matches
-returns-then-row_matches c = passed_hits c.loop-j.invariant c.loop-j-test.true (sym c.row_matches.ensures ∙ c.if-row_matches.true)
-
-pub overflow_add-j : goal.overflow_add-j
-overflow_add-j c = omega (arith, c.loop-j-test.true, c.requires)
-
-pub loop-j-smaller : goal.loop-j-smaller
-loop-j-smaller c = omega (arith, c.loop-j-test.true)
-
-pub loop-j-preserved : goal.loop-j-preserved
-loop-j-preserved c = passed_more c.loop-j.invariant c.loop-j-test.true (sym c.row_matches.ensures ∙ c.if-row_matches.false)
+of_range : (test : ℕ → Bool) (count : ℕ) (r : Option ℕ)
+    → MatchOption r ((k : ℕ) → 0 ≤ k → k < count → test k ≡ false) (λ i. (0 ≤ i) × (i < count) × (test i ≡ true) × ((k : ℕ) → 0 ≤ k → k < i → test k ≡ false)) → FirstOf test count r
+of_range test count (Some j) m = (m.1, record { within = omega (arith, m.1); hit = λ _. m.2; before = λ k l. m.3 k (omega arith) l })
+of_range test count None m = λ k l. m k (omega arith) l
 
 pub returns : goal.returns
-returns c = passed_ends c.loop-j.invariant c.loop-j-test.false
+returns c = of_range _ _ _ (first_from_Range _ _ _ _
+    (λ k. row_matches c.args.table.now c.args.name c.args.x c.args.y k ≡ true) (λ k. row_matches c.args.table.now c.args.name c.args.x c.args.y k ≡ false)
+    c.find.ensures.ran (λ x q e. search rules) (λ x q e. search rules))

@@ -1,40 +1,34 @@
 -- `walk` meets its contract. The invariant: from here on the walk comes to the first row that matches. Assumes nothing.
-use mathlib.Core.Path.{sym, ◌∙◌}
-use Prim.Native.Nat.{◌-◌}
+use mathlib.Core.Path.{sym, ap}
 use native.Mathlib.Omega.{arith}
+use Rattle.sheet.specs.Index.{link_of}
 use Rattle.sheet.proofs.Seeking.{walking_hits, walking_on, walking_ends}
 use Rattle.sheet.proofs.Indexing.{walking_begins}
 use Rattle.sheet.proofs.search.walk.Goals as goal
 
-pub loop-at-init : goal.loop-at-init
-loop-at-init c = (c.requires.1, λ h e. walking_begins _ _ _ _ _ _ h e)
+pub loop-init : goal.loop-init
+loop-init c = (c.requires.1, λ h e. walking_begins _ _ _ _ _ _ h e)
 
-pub scan-requires : goal.scan-requires
-scan-requires c = c.requires.0
-
-pub returns-then-steps-ge-LONGEST : goal.returns-then-steps-ge-LONGEST
-returns-then-steps-ge-LONGEST c = (c.scan.ensures.within, λ h e. c.scan.ensures)
-
-pub overflow_sub-j : goal.overflow_sub-j
-overflow_sub-j c = omega (arith, c.loop-at-test.true)
+pub returns-in_err-j-clause-first : goal.returns-in_err-j-clause-first
+returns-in_err-j-clause-first c = λ h e. rw c.from_residual.ensures (walking_ends (c.loop.invariant.1 h e) (ap link_of c.in_err-j.was))
 
 pub row_matches-requires : goal.row_matches-requires
-row_matches-requires c = omega (arith, c.loop-at.invariant.0, c.requires.0)
+row_matches-requires c = omega (arith, c.loop.invariant.0, ap link_of c.in_ok-j.was, c.requires.0)
 
 pub returns-then-row_matches : goal.returns-then-row_matches
-returns-then-row_matches c = (omega (arith, c.loop-at.invariant.0), λ h e. walking_hits (c.loop-at.invariant.1 h e) _ (omega (arith, c.loop-at.invariant.0, c.loop-at-test.true)) (omega (arith, c.loop-at-test.true)) (sym c.row_matches.ensures ∙ c.if-row_matches.true))
+returns-then-row_matches c = record {
+  within = omega (arith, c.loop.invariant.0, ap link_of c.in_ok-j.was);
+  first = λ h e. walking_hits (c.loop.invariant.1 h e) _ (omega (arith, c.loop.invariant.0, ap link_of c.in_ok-j.was)) (ap link_of c.in_ok-j.was) (sym c.if-row_matches.ensures);
+}
 
 pub next_of-at-requires : goal.next_of-at-requires
-next_of-at-requires c = omega (arith, c.loop-at.invariant.0, c.requires.0)
+next_of-at-requires c = omega (arith, c.loop.invariant.0, ap link_of c.in_ok-j.was, c.requires.0)
 
-pub overflow_add-steps : goal.overflow_add-steps
-overflow_add-steps c = omega (arith, c.if-steps-ge-LONGEST.false)
+pub loop-preserved : goal.loop-preserved
+loop-preserved c = (
+  omega (arith, c.next_of-at.ensures, c.loop.invariant.0, ap link_of c.in_ok-j.was),
+  λ h e. rw c.next_of-at.ensures (walking_on (c.loop.invariant.1 h e) _ (ap link_of c.in_ok-j.was) (sym c.if-row_matches.ensures)),
+)
 
-pub loop-at-smaller : goal.loop-at-smaller
-loop-at-smaller c = omega (arith, c.next_of-at.ensures, c.loop-at-test.true)
-
-pub loop-at-preserved : goal.loop-at-preserved
-loop-at-preserved c = (omega (arith, c.next_of-at.ensures, c.loop-at.invariant.0), λ h e. rw c.next_of-at.ensures (walking_on (c.loop-at.invariant.1 h e) (c.loop-at.at - 1) (omega (arith, c.loop-at-test.true)) (sym c.row_matches.ensures ∙ c.if-row_matches.false)))
-
-pub returns : goal.returns
-returns c = (omega arith, λ h e. walking_ends (c.loop-at.invariant.1 h e) c.loop-at-test.false)
+pub returns-in_err-at-clause-first : goal.returns-in_err-at-clause-first
+returns-in_err-at-clause-first c = λ h e. rw c.from_residual-in_err-at.ensures (walking_ends (c.loop.invariant.1 h e) (ap link_of c.in_err-at.was))

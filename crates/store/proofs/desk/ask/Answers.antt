@@ -7,5 +7,5 @@ use Rattle.store.proofs.desk.ask.Goals as goal
 pub returns : goal.returns
 returns c = let x = c.well_formed.1.1.0 in
     let y = c.well_formed.1.1.1.0 in
-    rw (c.code.ensures, c.to_bits.ensures, c.to_bits-2.ensures, c.to_bits-3.ensures, c.to_bits-4.ensures)
+    rw (c.from.ensures, c.to_bits.ensures, c.to_bits-2.ensures, c.to_bits-3.ensures, c.to_bits-4.ensures)
     (asked _ _ _ _ (record { re = subst T (sym x.1.1.0.1) tt; im = subst T (sym x.1.1.1.0.1) tt }) (record { re = subst T (sym y.1.1.0.1) tt; im = subst T (sym y.1.1.1.0.1) tt }))

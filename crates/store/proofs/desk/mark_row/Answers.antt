@@ -1,18 +1,18 @@
 -- `mark_row` meets its contract: a word of the desk, or none. Assumes nothing.
-use mathlib.Core.Path.{refl}
+use mathlib.Core.Path.{refl, sym}
 use native.Mathlib.Omega.{arith}
+use lib.Seq.{set_out}
 use Rattle.store.specs.Desk.{with_mark}
-use Rattle.store.proofs.Noting.{marks_word, marks_none}
 use Rattle.store.proofs.desk.mark_row.Goals as goal
-use Rattle.store.proofs.desk.mark_row.Goals.{then-row-lt-DESK_WORDS, else-row-lt-DESK_WORDS}
 
-pub returns-then-row-eq0 : goal.returns-then-row-eq0
+pub returns-in_default : goal.returns-in_default
 unfolding with_mark
-returns-then-row-eq0 c = rw c.if-row-eq0.true refl
+returns-in_default c = rw c.in_default.is refl
 
-pub returns : goal.returns
+pub returns-then-j-lt-MARKS : goal.returns-then-j-lt-MARKS
 unfolding with_mark
-returns c = elim c.if-row-lt-DESK_WORDS.branch [
-  | then-row-lt-DESK_WORDS w ↦ marks_word _ _ c.if-row-eq0.false (omega arith) c.put.ensures
-  | else-row-lt-DESK_WORDS w ↦ marks_none _ _ c.if-row-eq0.false (omega arith) (omega arith) c.put.ensures
-]
+returns-then-j-lt-MARKS c = rw c.in-Some.is refl
+
+pub returns-else-j-lt-MARKS : goal.returns-else-j-lt-MARKS
+unfolding with_mark
+returns-else-j-lt-MARKS c = rw c.in-Some.is (sym (set_out _ _ _ (omega arith)))

@@ -13,10 +13,10 @@ pub returns-then-left-eq0 : goal.returns-then-left-eq0
 returns-then-left-eq0 c = λ h k e. c.scan.ensures k (c.loop-at.invariant h k e).passed
 
 pub returns-in-Own : goal.returns-in-Own
-returns-in-Own c = λ h k e. found (c.loop-at.invariant h k e).passed _ refl c.loop-at-test.true _ c.in-Own.is (c.meet.ensures k)
+returns-in-Own c = λ h k e. let p = (c.loop-at.invariant h k e).passed in (omega (arith, p.within, c.loop-at-test.true), found p _ refl c.loop-at-test.true _ c.in-Own.is (c.meet.ensures k))
 
 pub loop-at-smaller : goal.loop-at-smaller
-loop-at-smaller c = omega (arith, c.least-at.ensures, c.loop-at-test.true)
+loop-at-smaller c = omega (arith, c.min-at.ensures, c.loop-at-test.true)
 
 pub loop-at-preserved : goal.loop-at-preserved
 unfolding next_on
@@ -28,7 +28,7 @@ loop-at-preserved c =
       | in-Kin w ↦ past_kin p.passed _ refl c.loop-at-test.true w.in-Kin.is (c.meet.ensures k) (w.class-is ∙ w.class_at-class.ensures)
       | in-Stranger w ↦ past_stranger p.passed _ refl c.loop-at-test.true k w.in-Stranger.is (c.meet.ensures k) w.class-is
     ])
-    (c.least-at.ensures ∙ rw (c.next_in.ensures, c.link_at.ensures) refl)
+    (c.min-at.ensures ∙ rw (c.next_in.ensures, c.link_at.ensures) refl)
 
 pub returns : goal.returns
 returns c = λ h k e. ends (c.loop-at.invariant h k e).passed c.loop-at-test.false

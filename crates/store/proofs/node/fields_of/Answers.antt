@@ -18,10 +18,10 @@ pub returns-in-Address : goal.returns-in-Address
 returns-in-Address c = record { value = rw (c.new-in-Address.ensures, c.in-Address.is) refl; sound = rw c.in-Address.is (omega (arith, c.in-Address.known_told-in-Address-1-own.given.0), omega (arith, c.in-Address.known_told-in-Address-1-own.given.1.0)) }
 
 pub returns-in-FunctionCall : goal.returns-in-FunctionCall
-returns-in-FunctionCall c = record { value = rw (c.new-in-FunctionCall.ensures, c.in-FunctionCall.is, ← c.code.ensures, ← c.code_of.ensures) refl; sound = rw c.in-FunctionCall.is tt }
+returns-in-FunctionCall c = record { value = rw (c.new-in-FunctionCall.ensures, c.in-FunctionCall.is, ← c.from.ensures, ← c.code_of.ensures) refl; sound = rw c.in-FunctionCall.is tt }
 
 pub returns-in-Prefix : goal.returns-in-Prefix
-returns-in-Prefix c = record { value = rw (c.new-in-Prefix.ensures, c.in-Prefix.is, ← c.code-in-Prefix.ensures, ← c.code_of-in-Prefix.ensures) refl; sound = rw c.in-Prefix.is tt }
+returns-in-Prefix c = record { value = rw (c.new-in-Prefix.ensures, c.in-Prefix.is, ← c.from-in-Prefix.ensures, ← c.code_of-in-Prefix.ensures) refl; sound = rw c.in-Prefix.is tt }
 
 pub returns-in-Infix : goal.returns-in-Infix
-returns-in-Infix c = record { value = rw (c.new-in-Infix.ensures, c.in-Infix.is, ← c.code-in-Infix.ensures, ← c.code_of-in-Infix.ensures) refl; sound = rw c.in-Infix.is tt }
+returns-in-Infix c = record { value = rw (c.new-in-Infix.ensures, c.in-Infix.is, ← c.from-in-Infix.ensures, ← c.code_of-in-Infix.ensures) refl; sound = rw c.in-Infix.is tt }

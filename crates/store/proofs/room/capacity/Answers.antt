@@ -4,4 +4,4 @@ use Rattle.store.proofs.Rows.{room_is}
 use Rattle.store.proofs.room.capacity.Goals as goal
 
 pub returns : goal.returns
-returns c = c.least.ensures ∙ room_is _
+returns c = c.min.ensures ∙ room_is _

@@ -37,14 +37,14 @@ offset_bounds-player-next c = let t = slot_is c.loop-i.invariant.left c.loop-i-t
 pub bounds-player-next : goal.bounds-player-next
 bounds-player-next c = c.above-next.ensures.0
 
-pub value_of-found-requires : goal.value_of-found-requires
-value_of-found-requires c = some_opcode c.loop-i.invariant.left c.loop-i-test.true c.fields_at-f.ensures refl
+pub value_of-requires : goal.value_of-requires
+value_of-requires c = some_opcode c.loop-i.invariant.left c.loop-i-test.true c.fields_at-f.ensures refl
 
 pub lack-requires : goal.lack-requires
 lack-requires c = some_opcode c.loop-i.invariant.left c.loop-i-test.true c.fields_at-f.ensures refl
 
 pub returns-in_default : goal.returns-in_default
-returns-in_default c = λ h. let m = sym (c.value_of-found.ensures h).value ∙ ap seen_found c.in_default.is in record { value = player_stops c.loop-i.invariant.left c.loop-i-test.true c.fields_at-f.ensures refl c.taken.ensures.0 _ _ (stood_same (c.loop-i.invariant.stood h)) _ (λ l. ap (λ k. get_or c.loop-i.player.stack k filler) (c.above-next.ensures.1 (omega (arith, l)))) (c.lack.ensures h m) m; marked = lack_marked c.loop-i.invariant.left c.loop-i-test.true c.fields_at-f.ensures refl c.taken.ensures.0 _ _ (stood_same (c.loop-i.invariant.stood h)) _ (λ l. ap (λ k. get_or c.loop-i.player.stack k filler) (c.above-next.ensures.1 (omega (arith, l)))) (c.lack.ensures h m) (c.loop-i.invariant.marking h) (c.value_of-found.ensures h).marked m }
+returns-in_default c = λ h. let m = sym (c.value_of.ensures h).value ∙ ap seen_found c.in_default.is in record { value = player_stops c.loop-i.invariant.left c.loop-i-test.true c.fields_at-f.ensures refl c.taken.ensures.0 _ _ (stood_same (c.loop-i.invariant.stood h)) _ (λ l. ap (λ k. get_or c.loop-i.player.stack k filler) (c.above-next.ensures.1 (omega (arith, l)))) (c.lack.ensures h m) m; marked = lack_marked c.loop-i.invariant.left c.loop-i-test.true c.fields_at-f.ensures refl c.taken.ensures.0 _ _ (stood_same (c.loop-i.invariant.stood h)) _ (λ l. ap (λ k. get_or c.loop-i.player.stack k filler) (c.above-next.ensures.1 (omega (arith, l)))) (c.lack.ensures h m) (c.loop-i.invariant.marking h) (c.value_of.ensures h).marked m }
 
 pub offset_bounds-player-slot-in-loop-i : goal.offset_bounds-player-slot-in-loop-i
 offset_bounds-player-slot-in-loop-i c = let t = slot_is c.loop-i.invariant.left c.loop-i-test.true c.fields_at-f.ensures refl c.taken.ensures.0 in omega (arith, t.enough, t.room)
@@ -55,14 +55,8 @@ bounds-player-slot-in-loop-i c = let t = slot_is c.loop-i.invariant.left c.loop-
 pub overflow_add-player : goal.overflow_add-player
 overflow_add-player c = let t = slot_is c.loop-i.invariant.left c.loop-i-test.true c.fields_at-f.ensures refl c.taken.ensures.0 in omega (arith, t.enough, t.room)
 
-pub overflow_add-i : goal.overflow_add-i
-overflow_add-i c = omega (arith, c.loop-i-test.true, c.loop-i.invariant.left.long)
-
-pub loop-i-smaller : goal.loop-i-smaller
-loop-i-smaller c = omega (arith, c.loop-i-test.true)
-
 pub loop-i-preserved : goal.loop-i-preserved
-loop-i-preserved c = player_goes _ _ c.loop-i.invariant (player_left c.loop-i.invariant.left c.loop-i-test.true c.fields_at-f.ensures refl c.taken.ensures.0) (λ h. player_stands c.loop-i.invariant.left c.loop-i-test.true c.fields_at-f.ensures refl c.taken.ensures.0 _ _ (c.loop-i.invariant.stood h) _ (λ l. ap (λ k. get_or c.loop-i.player.stack k filler) (c.above-next.ensures.1 (omega (arith, l)))) (seen_is _ (ap seen_found (sym c.in-Value.is) ∙ (c.value_of-found.ensures h).value)) c.loop-i.invariant.long refl) λ h. still_marking c.loop-i.invariant.left c.loop-i-test.true c.fields_at-f.ensures refl c.taken.ensures.0 _ _ (stood_same (c.loop-i.invariant.stood h)) _ (λ l. ap (λ k. get_or c.loop-i.player.stack k filler) (c.above-next.ensures.1 (omega (arith, l)))) (seen_is _ (ap seen_found (sym c.in-Value.is) ∙ (c.value_of-found.ensures h).value)) (c.loop-i.invariant.marking h) (c.value_of-found.ensures h).marked c.loop-i.invariant.long refl
+loop-i-preserved c = player_goes _ _ c.loop-i.invariant (player_left c.loop-i.invariant.left c.loop-i-test.true c.fields_at-f.ensures refl c.taken.ensures.0) (λ h. player_stands c.loop-i.invariant.left c.loop-i-test.true c.fields_at-f.ensures refl c.taken.ensures.0 _ _ (c.loop-i.invariant.stood h) _ (λ l. ap (λ k. get_or c.loop-i.player.stack k filler) (c.above-next.ensures.1 (omega (arith, l)))) (seen_is _ (ap seen_found (sym c.in-Some.is) ∙ (c.value_of.ensures h).value)) c.loop-i.invariant.long refl) λ h. still_marking c.loop-i.invariant.left c.loop-i-test.true c.fields_at-f.ensures refl c.taken.ensures.0 _ _ (stood_same (c.loop-i.invariant.stood h)) _ (λ l. ap (λ k. get_or c.loop-i.player.stack k filler) (c.above-next.ensures.1 (omega (arith, l)))) (seen_is _ (ap seen_found (sym c.in-Some.is) ∙ (c.value_of.ensures h).value)) (c.loop-i.invariant.marking h) (c.value_of.ensures h).marked c.loop-i.invariant.long refl
 
 pub bounds-player-0 : goal.bounds-player-0
 bounds-player-0 c = omega arith

@@ -17,7 +17,7 @@ pub shape_of-table-in_default : goal.shape_of-table-in_default
 shape_of-table-in_default c = c.loop-at.invariant.1
 
 pub returns-in_default : goal.returns-in_default
-returns-in_default c = c.loop-at.invariant.2 _ _ (malformed c.args.text.now c.loop-at.at c.loop-at.lines c.loop-at.invariant.0 c.loop-at.table _ c.read_node-found.ensures c.loop-at-test.true c.if-lines-ge1024.false _ c.in_default.is c.refused-in_default.ensures)
+returns-in_default c = c.loop-at.invariant.2 _ _ (malformed c.args.text.now c.loop-at.at c.loop-at.lines c.loop-at.invariant.0 c.loop-at.table _ c.read_node.ensures c.loop-at-test.true c.if-lines-ge1024.false _ c.in_default.is c.refused-in_default.ensures)
 
 pub put_fields-requires : goal.put_fields-requires
 put_fields-requires c = omega arith
@@ -29,7 +29,7 @@ pub loop-at-smaller : goal.loop-at-smaller
 loop-at-smaller c = omega arith
 
 pub loop-at-preserved : goal.loop-at-preserved
-loop-at-preserved c = (omega arith, c.put_fields.auto.table ∙ c.loop-at.invariant.1, λ r table' x. c.loop-at.invariant.2 r table' (goes_on c.args.text.now c.loop-at.at c.loop-at.lines c.loop-at.invariant.0 c.loop-at.table _ c.read_node-found.ensures c.loop-at-test.true c.if-lines-ge1024.false _ _ c.in-Node.is _ c.fields_of.result c.put_fields.ensures c.fields_of.ensures.value r table' x))
+loop-at-preserved c = (omega arith, c.put_fields.auto.table ∙ c.loop-at.invariant.1, λ r table' x. c.loop-at.invariant.2 r table' (goes_on c.args.text.now c.loop-at.at c.loop-at.lines c.loop-at.invariant.0 c.loop-at.table _ c.read_node.ensures c.loop-at-test.true c.if-lines-ge1024.false _ _ c.in-Some.is _ c.fields_of.result c.put_fields.ensures c.fields_of.ensures.value r table' x))
 
 pub shape_of-table : goal.shape_of-table
 shape_of-table c = c.loop-at.invariant.1

@@ -1,10 +1,12 @@
--- `packed_built` meets its contract: a refusal or a node. Assumes nothing.
+-- `packed_built` meets its contract: a node or a refusal. Assumes nothing.
 use mathlib.Core.Path.{refl}
-use Rattle.timed.proofs.Telling.{built_node, built_refused}
+use Rattle.timed.specs.Packed.{built_of}
 use Rattle.timed.proofs.packing.packed_built.Goals as goal
 
-pub returns-then-built-ge-REFUSED : goal.returns-then-built-ge-REFUSED
-returns-then-built-ge-REFUSED c = rw (built_refused c.args.desk.now c.args.built c.if-built-ge-REFUSED.true, c.refused.ensures, c.refusal_of.ensures) refl
+pub returns-in-Ok : goal.returns-in-Ok
+unfolding built_of
+returns-in-Ok c = rw (c.in-Ok.is, c.packed_node.ensures, c.standing.ensures, c.calls_made.ensures) refl
 
-pub returns : goal.returns
-returns c = rw (built_node c.args.desk.now c.args.built c.if-built-ge-REFUSED.false, c.packed_node.ensures, c.standing.ensures, c.calls_made.ensures) refl
+pub returns-in-Err : goal.returns-in-Err
+unfolding built_of
+returns-in-Err c = rw (c.in-Err.is, c.refused.ensures, c.refusal_of.ensures) refl

@@ -2,8 +2,8 @@
 use mathlib.Core.Path.{refl}
 use Rattle.timed.proofs.packing.packed_listing.Goals as goal
 
-pub returns-in-Read : goal.returns-in-Read
-returns-in-Read c = rw (c.in-Read.is, c.packed_node.ensures, c.standing.ensures) refl
+pub returns-in-Ok : goal.returns-in-Ok
+returns-in-Ok c = rw (c.in-Ok.is, c.packed_node.ensures, c.standing.ensures) refl
 
-pub returns-in-Refused : goal.returns-in-Refused
-returns-in-Refused c = rw (c.in-Refused.is, c.refused.ensures) refl
+pub returns-in-Err : goal.returns-in-Err
+returns-in-Err c = rw (c.in-Err.is, c.refused.ensures) refl
