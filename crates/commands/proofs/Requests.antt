@@ -1,23 +1,29 @@
 -- What follows on the first word: a limit, the words `marks` and `origins`, a file, nothing. Assumes nothing.
 use Rattle.std.specs.Prelude.{Option, Some, None, is_some, unwrap_or}
+use Rattle.std.specs.Borrow.{Bor}
+use Rattle.std.specs.List.{slice_range}
+use Rattle.std.proofs.lemmas.List.{nil_from_length}
 use mathlib.Core.Path.{◌≡◌, refl, sym, ap, ◌∙◌}
-use mathlib.Core.List.{List, [], ◌∷◌}
+use mathlib.Core.List.{List, [], ◌∷◌, ◌++◌, append_assoc}
 use mathlib.Core.Bool.{Bool, true, false}
-use Prim.Native.Nat.{ℕ, ◌+◌, ◌-◌, ◌≤◌, ◌<◌}
+use Prim.Native.Nat.{ℕ, ◌+◌, ◌-◌, ◌≤◌, ◌<◌, min}
+use native.Mathlib.Decide.{dec_lt}
 use native.Mathlib.Omega.{arith}
 use lib.Dec.{eqb}
-use lib.ListN.{length, drop, length-drop, drop_of_length-le}
-use lib.Seq.{drop-drop}
-use borrow.Author.Tests.{eq-eqb, ne_eqb}
+use lib.ListN.{length, drop, length-drop, length-append, drop_of_length-le}
+use lib.Seq.{drop-drop, take_all}
 use Rattle.text.specs.Letters.{bytes}
-use Rattle.text.specs.Reading.{Read, starts}
+use Rattle.text.specs.Reading.{is, starts, decimal, decimal_field}
 use Rattle.text.specs.Seen as Seen
+use Rattle.text.specs.Writing.{in_decimal}
+use Rattle.text.proofs.Fields.{told, told_bad}
+use Rattle.text.proofs.Only.{decimal_only, ended_only}
 use Rattle.steps.proofs.Knowing.{second_true}
 use Rattle.console.specs.TapeText.{next_line}
 use Rattle.commands.specs.declared.words.Asked.{Asked}
 use Rattle.commands.specs.declared.words.Command.{Command}
 use Rattle.commands.specs.declared.words.Parted.{Parted}
-use Rattle.commands.specs.Words.{job, too_many, after, marking, tracing, simplifying, with_limit, first_word, with_file, request}
+use Rattle.commands.specs.Words.{job, too_many, after, marking, tracing, simplifying, with_limit, at_limit, first_word, with_file, request}
 use Rattle.commands.specs.Asking.{seen, FoundAt}
 use Rattle.commands.proofs.Choosing.{never, chosen, passed}
 
@@ -58,14 +64,54 @@ takes_both words at limit m o (p, q) x =
 
 -- ---- the limit
 
-pub limit_or_ten : (words : List ℕ) (at : ℕ) (x : Seen.Number) {want : Read ℕ} {p : ℕ × ℕ} → Seen.seen words x ≡ want → p ≡ unwrap_or x (10, at)
-    → simplifying p.0 (drop p.1 words) ≡ with_limit want (drop at words)
-unfolding with_limit
-limit_or_ten words at x q e = ap (λ p. simplifying p.0 (drop p.1 words)) e ∙ go x ∙ ap (λ w. with_limit w (drop at words)) q
+-- the words from the place on, or none where the place is past the end
+from_place : (words : List ℕ) (at : ℕ) {from : ℕ} → from ≡ min at (length words) → slice_range words from (length words) ≡ drop at words
+from_place words at {from} p = take_all (length words - from) (drop from words) (omega (arith, length-drop from words)) ∙ elim (dec_lt at (length words)) [
+  | yes l ↦ ap (λ k. drop k words) (omega (arith, p))
+  | no n ↦ rw (drop_of_length-le words {i = at} (omega arith)) (drop_of_length-le words {i = from} (omega (arith, p)))
+]
+
+-- what is read leaves the end of the words
+record Left (words after : List ℕ) : Type 0 where
+  shorter : length after ≤ length words
+  place : drop (length words - length after) words ≡ after
+
+left_of : (words : List ℕ) (at : ℕ) (front after : List ℕ) → drop at words ≡ front ++ after → Left words after
+left_of words at front after e =
+    let l : length words - at ≡ length front + length after = omega (arith, length-drop at words, ap length e, length-append front after) in
+    elim (dec_lt at (length words)) [
+      | yes lt ↦
+          let z : length words - length after ≡ at + length front = omega (arith, l, lt) in
+          record { shorter = omega (arith, l); place = rw z (sym (drop-drop (length front) at words) ∙ ap (drop (length front)) e ∙ drop_append front after) }
+      | no ge ↦
+          let n : length after ≡ 0 = omega (arith, l, ge) in
+          record { shorter = omega (arith, n); place = rw n (drop_of_length-le words {i = length words - 0} (omega arith)) ∙ sym (nil_from_length after n) }
+    ]
   where
-    go : (x : Seen.Number) → simplifying (unwrap_or x (10, at)).0 (drop (unwrap_or x (10, at)).1 words) ≡ with_limit (Seen.seen words x) (drop at words)
-    go (Some (n, next)) = refl
-    go None = refl
+    drop_append : (front after : List ℕ) → drop (length front) (front ++ after) ≡ after
+    drop_append [] after = refl
+    drop_append (x ∷ front) after = drop_append front after
+
+module _ (words : List ℕ) (at : ℕ) {from : ℕ} (p : from ≡ min at (length words)) (r : Option (ℕ × Bor (List ℕ))) (q : Seen.seen r ≡ decimal_field 10 4294967296 (slice_range words from (length words))) where
+  module _ {limit : ℕ} {rest : Bor (List ℕ)} (e : r ≡ Some (limit, rest)) where
+    limit_is : decimal_field 10 4294967296 (drop at words) ≡ is limit rest.now
+    limit_is = rw (from_place words at p) at (told q e)
+
+    limit_leaves : Left words rest.now
+    limit_leaves =
+        let k = decimal_only 4294967296 limit (drop at words) (10 ∷ rest.now) (ended_only 10 (decimal 4294967296 (drop at words)) limit rest.now limit_is) in
+        left_of words at (in_decimal limit ++ (10 ∷ [])) rest.now (k.1 ∙ sym (append_assoc (in_decimal limit) (10 ∷ []) rest.now))
+
+    pub limit_inside : length rest.now ≤ length words
+    limit_inside = limit_leaves.shorter
+
+    pub limit_read : simplifying limit (drop (length words - length rest.now) words) ≡ at_limit (drop at words)
+    unfolding with_limit
+    limit_read = rw (limit_leaves.place, limit_is)
+
+  pub no_limit : r ≡ None → simplifying 10 (drop at words) ≡ at_limit (drop at words)
+  unfolding with_limit
+  no_limit e = let k = rw (from_place words at p) at (told_bad q e) in rw k
 
 -- ---- the file
 
@@ -74,14 +120,17 @@ module _ (words : List ℕ) (command : Command) (at : ℕ) where
   unfolding with_file next_line
   no_file h = (rw (drop_of_length-le words {i = at} h, drop_of_length-le words {i = length words} (omega arith)), omega arith)
 
-  module _ {r : ℕ} (next : (at < r) × (r ≤ length words) × (drop r words ≡ next_line (drop at words))) where
-    pub too_many_lem : r < length words → too_many ≡ with_file (job command (drop at words))
-    unfolding with_file
-    too_many_lem h = rw (← next.2, ne_eqb (length (drop r words)) 0 (λ e. omega (arith, e, h, length-drop r words)))
+  module _ (h : at < length words) {next : List ℕ} (q : next ≡ next_line (slice_range words at (length words))) where
+    next_is : next ≡ next_line (drop at words)
+    next_is = q ∙ ap next_line (take_all (length words - at) (drop at words) (omega (arith, length-drop at words)))
 
-    pub one_file : length words ≤ r → (job command (drop at words) ≡ with_file (job command (drop at words))) × (at ≤ length words)
+    pub too_many_lem : eqb (length next) 0 ≡ false → too_many ≡ with_file (job command (drop at words))
     unfolding with_file
-    one_file h = (rw (← next.2, eq-eqb (length (drop r words)) 0 (omega (arith, h, length-drop r words))), omega (arith, next.0, next.1))
+    too_many_lem e = rw (← next_is, e)
+
+    pub one_file : eqb (length next) 0 ≡ true → (job command (drop at words) ≡ with_file (job command (drop at words))) × (at ≤ length words)
+    unfolding with_file
+    one_file e = (rw (← next_is, e), omega arith)
 
 -- ---- the whole
 

@@ -79,8 +79,10 @@ fn simplify_at(words: &[u8], at: usize, limit: u64) -> Asked
 fn at_limit(words: &[u8], at: usize) -> Asked
     ensures { AsksAtLimit words.now at result }
 {
-    let (limit, next) = decimal_field(words, at, LF, LIMITS).unwrap_or((LIMIT, at));
-    simplify_at(words, next, limit)
+    match decimal_field(&words[at.min(words.len())..], LF, LIMITS) {
+        Some((limit, rest)) => simplify_at(words, words.len() - rest.len(), limit),
+        None => simplify_at(words, at, LIMIT),
+    }
 }
 
 fn tape_word(words: &[u8]) -> Asked
@@ -159,7 +161,7 @@ fn with_file(words: &[u8], command: Command, at: usize) -> Asked
     if words.len() <= at {
         return Asked::Job(command, words.len());
     }
-    if next_line(words, at) < words.len() {
+    if !next_line(&words[at..]).is_empty() {
         return Asked::TooMany;
     }
     Asked::Job(command, at)

@@ -6,11 +6,9 @@ use lib.Ieee.Scale.{finite}
 use Rattle.complex.specs.declared.parts.Part.{Part}
 use Rattle.complex.specs.Bits.{bits_of}
 use Rattle.complex.specs.Zero.{magnitude, threshold, squares_below}
-use Rattle.complex.specs.Wide.{value}
 use Rattle.complex.specs.Parts.{magnitude_of_fields, magnitude_of_bits, Scaled, cut_square}
 use Rattle.complex.proofs.Tests.{last_no, last_decides}
 use Rattle.complex.proofs.Cut.{cut, cut_significand, square_lt}
-use Rattle.complex.proofs.Limbs.{limbs}
 use Rattle.complex.proofs.Magnitude.{magnitude_by_bits, rises, rises_le}
 use Rattle.complex.proofs.Scaling.{in_places, placed_below}
 
@@ -37,9 +35,8 @@ t_by_half : magnitude threshold ≡ 2 * magnitude_of_bits half_bits
 unfolding magnitude of_bits magnitude_of_bits magnitude_of_fields
 t_by_half = refl
 
--- the square of T's significand, by its two limbs
-pub t_squared : value (limbs 0x2F3_9421_9248 0x447B_2941_42B7_A699) ≡ significand * significand
-unfolding value
+-- the square of T's significand
+pub t_squared : 0x2F3_9421_9248_447B_2941_42B7_A699 ≡ significand * significand
 t_squared = refl
 
 -- ---- the squares cut off at T's last place

@@ -6,7 +6,6 @@ pub mod Alike
 pub mod Classes
 pub mod Pairs
 pub mod Magnitude
-mod Limbs
 mod Cut
 mod Scaling
 mod Decide

@@ -13,7 +13,6 @@ pub mod constants;
 pub mod equality;
 mod parts;
 mod squares;
-mod wide;
 pub mod zero;
 
 #[derive(Clone, Copy)]

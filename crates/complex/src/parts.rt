@@ -16,20 +16,13 @@ pub struct Part {
     pub scale: u64,
 }
 
-// A number's power of two, by its field: a field of 0 counts as one of 1.
-fn exponent_of(field: u64) -> u64
-    ensures { result ≡ field - 1 }
-{
-    if field == 0 { 0 } else { field - 1 }
-}
-
-// The magnitude of the double with these bits, the sign left out. Where the exponent is taken from the field, 1 is left of a normal
-// number's and 0 of a subnormal one's: the leading digit that is not written.
+// The magnitude of the double with these bits, the sign left out. A field of 0 counts as one of 1; so where the exponent is taken from the
+// field, 1 is left of a normal number's and 0 of a subnormal one's: the leading digit that is not written.
 pub fn part_of(bits: u64) -> Part
     ensures { Scaled (magnitude_of_bits (bits % 2 ^ 63)) result }
 {
     let magnitude = bits % SIGN;
-    let exponent = exponent_of(magnitude / HIDDEN);
+    let exponent = (magnitude / HIDDEN).saturating_sub(1);
     let digits = magnitude - exponent * HIDDEN;
     let zeros = u64::leading_zeros(digits) as u64;
     Part {

@@ -11,7 +11,8 @@ const T_BITS: u64 = 0x3DDB_7CDF_D9D7_BDBB;
 const HALF_T_BITS: u64 = 0x3DCB_7CDF_D9D7_BDBB;
 
 // A part from T on is too big, and so are an infinity's and the NaN's bits; two parts below half of
-// T are small enough. Only between the two are the squares formed.
+// T are small enough. Only between the two are the squares formed. A function of its own in the archive: its callers are many.
+#[inline(never)]
 pub fn is_zero(z: Complex) -> bool
     ensures { result ≡ is_zero z }
 {

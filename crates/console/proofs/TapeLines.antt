@@ -6,14 +6,17 @@ use native.Mathlib.Nat.{add-zero}
 use native.Mathlib.Numerals.{add-one}
 use native.Mathlib.Omega.{arith}
 use native.Mathlib.Decide.{dec_lt}
-use lib.ListN.{length, set, get_or, take, drop, drop_of_length-le, length-append, length-set, get_or-eq_default}
+use mathlib.Core.Bool.{true, false, cond}
+use lib.Dec.{eqb}
+use lib.ListN.{length, set, get_or, take, length-append, length-set}
 use lib.Seq.{take-suc, take_all, take-suc-set, length-take-le}
 use borrow.Author.Tests.{lt-ltb, le-ltb, eq-eqb, ne_eqb}
+use Rattle.std.specs.List.{IsFirstAndRest}
 use Rattle.text.specs.Reading.{Read, is, bad, then, ended, digit_of, hex_from}
 use Rattle.text.specs.Writing.{byte_of}
 use Rattle.text.specs.Put.{Put}
 use Rattle.text.proofs.Putting.{put_none, put_then, put_byte}
-use Rattle.text.proofs.Running.{here, ended_bad}
+use Rattle.text.proofs.Running.{ended_bad}
 use Rattle.text.proofs.Only.{ended_only, byte_digit}
 use Rattle.console.specs.TapeText.{stop_after, stopping, in_digits, in_lines, stopped, byte_from, step_from, or_zeros, next_line, read_steps, tape_in}
 
@@ -77,57 +80,63 @@ written_all {tape = tape} {i = i} w h = rw (take_all i tape h) at w.put
 
 -- ---- a byte is read
 
-digit_none : (s : List ℕ) (at k v : ℕ) → 15 < digit_of (get_or s at 0) → hex_from (suc k) v (drop at s) ≡ bad
+digit_end : (s : List ℕ) (k v : ℕ) → length s ≡ 0 → hex_from (suc k) v s ≡ bad
 unfolding hex_from
-digit_none s at k v h = elim (dec_lt at (length s)) [
-  | yes lt ↦ rw (here s at lt, le-ltb (digit_of (get_or s at 0)) 16 h)
-  | no nlt ↦ rw (drop_of_length-le s {i = at} (omega arith))
-]
+digit_end [] k v h = refl
+digit_end (b ∷ s) k v h = absurd (omega arith)
 
-pub digit_in : (s : List ℕ) (at : ℕ) → digit_of (get_or s at 0) ≤ 15 → at < length s
-unfolding digit_of
-digit_in s at h = elim (dec_lt at (length s)) [
-  | yes lt ↦ lt
-  | no nlt ↦ let e : get_or s at 0 ≡ 0 = get_or-eq_default s 0 (omega arith) in absurd (omega (arith, rw e at h))
-]
+module _ {s rest : List ℕ} {b : ℕ} (f : IsFirstAndRest s b rest) (k v : ℕ) where
+  digit_none : 15 < digit_of b → hex_from (suc k) v s ≡ bad
+  unfolding hex_from
+  digit_none h = rw (f.0, le-ltb (digit_of b) 16 h)
 
-digit_some : (s : List ℕ) (at k v : ℕ) → digit_of (get_or s at 0) ≤ 15 → hex_from (suc k) v (drop at s) ≡ hex_from k (v * 16 + digit_of (get_or s at 0)) (drop (at + 1) s)
-unfolding hex_from
-digit_some s at k v h = rw (here s at (digit_in s at h), lt-ltb (digit_of (get_or s at 0)) 16 (omega arith))
+  digit_some : digit_of b ≤ 15 → hex_from (suc k) v s ≡ hex_from k (v * 16 + digit_of b) rest
+  unfolding hex_from
+  digit_some h = rw (f.0, lt-ltb (digit_of b) 16 (omega arith))
 
 stopped_bad : (stop : ℕ) → stopped stop bad ≡ bad
 unfolding stopped
 stopped_bad zero = refl
 stopped_bad (suc s) = ended_bad (suc s)
 
-pub byte_none : (s : List ℕ) (at stop : ℕ) {high b : ℕ} → b ≡ get_or s at 0 → high ≡ digit_of b → 15 < high → bad ≡ byte_from stop (drop at s)
+pub byte_end : (s : List ℕ) (stop : ℕ) → length s ≡ 0 → bad ≡ byte_from stop s
 unfolding byte_from
-byte_none s at stop p q h = sym (ap (stopped stop) (digit_none s at 1 0 (rw (q, p) at h)) ∙ stopped_bad stop)
+byte_end s stop h = sym (ap (stopped stop) (digit_end s 1 0 h) ∙ stopped_bad stop)
 
-module _ (s : List ℕ) (at stop : ℕ) {high low b c : ℕ} (p : b ≡ get_or s at 0) (q : high ≡ digit_of b) (h : high ≤ 15) (t : c ≡ get_or s (at + 1) 0) (u : low ≡ digit_of c) where
-  first : hex_from 2 0 (drop at s) ≡ hex_from 1 high (drop (at + 1) s)
-  first = let z : 0 * 16 + digit_of (get_or s at 0) ≡ high = omega (arith, q, ap digit_of p) in rw (digit_some s at 1 0 (rw (q, p) at h), z)
-
-  pub byte_half : 15 < low → bad ≡ byte_from stop (drop at s)
+module _ {s mid : List ℕ} {b : ℕ} (f : IsFirstAndRest s b mid) (stop : ℕ) {high : ℕ} (q : high ≡ digit_of b) where
+  pub byte_none : 15 < high → bad ≡ byte_from stop s
   unfolding byte_from
-  byte_half o = sym (ap (stopped stop) (first ∙ digit_none s (at + 1) 0 high (rw (u, t) at o)) ∙ stopped_bad stop)
+  byte_none h = sym (ap (stopped stop) (digit_none f 1 0 (rw q at h)) ∙ stopped_bad stop)
 
-  module _ (o : low ≤ 15) where
-    both : hex_from 2 0 (drop at s) ≡ is (high * 16 + low) (drop (at + 2) s)
-    unfolding hex_from
-    both = let z : at + 1 + 1 ≡ at + 2 = omega arith in first ∙ rw (digit_some s (at + 1) 0 high (rw (u, t) at o), z, u, t)
+  module _ (h : high ≤ 15) where
+    first : hex_from 2 0 s ≡ hex_from 1 high mid
+    first = let z : 0 * 16 + digit_of b ≡ high = omega (arith, q) in rw (digit_some f 1 0 (rw q at h), z)
 
-    pub byte_alone : stop ≡ 0 → is (high * 16 + low) (drop (at + 2) s) ≡ byte_from stop (drop at s)
-    unfolding byte_from stopped
-    byte_alone z = rw z (sym both)
+    pub byte_cut : length mid ≡ 0 → bad ≡ byte_from stop s
+    unfolding byte_from
+    byte_cut o = sym (ap (stopped stop) (first ∙ digit_end mid 0 high o) ∙ stopped_bad stop)
 
-    pub byte_ended : {r : Read ℕ} → (stop ≡ 0 → ⊥) → r ≡ ended stop (is (high * 16 + low) (drop (at + 2) s)) → r ≡ byte_from stop (drop at s)
-    unfolding byte_from stopped
-    byte_ended n e = e ∙ ap (ended stop) (sym both) ∙ sym (some stop n (hex_from 2 0 (drop at s)))
-      where
-        some : (stop : ℕ) → (stop ≡ 0 → ⊥) → (r : Read ℕ) → stopped stop r ≡ ended stop r
-        some zero h r = absurd (h refl)
-        some (suc k) h r = refl
+    module _ {rest : List ℕ} {c : ℕ} (g : IsFirstAndRest mid c rest) {low : ℕ} (u : low ≡ digit_of c) where
+      pub byte_half : 15 < low → bad ≡ byte_from stop s
+      unfolding byte_from
+      byte_half o = sym (ap (stopped stop) (first ∙ digit_none g 0 high (rw u at o)) ∙ stopped_bad stop)
+
+      module _ (o : low ≤ 15) where
+        both : hex_from 2 0 s ≡ is (high * 16 + low) rest
+        unfolding hex_from
+        both = first ∙ rw (digit_some g 0 high (rw u at o), u)
+
+        pub byte_alone : stop ≡ 0 → is (high * 16 + low) rest ≡ byte_from stop s
+        unfolding byte_from stopped
+        byte_alone z = rw z (sym both)
+
+        pub byte_ended : {r : Read ℕ} → (stop ≡ 0 → ⊥) → r ≡ ended stop (is (high * 16 + low) rest) → r ≡ byte_from stop s
+        unfolding byte_from stopped
+        byte_ended n e = e ∙ ap (ended stop) (sym both) ∙ sym (some stop n (hex_from 2 0 s))
+          where
+            some : (stop : ℕ) → (stop ≡ 0 → ⊥) → (r : Read ℕ) → stopped stop r ≡ ended stop r
+            some zero h r = absurd (h refl)
+            some (suc k) h r = refl
 
 -- ---- only what is written is read
 
@@ -170,100 +179,101 @@ byte_only (suc s) bs {x} {rest} e = two_only bs (ended_only (suc s) (hex_from 2 
 -- ---- a step is read
 
 -- what is still to be read, after what has been, is the whole
-pub record Stepping (s : List ℕ) (at : ℕ) (step : List ℕ) (next k : ℕ) : Type 0 where
+pub record Stepping (s step rest : List ℕ) (k : ℕ) : Type 0 where
   pub few : k ≤ 24
   pub long : length step ≡ 24
-  pub rest : step_from (24 - k) (take k step) (drop next s) ≡ step_from 24 [] (drop at s)
+  pub left : step_from (24 - k) (take k step) rest ≡ step_from 24 [] s
 
-pub step_begins : (s : List ℕ) (at : ℕ) (step : List ℕ) → length step ≡ 24 → Stepping s at step at 0
-step_begins s at step h = record { few = omega arith; long = h; rest = refl }
+pub step_begins : (s step : List ℕ) → length step ≡ 24 → Stepping s step s 0
+step_begins s step h = record { few = omega arith; long = h; left = refl }
 
-module _ {s : List ℕ} {at : ℕ} {step : List ℕ} {next k : ℕ} (g : Stepping s at step next k) {stop : ℕ} (q : stop ≡ stop_after k) where
+module _ {s step rest : List ℕ} {k : ℕ} (g : Stepping s step rest k) {stop : ℕ} (q : stop ≡ stop_after k) where
   abbrev wanted : Read ℕ
-  wanted = byte_from stop (drop next s)
+  wanted = byte_from stop rest
 
-  opened : k < 24 → then wanted (λ b rest. step_from (24 - (k + 1)) (take k step ++ (b ∷ [])) rest) ≡ step_from 24 [] (drop at s)
+  opened : k < 24 → then wanted (λ b rest. step_from (24 - (k + 1)) (take k step ++ (b ∷ [])) rest) ≡ step_from 24 [] s
   unfolding step_from
   opened h =
       let z : 24 - k ≡ suc (24 - (k + 1)) = omega arith in
       let o : 23 - (24 - (k + 1)) ≡ k = omega arith in
-      rw q (rw (z, o) at g.rest)
+      rw q (rw (z, o) at g.left)
 
-  pub step_none : k < 24 → wanted ≡ bad → bad ≡ step_from 24 [] (drop at s)
+  pub step_none : k < 24 → wanted ≡ bad → bad ≡ step_from 24 [] s
   unfolding then
   step_none h e = rw e at (opened h)
 
-  pub step_on : {b after : ℕ} → k < 24 → wanted ≡ is b (drop after s) → Stepping s at (set step k b) after (k + 1)
+  pub step_on : {b : ℕ} {after : List ℕ} → k < 24 → wanted ≡ is b after → Stepping s (set step k b) after (k + 1)
   unfolding then
   step_on {b} {after} h e =
       record {
         few = omega arith;
         long = length-set step k b ∙ g.long;
-        rest = let t : take (k + 1) (set step k b) ≡ take k step ++ (b ∷ []) = rw add-one (take-suc-set step k b (omega (arith, g.long))) in rw t (rw e at (opened h));
+        left = let t : take (k + 1) (set step k b) ≡ take k step ++ (b ∷ []) = rw add-one (take-suc-set step k b (omega (arith, g.long))) in rw t (rw e at (opened h));
       }
 
-pub step_done : {s : List ℕ} {at : ℕ} {step : List ℕ} {next k : ℕ} → Stepping s at step next k → 24 ≤ k → step ≡ or_zeros (step_from 24 [] (drop at s))
+pub step_done : {s step rest : List ℕ} {k : ℕ} → Stepping s step rest k → 24 ≤ k → step ≡ or_zeros (step_from 24 [] s)
 unfolding or_zeros step_from
-step_done {s} {at} {step} {next} {k} g h =
+step_done {s} {step} {rest} {k} g h =
     let z : 24 - k ≡ 0 = omega arith in
-    sym (take_all k step (omega (arith, g.long))) ∙ ap or_zeros (rw z at g.rest)
+    sym (take_all k step (omega (arith, g.long))) ∙ ap or_zeros (rw z at g.left)
 
 -- ---- the next line
 
-pub record Searching (s : List ℕ) (at i : ℕ) : Type 0 where
-  pub from : at ≤ i
-  pub most : i ≤ length s
-  pub rest : next_line (drop i s) ≡ next_line (drop at s)
-
-module _ {s : List ℕ} {at i : ℕ} (g : Searching s at i) where
-  pub line_on : i < length s → (get_or s i 0 ≡ 10 → ⊥) → Searching s at (i + 1)
+module _ {s rest : List ℕ} {b : ℕ} (f : IsFirstAndRest s b rest) where
+  pub line_on : (b ≡ 10 → ⊥) → next_line rest ≡ next_line s
   unfolding next_line
-  line_on h n = record { from = omega (arith, g.from); most = omega arith; rest = rw (here s i h, ne_eqb (get_or s i 0) 10 n) at g.rest }
+  line_on n = rw (f.0, ne_eqb b 10 n)
 
-  pub line_ends : i < length s → get_or s i 0 ≡ 10 → drop (i + 1) s ≡ next_line (drop at s)
+  pub line_ends : b ≡ 10 → rest ≡ next_line s
   unfolding next_line
-  line_ends h e = rw (here s i h, eq-eqb (get_or s i 0) 10 e) at g.rest
+  line_ends e = rw (f.0, eq-eqb b 10 e)
 
-  pub line_none : length s ≤ i → drop i s ≡ next_line (drop at s)
-  unfolding next_line
-  line_none h = let z = drop_of_length-le s {i = i} h in rw z (rw z at g.rest)
+pub line_none : (s : List ℕ) → length s ≡ 0 → s ≡ next_line s
+unfolding next_line
+line_none [] h = refl
+line_none (b ∷ s) h = absurd (omega arith)
 
 -- ---- a tape is read
 
-pub record Taking (entry text out : List ℕ) (left at n : ℕ) : Type 0 where
+pub record Taking (entry text out rest : List ℕ) (left n : ℕ) : Type 0 where
   pub taken : List ℕ
-  pub rest : taken ++ read_steps left (drop at text) ≡ tape_in text
+  pub more : taken ++ read_steps left rest ≡ tape_in text
   pub put : Put entry 0 taken n out
   pub room : n + left * 24 ≡ 12312
-  pub most : at ≤ length text
 
-pub take_begins : (entry text : List ℕ) → Taking entry text entry 513 0 0
+pub take_begins : (entry text : List ℕ) → Taking entry text entry text 513 0
 unfolding tape_in
-take_begins entry text = record { taken = []; rest = refl; put = put_none entry 0; room = refl; most = omega arith }
+take_begins entry text = record { taken = []; more = refl; put = put_none entry 0; room = refl }
 
 pub steps_none : (most : ℕ) → read_steps most [] ≡ []
 unfolding read_steps
 steps_none zero = refl
 steps_none (suc most) = refl
 
-module _ {entry text out : List ℕ} {left at n : ℕ} (g : Taking entry text out left at n) where
-  pub take_on : {step exit : List ℕ} {m next : ℕ} → (left ≡ 0 → ⊥) → at < length text → length step ≡ 24 → step ≡ or_zeros (step_from 24 [] (drop at text))
-      → Put out n step m exit → next ≤ length text → drop next text ≡ next_line (drop at text) → Taking entry text exit (left - 1) next m
-  unfolding read_steps
-  take_on {step} {exit} {m} {next} h o l p q w e =
+steps_some : (most : ℕ) (s : List ℕ) → eqb (length s) 0 ≡ false → read_steps (suc most) s ≡ or_zeros (step_from 24 [] s) ++ read_steps most (next_line s)
+unfolding read_steps
+steps_some most [] h = never (ap (λ b. cond {A = Read ℕ} b bad (is 0 [])) h)
+steps_some most (b ∷ s) h = refl
+
+module _ {entry text out rest : List ℕ} {left n : ℕ} (g : Taking entry text out rest left n) where
+  pub take_on : {step exit next : List ℕ} {m : ℕ} → (left ≡ 0 → ⊥) → eqb (length rest) 0 ≡ false → length step ≡ 24 → step ≡ or_zeros (step_from 24 [] rest)
+      → Put out n step m exit → next ≡ next_line rest → Taking entry text exit next (left - 1) m
+  take_on {step} {exit} {next} {m} h o l p q e =
       let z : left ≡ suc (left - 1) = omega (arith, h) in
-      let d = here text at o in
       record {
         taken = g.taken ++ step;
-        rest = rw (append_assoc g.taken step (read_steps (left - 1) (drop next text)), p, e, d) (rw (z, d) at g.rest);
+        more = rw (append_assoc g.taken step (read_steps (left - 1) next), p, e) (rw (z, steps_some (left - 1) rest o) at g.more);
         put = put_then g.put q;
         room = omega (arith, g.room, q.place, l, z);
-        most = w;
       }
 
   pub take_full : left ≡ 0 → Put entry 0 (tape_in text) n out
   unfolding read_steps
-  take_full z = rw (← (rw z at g.rest), append-nil g.taken) g.put
+  take_full z = rw (← (rw z at g.more), append-nil g.taken) g.put
 
-  pub take_all_lines : length text ≤ at → Put entry 0 (tape_in text) n out
-  take_all_lines h = rw (← g.rest, drop_of_length-le text {i = at} h, steps_none left, append-nil g.taken) g.put
+  pub take_all_lines : eqb (length rest) 0 ≡ true → Put entry 0 (tape_in text) n out
+  take_all_lines h = go rest h g.more
+    where
+      go : (s : List ℕ) → eqb (length s) 0 ≡ true → g.taken ++ read_steps left s ≡ tape_in text → Put entry 0 (tape_in text) n out
+      go [] h e = rw (← e, steps_none left, append-nil g.taken) g.put
+      go (b ∷ s) h e = never (ap (λ b. cond {A = Read ℕ} b (is 0 []) bad) (sym (ne_eqb (length (b ∷ s)) 0 (λ e. omega (arith, e))) ∙ h))

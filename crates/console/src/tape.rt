@@ -1,11 +1,11 @@
 // A tape as a text that people read and write: a line a step, its 24 bytes in hex, parted by tabs into the six fields.
-ghost use Rattle.std.specs.Prelude.{◌≡◌, ◌+◌, ◌*◌, ◌<◌, ◌≤◌, [], length, drop};
+ghost use Rattle.std.specs.Prelude.{◌≡◌, ◌+◌, ◌*◌, ◌≤◌, [], length};
 ghost use Rattle.io.specs.Counts.{IsPrefixLen};
-ghost use Rattle.text.specs.Seen.{Reads};
+ghost use Rattle.text.specs.Seen.{seen};
 ghost use Rattle.text.specs.Put.{Put};
 ghost use Rattle.console.specs.TapeText.{stop_after, in_digits, in_lines, byte_from, step_from, or_zeros, next_line, tape_in};
 
-use text::reading::{Number, byte_at, digit, end_field};
+use text::reading::{byte_at, digit, end_field};
 use text::writing::{digit_byte, write_byte, write_bytes};
 
 const LF: u8 = b'\n';
@@ -19,8 +19,7 @@ const STEPS: usize = 513;
 // The room for the bytes of a tape that is read.
 pub const ROOM: usize = 12_312;
 
-// What stands after byte k of a step, and 0 where nothing does: no Option, since `in_digits` and `byte_from` are defined on that 0, and
-// `end_field` asks for a byte above it.
+// What stands after byte k of a step, and 0 where nothing does: no Option, since `in_digits` and `byte_from` are defined on that 0.
 fn stop_after(k: usize) -> u8
     ensures { result ≡ stop_after k }
 {
@@ -53,51 +52,54 @@ pub fn write_tape(out: &mut [u8], tape: &[u8]) -> usize
     at
 }
 
-fn read_byte(s: &[u8], at: usize, stop: u8) -> Number
-    ensures { Reads (byte_from stop (drop at s.now)) s.now result }
+fn read_byte(s: &[u8], stop: u8) -> Option<(u64, &[u8])>
+    ensures { seen result ≡ byte_from stop s.now }
 {
-    let high = digit(byte_at(s, at));
+    let (&a, s) = s.split_first()?;
+    let high = digit(a);
     if 15 < high {
         return None;
     }
-    let low = digit(byte_at(s, at + 1));
+    let (&b, s) = s.split_first()?;
+    let low = digit(b);
     if 15 < low {
         return None;
     }
-    let n = Some((high * 16 + low, at + 2));
+    let n = Some((high * 16 + low, s));
     if stop == 0 {
         return n;
     }
-    end_field(s, n, stop)
+    end_field(n, stop)
 }
 
 // The step that a line says; a line that says none gives zeros, which are no step.
-fn read_step(s: &[u8], at: usize) -> [u8; 24]
-    ensures { result ≡ or_zeros (step_from 24 [] (drop at s.now)) }
+fn read_step(s: &[u8]) -> [u8; 24]
+    ensures { result ≡ or_zeros (step_from 24 [] s.now) }
 {
     let mut step = [0u8; STEP];
-    let mut next = at;
+    let mut rest = s;
     for k in 0..STEP {
-        let Some((b, after)) = read_byte(s, next, stop_after(k)) else {
+        let Some((b, after)) = read_byte(rest, stop_after(k)) else {
             return [0u8; STEP];
         };
         step[k] = b as u8;
-        next = after;
+        rest = after;
     }
     step
 }
 
-// The place after the line feed that comes next, or the end.
-pub fn next_line(s: &[u8], at: usize) -> usize
-    requires { at < length s.now }
-    ensures { (at < result) × (result ≤ length s.now) × (drop result s.now ≡ next_line (drop at s.now)) }
+// What stands after the line feed that comes next, or nothing.
+pub fn next_line(s: &[u8]) -> &[u8]
+    ensures { result.now ≡ next_line s.now }
 {
-    for i in at..s.len() {
-        if s[i] == LF {
-            return i + 1;
+    let mut rest = s;
+    while let Some((&b, after)) = rest.split_first() {
+        rest = after;
+        if b == LF {
+            return rest;
         }
     }
-    s.len()
+    rest
 }
 
 // The bytes that a text says, at the start of an output: 24 for each line.
@@ -106,15 +108,15 @@ pub fn read_tape(out: &mut [u8], text: &[u8]) -> usize
     ensures put { Put out.old 0 (tape_in text.now) result out.new }
     ensures within { IsPrefixLen result out.new }
 {
-    let mut at: usize = 0;
+    let mut rest = text;
     let mut n: usize = 0;
     for _ in 0..STEPS {
-        if text.len() <= at {
+        if rest.is_empty() {
             return n;
         }
-        let step = read_step(text, at);
+        let step = read_step(rest);
         n = write_bytes(out, n, &step);
-        at = next_line(text, at);
+        rest = next_line(rest);
     }
     n
 }

@@ -1,40 +1,39 @@
 -- The laws that the functions of this crate cite: the bytes that are passed over, a field that reads and one that does not, over plain lists and
 -- numbers. Assumes nothing.
-use Rattle.std.specs.Prelude.{Some, None}
+use Rattle.std.specs.Prelude.{Option, Some, None}
+use Rattle.std.specs.Borrow.{Bor}
+use Rattle.std.specs.List.{IsFirstAndRest}
 use mathlib.Core.Path.{◌≡◌, refl, sym, ap, ◌∙◌}
 use mathlib.Core.List.{List, [], ◌∷◌, ◌++◌}
-use Prim.Native.Nat.{ℕ, zero, suc, ◌+◌, ◌-◌, ◌≤◌, ◌<◌, min}
+use Prim.Native.Nat.{ℕ, zero, suc, ◌+◌, ◌-◌, ◌≤◌, ◌<◌}
 use native.Mathlib.Numerals.{add-one}
 use native.Mathlib.Omega.{arith}
-use native.Mathlib.Decide.{dec_lt}
-use lib.Seq.{take_all}
 use mathlib.Core.Bool.{Bool, true, false, cond}
 use lib.Dec.{eqb}
-use lib.ListN.{length, get_or, take, drop, drop_of_length-le, length-drop, length-append}
+use lib.ListN.{length, get_or, drop, drop_of_length-le, length-drop, length-append}
 use borrow.Author.Tests.{lt-ltb, le-ltb, eq-eqb, ne_eqb}
 use Rattle.text.specs.Reading.{is, bad, ended, digit_of}
-use Rattle.text.specs.Seen.{Number, seen, Reads}
-use Rattle.text.proofs.Running.{here, within}
+use Rattle.text.specs.Seen.{seen}
+use Rattle.text.proofs.Running.{here}
 use Rattle.faults.specs.declared.Fault.{Fault}
 use Rattle.faults.specs.Faulting as Spec
 use Rattle.faults.specs.Faulting.{read, base_of, no_digit, field_fault, stop_of, or_else, form_with, has_at, fault_in, line_fault, after_line, from_line}
 
 -- ---- digits that are passed over
 
-module _ (s : List ℕ) (base i : ℕ) where
-  pub digit_inside : base ≤ 16 → digit_of (get_or s i 0) < base → i < length s
-  digit_inside m h = within s i (omega (arith, m, h))
-
-  pub digit_passed : base ≤ 16 → digit_of (get_or s i 0) < base → no_digit base (drop i s) ≡ no_digit base (drop (i + 1) s)
+module _ {s rest : List ℕ} {b : ℕ} (f : IsFirstAndRest s b rest) (base : ℕ) where
+  pub digit_passed : digit_of b < base → no_digit base s ≡ no_digit base rest
   unfolding no_digit
-  digit_passed m h = rw (here s i (digit_inside m h), lt-ltb _ _ h)
+  digit_passed h = rw (f.0, lt-ltb _ _ h)
 
-  pub digit_none : base ≤ digit_of (get_or s i 0) → drop i s ≡ no_digit base (drop i s)
+  pub digit_none : base ≤ digit_of b → s ≡ no_digit base s
   unfolding no_digit
-  digit_none h = elim (dec_lt i (length s)) [
-    | yes lt ↦ rw (here s i lt, le-ltb _ _ h)
-    | no ge ↦ rw (drop_of_length-le s {i = i} (omega arith))
-  ]
+  digit_none h = rw (f.0, le-ltb _ _ h)
+
+pub no_byte : (s : List ℕ) (base : ℕ) → length s ≡ 0 → s ≡ no_digit base s
+unfolding no_digit
+no_byte [] base h = refl
+no_byte (b ∷ s) base h = absurd (omega arith)
 
 -- ---- lines that are passed over
 
@@ -74,23 +73,6 @@ module _ {s : List ℕ} {line left i : ℕ} (g : At s line left i) where
   line_found h = let q : left ≡ 0 = omega arith in rw q at g.rest
 
 -- ---- a field
-
-pub stop_positive : (left : ℕ) → 0 < stop_of left
-unfolding stop_of
-stop_positive left = go (eqb left 0)
-  where
-    go : (b : Bool) → 0 < cond b 10 9
-    go true = omega arith
-    go false = omega arith
-
-pub base_small : (kind : ℕ) → base_of kind ≤ 16
-unfolding base_of
-base_small kind = go (eqb kind 72) (eqb kind 90)
-  where
-    go : (b c : Bool) → cond b 16 (cond c 1 0) ≤ 16
-    go true c = omega arith
-    go false true = omega arith
-    go false false = omega arith
 
 -- a field that is not whole
 pub field_stuck : (kind left : ℕ) {base : ℕ} (bs : List ℕ) {rest : List ℕ} → base ≡ base_of kind → rest ≡ no_digit base bs → read kind bs ≡ bad
@@ -150,48 +132,49 @@ module _ (s : List ℕ) (i : ℕ) where
   unfolding has_at
   at_end h = rw (drop_of_length-le s {i = i} h)
 
--- the text from the place on, or nothing where the place is past the end
-pub from_place : (s : List ℕ) (at : ℕ) {from : ℕ} → from ≡ min at (length s) → take (length s - from) (drop from s) ≡ drop at s
-from_place s at {from} p = take_all (length s - from) (drop from s) (omega (arith, length-drop from s)) ∙ elim (dec_lt at (length s)) [
-  | yes l ↦ ap (λ k. drop k s) (omega (arith, p))
-  | no n ↦ rw (drop_of_length-le s {i = at} (omega arith)) (drop_of_length-le s {i = from} (omega (arith, p)))
-]
-
 -- the fields that are left, of those of the form
-pub record Fielding (s form : List ℕ) (at i k : ℕ) : Type 0 where
+pub record Fielding (line form rest : List ℕ) (k : ℕ) : Type 0 where
   pub few : k ≤ length form
-  pub rest : fault_in (drop k form) (drop i s) ≡ fault_in form (drop at s)
+  pub left : fault_in (drop k form) rest ≡ fault_in form line
 
-module _ {s form : List ℕ} {at i k : ℕ} (g : Fielding s form at i k) where
-  pub fields_done : length form ≤ k → Fault.Order ≡ fault_in form (drop at s)
+module _ {line form rest : List ℕ} {k : ℕ} (g : Fielding line form rest k) where
+  pub fields_done : length form ≤ k → Fault.Order ≡ fault_in form line
   unfolding fault_in
-  fields_done h = rw (drop_of_length-le form {i = k} h) at g.rest
+  fields_done h = rw (drop_of_length-le form {i = k} h) at g.left
 
-  module _ {left stop : ℕ} {kind : ℕ} {n : Number} (h : k < length form) (z : left ≡ length form - k - 1) (t : stop ≡ stop_of left) (f : kind ≡ get_or form k 0) (r : Reads (ended stop (read kind (drop i s))) s n) where
+  module _ {left stop kind : ℕ} (n : Option (ℕ × Bor (List ℕ))) (h : k < length form) (z : left ≡ length form - k - 1) (t : stop ≡ stop_of left) (f : kind ≡ get_or form k 0) (r : seen n ≡ ended stop (read kind rest)) where
     behind : length (drop (k + 1) form) ≡ left
     behind = omega (arith, z, length-drop (k + 1) form)
 
-    field : ended (stop_of (length (drop (k + 1) form))) (read (get_or form k 0) (drop i s)) ≡ seen s n
-    field = rw (behind, ← t, ← f) (sym r.answer)
+    field : ended (stop_of (length (drop (k + 1) form))) (read (get_or form k 0) rest) ≡ seen n
+    field = rw (behind, ← t, ← f) (sym r)
 
-    pub field_read : {v next : ℕ} → n ≡ Some (v, next) → Fielding s form at next (k + 1)
-    field_read {v} {next} q = record {
+    pub field_read : {v : ℕ} {after : Bor (List ℕ)} → n ≡ Some (v, after) → Fielding line form after.now (k + 1)
+    field_read {v} {after} q = record {
       few = omega arith;
-      rest = sym (reads_on (get_or form k 0) (drop (k + 1) form) (drop i s) v (drop next s) (field ∙ ap (seen s) q)) ∙ (rw (here form k h) at g.rest);
+      left = sym (reads_on (get_or form k 0) (drop (k + 1) form) rest v after.now (field ∙ ap seen q)) ∙ (rw (here form k h) at g.left);
     }
 
-    pub field_bad : n ≡ None → field_fault kind left (drop i s) (read kind (drop i s)) ≡ fault_in form (drop at s)
+    pub field_bad : n ≡ None → field_fault kind left rest (read kind rest) ≡ fault_in form line
     field_bad q =
-        let e = stops (get_or form k 0) (drop (k + 1) form) (drop i s) (field ∙ ap (seen s) q) in
-        rw (f, ← behind) (sym e ∙ (rw (here form k h) at g.rest))
+        let e = stops (get_or form k 0) (drop (k + 1) form) rest (field ∙ ap seen q) in
+        rw (f, ← behind) (sym e ∙ (rw (here form k h) at g.left))
+
+-- ---- what a byte says
+
+pub told_end : (s : List ℕ) (base left : ℕ) → length s ≡ 0 → Spec.told base left s ≡ cond (eqb left 0) Fault.NoLineFeed Fault.FieldMissing
+unfolding Spec.told
+told_end [] base left h = refl
+told_end (b ∷ s) base left h = absurd (omega arith)
 
 -- ---- a line
 
-module _ (form : ℕ → List ℕ → List ℕ) (s : List ℕ) (at : ℕ) where
-  pub no_line : length s ≤ at → Fault.NoLine ≡ line_fault form (drop at s)
+module _ (form : ℕ → List ℕ → List ℕ) where
+  pub no_line : (s : List ℕ) → length s ≡ 0 → Fault.NoLine ≡ line_fault form s
   unfolding line_fault
-  no_line h = rw (drop_of_length-le s {i = at} h)
+  no_line [] h = refl
+  no_line (b ∷ s) h = absurd (omega arith)
 
-  pub a_line : at < length s → fault_in (form (get_or s at 0) (drop at s)) (drop at s) ≡ line_fault form (drop at s)
+  pub a_line : (s : List ℕ) {b : ℕ} {after : List ℕ} → IsFirstAndRest s b after → fault_in (form b s) s ≡ line_fault form s
   unfolding line_fault
-  a_line h = rw (here s at h)
+  a_line s f = rw f.0

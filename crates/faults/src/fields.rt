@@ -1,14 +1,14 @@
 // A line field by field, by its form: a letter for each field, as specs/Faulting tells. The first field that does not read says
 // which fault the line has.
-ghost use Rattle.std.specs.Prelude.{◌≡◌, [], ◌∷◌, ◌&&◌, ◌||◌, ◌<◌, ◌≤◌, ltb, eqb, length, get_or, drop};
+ghost use Rattle.std.specs.Prelude.{◌≡◌, [], ◌∷◌, ◌&&◌, ◌||◌, ◌<◌, ◌≤◌, ltb, eqb, length, get_or};
 ghost use Rattle.text.specs.Reading.{is_from, name_from};
-ghost use Rattle.text.specs.Seen.{Reads};
+ghost use Rattle.text.specs.Seen.{seen};
 ghost use Rattle.faults.specs.Faulting.{words_of, read, told, base_of, no_digit, field_fault, stop_of, form_with, fault_in};
 
 use super::Fault;
 use origins::fields::read_origin;
-use spelling::{function_at, infix_at, operation_at, prefix_at};
-use text::reading::{Number, byte_at, digit, end_field, read_decimal, read_hex, word_at};
+use spelling::{first_function, first_infix, first_operation, first_prefix};
+use text::reading::{digit, end_field, read_decimal, read_hex};
 
 const TAB: u8 = 9;
 
@@ -17,56 +17,53 @@ const LF: u8 = 10;
 const CR: u8 = 13;
 
 // The one word that may stand here.
-fn one_word(text: &[u8], at: usize, word: &[u8]) -> Number
-    requires { 0 < length word.now }
-    ensures { Reads (name_from 1 (word.now ∷ []) (drop at text.now)) text.now result }
+fn one_word<'a>(s: &'a [u8], word: &[u8]) -> Option<(u64, &'a [u8])>
+    ensures { seen result ≡ name_from 1 (word.now ∷ []) s.now }
 {
-    if word_at(text, at, word) {
-        return Some((1, at + word.len()));
-    }
-    None
+    let rest = s.strip_prefix(word)?;
+    Some((1, rest))
 }
 
 // A field of names, or of one word.
-fn words_at(text: &[u8], at: usize, kind: u8) -> Number
-    ensures { Reads (name_from 1 (words_of kind) (drop at text.now)) text.now result }
+fn read_words(s: &[u8], kind: u8) -> Option<(u64, &[u8])>
+    ensures { seen result ≡ name_from 1 (words_of kind) s.now }
 {
     if kind == b'F' {
-        return function_at(text, at);
+        return first_function(s);
     }
     if kind == b'O' {
-        return operation_at(text, at);
+        return first_operation(s);
     }
     if kind == b'U' {
-        return prefix_at(text, at);
+        return first_prefix(s);
     }
     if kind == b'B' {
-        return infix_at(text, at);
+        return first_infix(s);
     }
     if kind == b'Z' {
-        return one_word(text, at, b"0000000000000000");
+        return one_word(s, b"0000000000000000");
     }
     let own = [kind];
-    one_word(text, at, &own)
+    one_word(s, &own)
 }
 
 // A field without the byte that ends it.
-fn field_at(text: &[u8], at: usize, kind: u8) -> Number
-    ensures { Reads (read kind (drop at text.now)) text.now result }
+fn read_field(s: &[u8], kind: u8) -> Option<(u64, &[u8])>
+    ensures { seen result ≡ read kind s.now }
 {
     if kind == b'H' {
-        return read_hex(text, at);
+        return read_hex(s);
     }
     if kind == b'N' {
-        return read_decimal(text, at, 65536);
+        return read_decimal(s, 65536);
     }
     if kind == b'I' {
-        return read_decimal(text, at, 4294967296);
+        return read_decimal(s, 4294967296);
     }
     if kind == b'@' {
-        return read_origin(text, at);
+        return read_origin(s);
     }
-    words_at(text, at, kind)
+    read_words(s, kind)
 }
 
 fn stop_of(left: usize) -> u8
@@ -84,17 +81,18 @@ fn base_of(kind: u8) -> u64
     if kind == b'Z' { 1 } else { 0 }
 }
 
-// The place of the first byte from here on that is no digit below the base.
-fn no_digit(text: &[u8], at: usize, base: u64) -> usize
-    requires { base ≤ 16 }
-    ensures { drop result text.now ≡ no_digit base (drop at text.now) }
+// The bytes from the first on that is no digit below the base.
+fn no_digit(s: &[u8], base: u64) -> &[u8]
+    ensures { result.now ≡ no_digit base s.now }
 {
-    // As a chain, `at + ..take_while(..).count()`, it was tried: its proof did not close.
-    let mut i = at;
-    while digit(byte_at(text, i)) < base {
-        i += 1;
+    let mut rest = s;
+    while let Some((&b, after)) = rest.split_first() {
+        if base <= digit(b) {
+            return rest;
+        }
+        rest = after;
     }
-    i
+    rest
 }
 
 fn is_lower_hex(b: u8, base: u64) -> bool
@@ -128,16 +126,15 @@ fn ends_early(b: u8, left: usize) -> bool
 }
 
 // What a byte says, or the end of the text, where it is not due.
-fn told_at(text: &[u8], at: usize, base: u64, left: usize) -> Fault
-    ensures { result ≡ told base left (drop at text.now) }
+fn told(s: &[u8], base: u64, left: usize) -> Fault
+    ensures { result ≡ told base left s.now }
 {
-    if text.len() <= at {
+    let Some((&b, _)) = s.split_first() else {
         if left == 0 {
             return Fault::NoLineFeed;
         }
         return Fault::FieldMissing;
-    }
-    let b = text[at];
+    };
     if b == CR {
         return Fault::CarriageReturn;
     }
@@ -151,16 +148,16 @@ fn told_at(text: &[u8], at: usize, base: u64, left: usize) -> Fault
 }
 
 // A field that has no end.
-fn field_fault(text: &[u8], at: usize, kind: u8, left: usize) -> Fault
+fn field_fault(s: &[u8], kind: u8, left: usize) -> Fault
     requires { left < 18446744073709551615 }
-    ensures { result ≡ field_fault kind left (drop at text.now) (read kind (drop at text.now)) }
+    ensures { result ≡ field_fault kind left s.now (read kind s.now) }
 {
-    if let Some((_, next)) = field_at(text, at, kind) {
-        return told_at(text, next, 0, left);
+    if let Some((_, rest)) = read_field(s, kind) {
+        return told(rest, 0, left);
     }
     let base = base_of(kind);
-    let stuck = no_digit(text, at, base);
-    told_at(text, stuck, base, left + 1)
+    let stuck = no_digit(s, base);
+    told(stuck, base, left + 1)
 }
 
 // How many fields there are, with that of an origin.
@@ -182,19 +179,19 @@ fn kind_at(form: &[u8], k: usize) -> u8
 }
 
 // The fields of a line, by its form, and one more where there is an origin.
-pub fn fields_fault(text: &[u8], at: usize, form: &[u8], origin: bool) -> Fault
+pub fn fields_fault(line: &[u8], form: &[u8], origin: bool) -> Fault
     requires { length form.now ≤ 8 }
-    ensures { result ≡ fault_in (form_with origin form.now) (drop at text.now) }
+    ensures { result ≡ fault_in (form_with origin form.now) line.now }
 {
     let count = field_count(form, origin);
-    let mut i = at;
+    let mut rest = line;
     for k in 0..count {
         let kind = kind_at(form, k);
         let left = count - k - 1;
-        let Some((_, next)) = end_field(text, field_at(text, i, kind), stop_of(left)) else {
-            return field_fault(text, i, kind, left);
+        let Some((_, after)) = end_field(read_field(rest, kind), stop_of(left)) else {
+            return field_fault(rest, kind, left);
         };
-        i = next;
+        rest = after;
     }
     Fault::Order
 }

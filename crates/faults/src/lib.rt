@@ -6,7 +6,6 @@ ghost use Rattle.std.specs.Prelude.{◌≡◌, ◌≤◌, length, drop};
 ghost use Rattle.faults.specs.Faulting.{fault_in, node_form, has_at, form_with, listing_form, sheet_form, from_line, listing_fault, sheet_fault};
 
 use fields::fields_fault;
-use text::reading::word_at;
 
 mod fields;
 
@@ -42,11 +41,10 @@ pub fn line_start(text: &[u8], line: u64) -> usize
     text.len()
 }
 
-// Whether `@` stands in the line that begins at a place, before its line feed.
-fn has_at(text: &[u8], at: usize) -> bool
-    ensures { result ≡ has_at (drop at text.now) }
+// Whether `@` stands in a line, before its line feed.
+fn has_at(line: &[u8]) -> bool
+    ensures { result ≡ has_at line.now }
 {
-    let line = &text[at.min(text.len())..];
     for &b in line {
         if b == LF {
             return false;
@@ -58,76 +56,76 @@ fn has_at(text: &[u8], at: usize) -> bool
     false
 }
 
-fn node_line(text: &[u8], at: usize, first: u8, origin: bool) -> Fault
-    ensures { result ≡ fault_in (form_with origin (node_form first)) (drop at text.now) }
+fn node_line(line: &[u8], first: u8, origin: bool) -> Fault
+    ensures { result ≡ fault_in (form_with origin (node_form first)) line.now }
 {
     if first == b'n' {
-        return fields_fault(text, at, b"nHH", origin);
+        return fields_fault(line, b"nHH", origin);
     }
     if first == b'p' {
-        return fields_fault(text, at, b"p", origin);
+        return fields_fault(line, b"p", origin);
     }
     if first == b'v' {
-        return fields_fault(text, at, b"vN", origin);
+        return fields_fault(line, b"vN", origin);
     }
     if first == b'm' {
-        return fields_fault(text, at, b"mNI", origin);
+        return fields_fault(line, b"mNI", origin);
     }
     if first == b'f' {
-        return fields_fault(text, at, b"fFI", origin);
+        return fields_fault(line, b"fFI", origin);
     }
     if first == b'u' {
-        return fields_fault(text, at, b"uUI", origin);
+        return fields_fault(line, b"uUI", origin);
     }
     if first == b'b' {
-        return fields_fault(text, at, b"bBII", origin);
+        return fields_fault(line, b"bBII", origin);
     }
-    fields_fault(text, at, b"n", origin)
+    fields_fault(line, b"n", origin)
 }
 
 // Node lines may end in an origin.
-fn listing_line(text: &[u8], at: usize, first: u8) -> Fault
-    ensures { result ≡ fault_in (listing_form first (drop at text.now)) (drop at text.now) }
+fn listing_line(line: &[u8], first: u8) -> Fault
+    ensures { result ≡ fault_in (listing_form first line.now) line.now }
 {
     if first == b's' {
-        return fields_fault(text, at, b"sNI", false);
+        return fields_fault(line, b"sNI", false);
     }
-    node_line(text, at, first, has_at(text, at))
+    node_line(line, first, has_at(line))
 }
 
-fn sheet_line(text: &[u8], at: usize, first: u8) -> Fault
-    ensures { result ≡ fault_in (sheet_form first (drop at text.now)) (drop at text.now) }
+fn sheet_line(line: &[u8], first: u8) -> Fault
+    ensures { result ≡ fault_in (sheet_form first line.now) line.now }
 {
     if first == b'v' {
-        return fields_fault(text, at, b"vNHH", false);
+        return fields_fault(line, b"vNHH", false);
     }
     if first == b'm' {
-        return fields_fault(text, at, b"mNIH", false);
+        return fields_fault(line, b"mNIH", false);
     }
-    if word_at(text, at, b"t\tpow") {
-        return fields_fault(text, at, b"tOHHHHHH", false);
+    if line.starts_with(b"t\tpow") {
+        return fields_fault(line, b"tOHHHHHH", false);
     }
-    fields_fault(text, at, b"tOHHZZHH", false)
+    fields_fault(line, b"tOHHZZHH", false)
 }
 
 // The fault of a line of a listing that was refused as BAD_LIST at that line.
 pub fn listing_fault(text: &[u8], line: u64) -> Fault
     ensures { result ≡ listing_fault text.now line }
 {
-    let at = line_start(text, line);
-    if text.len() <= at {
+    let rest = &text[line_start(text, line)..];
+    let Some((&first, _)) = rest.split_first() else {
         return Fault::NoLine;
-    }
-    listing_line(text, at, text[at])
+    };
+    listing_line(rest, first)
 }
 
 // The fault of a line of a sheet that was refused as BAD_SHEET at that line.
 pub fn sheet_fault(text: &[u8], line: u64) -> Fault
     ensures { result ≡ sheet_fault text.now line }
 {
-    let at = line_start(text, line);
-    if text.len() <= at {
+    let rest = &text[line_start(text, line)..];
+    let Some((&first, _)) = rest.split_first() else {
         return Fault::NoLine;
-    }
-    sheet_line(text, at, text[at])
+    };
+    sheet_line(rest, first)
 }

@@ -4,9 +4,11 @@ use mathlib.Core.List.{List, [], ◌∷◌, ◌++◌}
 use mathlib.Core.Bool.{Bool}
 use Prim.Native.Nat.{ℕ, zero, suc, ◌+◌, ◌-◌, ◌≤◌, ◌<◌}
 use native.Mathlib.Omega.{arith}
-use lib.ListN.{length, get_or, drop}
+use lib.ListN.{length, get_or}
 use borrow.Author.Tests.{eq-eqb, ne_eqb}
 use Rattle.std.specs.Prelude.{Result, Ok, Err}
+use Rattle.std.specs.Borrow.{Bor}
+use Rattle.std.specs.List.{IsFirstAndRest}
 use Rattle.expression.specs.declared.refusal.Refusal.{Refusal}
 use Rattle.expression.specs.Trees.{Tree}
 use Rattle.store.specs.Memory.{room}
@@ -22,20 +24,20 @@ use Rattle.listing.specs.declared.Listed as Code
 use Rattle.listing.specs.declared.Progress.{Progress}
 use Rattle.listing.specs.Listings.{known, Swap, accepted, last, rooted, whole, listing, listing_line, lines_of, given}
 use Rattle.listing.proofs.Shortening.{listing_shortens}
-use Rattle.listing.specs.Tables.{line_trees, swap_trees, known_at, Listed, Ready, Takes, lines_seen, Ended, ReadsLines, listing_seen, ListsAfter, TracedAfter, Reads, root_of}
+use Rattle.listing.specs.Tables.{line_trees, swap_trees, known_at, Listed, Ready, Step, Takes, lines_seen, Ended, ReadsLines, listing_seen, ListsAfter, TracedAfter, Reads, root_of}
 
 -- after some lines
-pub record Going (substituting : Bool) (text : List ℕ) (l₀ l : Lent) (table : List ℕ) (p : Progress) : Type 0 where
+pub record Going (substituting : Bool) (text : List ℕ) (l₀ l : Lent) (table rest : List ℕ) (p : Progress) : Type 0 where
   pub lines : p.lines ≤ 1024
   pub swaps : p.swaps ≤ 256
   pub long : table_words ≤ length table
   pub listed : Listed l table p.lines p.swaps
-  pub left : Left (listing_line substituting) (known_at l table p) text p.at (Lines.lines (listing_line substituting) (known [] [] (state_in l₀)) text)
+  pub left : Left (listing_line substituting) (known_at l table p) rest (Lines.lines (listing_line substituting) (known [] [] (state_in l₀)) text)
 
 abbrev pub at_start : Progress
-at_start = record { at = 0; lines = 0; swaps = 0 }
+at_start = record { lines = 0; swaps = 0 }
 
-pub going_begins : (substituting : Bool) (text : List ℕ) (l : Lent) (table : List ℕ) → table_words ≤ length table → Sound l → Traced [] l → Going substituting text l l table at_start
+pub going_begins : (substituting : Bool) (text : List ℕ) (l : Lent) (table : List ℕ) → table_words ≤ length table → Sound l → Traced [] l → Going substituting text l l table text at_start
 unfolding up_to
 going_begins substituting text l table o h t = record {
   lines = omega arith;
@@ -48,34 +50,34 @@ going_begins substituting text l table o h t = record {
   left = begins (listing_line substituting) (listing_shortens substituting) (known [] [] (state_in l)) text;
 }
 
-module _ {substituting : Bool} {text : List ℕ} {l₀ l : Lent} {table : List ℕ} {p : Progress} (g : Going substituting text l₀ l table p) where
-  pub is_ready : p.at < length text → Ready text table p
-  is_ready h = record { inside = h; lines = g.lines; swaps = g.swaps; long = g.long }
+module _ {substituting : Bool} {text : List ℕ} {l₀ l : Lent} {table rest : List ℕ} {p : Progress} (g : Going substituting text l₀ l table rest p) where
+  pub is_ready : Ready table p
+  is_ready = record { lines = g.lines; swaps = g.swaps; long = g.long }
 
-  pub going_ends : length text ≤ p.at → ReadsLines substituting text (Ok p) l₀ l table
-  going_ends h = record { answer = ends g.left h; after = record { listed = g.listed; lines = g.lines; swaps = g.swaps } }
+  pub going_ends : length rest ≡ 0 → ReadsLines substituting text (Ok p) l₀ l table
+  going_ends h = record { answer = ends rest g.left h; after = record { listed = g.listed; lines = g.lines; swaps = g.swaps } }
 
-  module _ {r : Result Progress Refusal} {l' : Lent} {table' : List ℕ} (inside : p.at < length text)
-      (t : Takes (listing_line substituting (known_at l table p) (get_or text p.at 0) (drop (p.at + 1) text)) text p r l' table') where
+  module _ {first : ℕ} {after : List ℕ} (f : IsFirstAndRest rest first after) {r : Step} {l' : Lent} {table' : List ℕ}
+      (t : Takes (listing_line substituting (known_at l table p) first after) p r l' table') where
     pub going_stops : {why : Refusal} → r ≡ Err why → ReadsLines substituting text (Err why) l₀ l' table'
     going_stops {why} e =
         let a = rw e at t.answer in
-        record { answer = stops_at g.left inside (sym a); after = tt }
+        record { answer = stops_at g.left f (sym a); after = tt }
 
-    pub going_on : {q : Progress} → r ≡ Ok q → length table' ≡ length table → Going substituting text l₀ l' table' q
-    going_on {q} e k =
+    pub going_on : {q : Progress} {next : Bor (List ℕ)} → r ≡ Ok (q, next) → length table' ≡ length table → Going substituting text l₀ l' table' next.now q
+    going_on e k =
         let a = rw e at t.answer in
-        let f = rw e at t.after in
+        let s = rw e at t.after in
         record {
-          lines = f.lines;
-          swaps = f.swaps;
+          lines = s.lines;
+          swaps = s.swaps;
           long = omega (arith, g.long, k);
-          listed = f.listed;
-          left = goes_on g.left inside (sym a);
+          listed = s.listed;
+          left = goes_on g.left f (sym a);
         }
 
-    pub less : {q : Progress} → r ≡ Ok q → 1281 - (q.lines + q.swaps) < 1281 - (p.lines + p.swaps)
-    less {q} e = let f = rw e at t.after in omega (arith, f.count, g.lines, g.swaps)
+    pub less : {q : Progress} {next : Bor (List ℕ)} → r ≡ Ok (q, next) → 1281 - (q.lines + q.swaps) < 1281 - (p.lines + p.swaps)
+    less e = let s = rw e at t.after in omega (arith, s.count, g.lines, g.swaps)
 
 -- ---- the root
 

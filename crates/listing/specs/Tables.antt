@@ -1,5 +1,6 @@
 -- What the code's answers and the lent table say, as trees. Only connecting.
-use Rattle.std.specs.Prelude.{◌≡◌, ℕ, ◌+◌, ◌-◌, ◌*◌, ◌≤◌, ◌<◌, List, [], Option, Some, None, Result, Ok, Err, Bool, cond, length, get_or, drop, eqb}
+use Rattle.std.specs.Prelude.{◌≡◌, ℕ, ◌+◌, ◌-◌, ◌*◌, ◌≤◌, ◌<◌, List, [], Option, Some, None, Result, Ok, Err, Bool, cond, length, get_or, eqb}
+use Rattle.std.specs.Borrow.{Bor}
 use Rattle.expression.specs.declared.refusal.Refusal.{Refusal}
 use Rattle.expression.specs.Trees.{Tree, leaf, pi}
 use Rattle.expression.specs.declared.node.Expression.{Expression}
@@ -12,6 +13,7 @@ use Rattle.store.specs.Held.{Lent, tree_in, state_in, Sound}
 use Rattle.store.specs.Tracing.{Traced}
 use Rattle.memory.specs.Layout.{table_words, swaps_from}
 use Rattle.memory.specs.Keys.{up_to, key_at, Ascends}
+use Rattle.text.specs.Letters.{letter}
 use Rattle.text.specs.Reading.{Read, is, bad}
 use Rattle.text.specs.Lines as Lines
 use Rattle.text.specs.Lines.{goes, stops, above_last}
@@ -55,17 +57,20 @@ pub record Listed (l : Lent) (table : List ℕ) (lines swaps : ℕ) : Type 0 whe
 
 -- ---- one line
 
--- there is a line at the place, and room for it in the table
-pub record Ready (text table : List ℕ) (p : Progress) : Type 0 where
-  pub inside : p.at < length text
+-- there is room for a line in the table
+pub record Ready (table : List ℕ) (p : Progress) : Type 0 where
   pub lines : p.lines ≤ 1024
   pub swaps : p.swaps ≤ 256
   pub long : table_words ≤ length table
 
+-- how far reading is after a line, and the bytes after it, or why it is refused
+abbrev pub Step : Type 0
+Step = Result (Progress × Bor (List ℕ)) Refusal
+
 -- what a step of the code says, as one on trees
-abbrev pub step_seen : (text : List ℕ) (l : Lent) (table : List ℕ) → Result Progress Refusal → Lines.Line Known Refusal
-step_seen text l table (Ok q) = goes (known_at l table q) (drop q.at text)
-step_seen text l table (Err why) = stops why
+abbrev pub step_seen : (l : Lent) (table : List ℕ) → Step → Lines.Line Known Refusal
+step_seen l table (Ok (q, rest)) = goes (known_at l table q) rest.now
+step_seen l table (Err why) = stops why
 
 pub record Advanced (l : Lent) (table : List ℕ) (p q : Progress) : Type 0 where
   pub listed : Listed l table q.lines q.swaps
@@ -73,33 +78,33 @@ pub record Advanced (l : Lent) (table : List ℕ) (p q : Progress) : Type 0 wher
   pub lines : q.lines ≤ 1024
   pub swaps : q.swaps ≤ 256
 
-abbrev pub StepAfter : (l : Lent) (table : List ℕ) → Progress → Result Progress Refusal → Type 0
-StepAfter l table p (Ok q) = Advanced l table p q
+abbrev pub StepAfter : (l : Lent) (table : List ℕ) → Progress → Step → Type 0
+StepAfter l table p (Ok (q, rest)) = Advanced l table p q
 StepAfter l table p (Err why) = Unit {0}
 
-pub record Takes (want : Lines.Line Known Refusal) (text : List ℕ) (p : Progress) (r : Result Progress Refusal) (l : Lent) (table : List ℕ) : Type 0 where
-  pub answer : step_seen text l table r ≡ want
+pub record Takes (want : Lines.Line Known Refusal) (p : Progress) (r : Step) (l : Lent) (table : List ℕ) : Type 0 where
+  pub answer : step_seen l table r ≡ want
   pub after : StepAfter l table p r
 
-abbrev pub TakesLine : (want : Known → ℕ → List ℕ → Lines.Line Known Refusal) (text table : List ℕ) (p : Progress) (r : Result Progress Refusal) (l l' : Lent) (table' : List ℕ) → Type 0
-TakesLine want text table p r l l' table' =
-    Listed l table p.lines p.swaps → Takes (want (known_at l table p) (get_or text p.at 0) (drop (p.at + 1) text)) text p r l' table'
+-- a line with this first byte and these bytes after it
+abbrev pub TakesLine : (want : Known → ℕ → List ℕ → Lines.Line Known Refusal) (first : ℕ) (s table : List ℕ) (p : Progress) (r : Step) (l l' : Lent) (table' : List ℕ) → Type 0
+TakesLine want first s table p r l l' table' = Listed l table p.lines p.swaps → Takes (want (known_at l table p) first s) p r l' table'
 
 -- an s line changes the table alone, whatever rows and desk are
-abbrev pub TakesSwap : (substituting : Bool) (text table : List ℕ) (p : Progress) (r : Result Progress Refusal) (table' : List ℕ) → Type 0
-TakesSwap substituting text table p r table' = (l : Lent) → TakesLine (swap_line substituting) text table p r l l table'
+abbrev pub TakesSwap : (substituting : Bool) (s table : List ℕ) (p : Progress) (r : Step) (table' : List ℕ) → Type 0
+TakesSwap substituting s table p r table' = (l : Lent) → TakesLine (swap_line substituting) (letter "s") s table p r l l table'
 
 -- an s line of the code
-abbrev pub swap_line_seen : (nodes : List Tree) (text : List ℕ) → Option (ℕ × ℕ × ℕ) → Read Spec.Swap
-swap_line_seen nodes text (Some (v, line, next)) = is (swap v (get_or nodes line (leaf pi))) (drop next text)
-swap_line_seen nodes text None = bad
+abbrev pub swap_line_seen : (nodes : List Tree) → Option (ℕ × ℕ × Bor (List ℕ)) → Read Spec.Swap
+swap_line_seen nodes (Some (v, line, rest)) = is (swap v (get_or nodes line (leaf pi))) rest.now
+swap_line_seen nodes None = bad
 
-abbrev pub SwapWithin : ℕ → Option (ℕ × ℕ × ℕ) → Type 0
-SwapWithin lines (Some (v, line, next)) = line < lines
+abbrev pub SwapWithin : ℕ → Option (ℕ × ℕ × Bor (List ℕ)) → Type 0
+SwapWithin lines (Some (v, line, rest)) = line < lines
 SwapWithin lines None = Unit {0}
 
-pub record FindsSwap (text : List ℕ) (at lines : ℕ) (r : Option (ℕ × ℕ × ℕ)) : Type 0 where
-  pub seen : (nodes : List Tree) → length nodes ≡ lines → swap_line_seen nodes text r ≡ swap_fields nodes (get_or text at 0) (drop (at + 1) text)
+pub record FindsSwap (s : List ℕ) (lines : ℕ) (r : Option (ℕ × ℕ × Bor (List ℕ))) : Type 0 where
+  pub seen : (nodes : List Tree) → length nodes ≡ lines → swap_line_seen nodes r ≡ swap_fields nodes (letter "s") s
   pub within : SwapWithin lines r
 
 -- whether a variable is above those of the s lines in the table, whatever trees they name

@@ -2,7 +2,7 @@
 
 #![tactic(auto)]
 
-ghost use Rattle.std.specs.Prelude.{◌≡◌, [], ◌≤◌, ◌<◌, length};
+ghost use Rattle.std.specs.Prelude.{◌≡◌, [], ◌≤◌, length};
 ghost use Rattle.memory.specs.Layout.{table_words};
 ghost use Rattle.store.specs.Held.{lent, Sound};
 ghost use Rattle.store.specs.Tracing.{Traced};
@@ -17,7 +17,7 @@ use memory::{put, read};
 use node_lines::{LF, TAB, read_node};
 use store::desk::refusal_of;
 use store::{add, mark, start};
-use text::reading::{byte_at, decimal_field};
+use text::reading::{decimal_field, end_field};
 
 // 01's counts.
 const MOST_NODE_LINES: usize = 1024;
@@ -38,45 +38,41 @@ fn moved_by(table: &[u64], e: Expression) -> Expression
     map_operands(e, |line| read(table, line) as usize)
 }
 
-// How far reading is: the place in the text, and how many node lines and s lines are read.
+// How far reading is: how many node lines and s lines are read.
 #[derive(Clone, Copy)]
 struct Progress {
-    at: usize,
     lines: usize,
     swaps: usize,
 }
 
-// An s line: its variable, the line of its node, and the place after it.
-fn read_swap(s: &[u8], at: usize, lines: usize) -> Option<(u64, usize, usize)>
-    requires { (at < length s.now) × (lines ≤ 1024) }
-    ensures { FindsSwap s.now at lines result }
+// An s line after its first byte: its variable, the line of its node, and the bytes after it.
+fn read_swap(s: &[u8], lines: usize) -> Option<(u64, usize, &[u8])>
+    requires { lines ≤ 1024 }
+    ensures { FindsSwap s.now lines result }
 {
-    if byte_at(s, at + 1) != TAB {
-        return None;
-    }
-    let (variable, p) = decimal_field(s, at + 2, TAB, 65536)?;
-    let (line, next) = decimal_field(s, p, LF, lines as u64)?;
-    Some((variable, line as usize, next))
+    let (_, s) = end_field(Some((115, s)), TAB)?;
+    let (variable, s) = decimal_field(s, TAB, 65536)?;
+    let (line, s) = decimal_field(s, LF, lines as u64)?;
+    Some((variable, line as usize, s))
 }
 
 // An s line: 2, then 1.
-fn take_swap(
-    s: &[u8],
+fn take_swap<'a>(
+    s: &'a [u8],
     substituting: bool,
     table: &mut [u64],
     p: Progress,
-) -> Result<Progress, Refusal>
-    requires { Ready s.now table.old p }
+) -> Result<(Progress, &'a [u8]), Refusal>
+    requires { Ready table.old p }
     ensures { TakesSwap substituting s.now table.old p result table.new }
 {
-    let at = p.at;
     let lines = p.lines;
     let swaps = p.swaps;
     let here = (lines + swaps) as u64;
     if MOST_SWAPS <= swaps {
         return Err(Refusal::LongList(here));
     }
-    let Some((variable, line, next)) = read_swap(s, at, lines) else {
+    let Some((variable, line, rest)) = read_swap(s, lines) else {
         return Err(Refusal::BadList(here));
     };
     if !substituting {
@@ -88,11 +84,11 @@ fn take_swap(
     let node = read(table, line);
     put(table, SWAPS_FROM + 2 * swaps, variable);
     put(table, SWAPS_FROM + 2 * swaps + 1, node);
-    Ok(Progress {
-        at: next,
+    let more = Progress {
         lines,
         swaps: swaps + 1,
-    })
+    };
+    Ok((more, rest))
 }
 
 // Whether a variable is above that of the last s line.
@@ -107,17 +103,17 @@ fn is_above(table: &[u64], swaps: usize, variable: u64) -> bool
 }
 
 // A node line: 2, then 1, then 6, 7, 8 as the node is stored.
-fn take_node(
-    s: &[u8],
+fn take_node<'a>(
+    first: u8,
+    s: &'a [u8],
     store: &mut [[u64; 4]],
     desk: &mut [u64; DESK_WORDS],
     table: &mut [u64],
     p: Progress,
-) -> Result<Progress, Refusal>
-    requires { Ready s.now table.old p }
-    ensures { TakesLine node_line s.now table.old p result (lent store.old desk.old) (lent store.new desk.new) table.new }
+) -> Result<(Progress, &'a [u8]), Refusal>
+    requires { Ready table.old p }
+    ensures { TakesLine node_line first s.now table.old p result (lent store.old desk.old) (lent store.new desk.new) table.new }
 {
-    let at = p.at;
     let lines = p.lines;
     let swaps = p.swaps;
     let here = (lines + swaps) as u64;
@@ -127,7 +123,7 @@ fn take_node(
     if 0 < swaps {
         return Err(Refusal::BadList(here));
     }
-    let Some((e, next)) = read_node(s, at, lines) else {
+    let Some((e, rest)) = read_node(first, s, lines) else {
         return Err(Refusal::BadList(here));
     };
     let added = add(store, desk, moved_by(table, e));
@@ -136,30 +132,30 @@ fn take_node(
     };
     mark(store, node, lines);
     put(table, lines, node as u64);
-    Ok(Progress {
-        at: next,
+    let more = Progress {
         lines: lines + 1,
         swaps,
-    })
+    };
+    Ok((more, rest))
 }
 
-// The first byte decides which kind of line it is.
-fn take_line(
-    s: &[u8],
+// A line by its first byte, which decides which kind it is, and the bytes after that.
+fn take_line<'a>(
+    first: u8,
+    s: &'a [u8],
     substituting: bool,
     store: &mut [[u64; 4]],
     desk: &mut [u64; DESK_WORDS],
     table: &mut [u64],
     p: Progress,
-) -> Result<Progress, Refusal>
-    requires { Ready s.now table.old p }
-    ensures { TakesLine (listing_line substituting) s.now table.old p result (lent store.old desk.old) (lent store.new desk.new) table.new }
+) -> Result<(Progress, &'a [u8]), Refusal>
+    requires { Ready table.old p }
+    ensures { TakesLine (listing_line substituting) first s.now table.old p result (lent store.old desk.old) (lent store.new desk.new) table.new }
 {
-    let at = p.at;
-    if s[at] == b's' {
+    if first == b's' {
         return take_swap(s, substituting, table, p);
     }
-    take_node(s, store, desk, table, p)
+    take_node(first, s, store, desk, table, p)
 }
 
 // All lines, into a store.
@@ -174,14 +170,10 @@ fn read_lines(
     requires sound { Sound (lent store.old desk.old) × Traced [] (lent store.old desk.old) }
     ensures { ReadsLines substituting s.now result (lent store.old desk.old) (lent store.new desk.new) table.new }
 {
-    let mut p = Progress {
-        at: 0,
-        lines: 0,
-        swaps: 0,
-    };
-    // No `for`: a line tells where the next one begins.
-    while p.at < s.len() {
-        p = take_line(s, substituting, store, desk, table, p)?;
+    let mut rest = s;
+    let mut p = Progress { lines: 0, swaps: 0 };
+    while let Some((&first, after)) = rest.split_first() {
+        (p, rest) = take_line(first, after, substituting, store, desk, table, p)?;
     }
     Ok(p)
 }

@@ -1,5 +1,4 @@
 -- The laws that the proofs of this crate, and where `pub` of its callers, cite.
-pub mod Numbers
 pub mod Shortening
 pub mod Beside
 pub mod BesideLine

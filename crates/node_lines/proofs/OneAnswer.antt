@@ -3,14 +3,13 @@ use mathlib.Core.Path.{◌≡◌, refl, sym, ap, ◌∙◌}
 use mathlib.Core.List.{List, [], ◌∷◌}
 use Prim.Native.Nat.{ℕ, zero, suc, ◌+◌, ◌<◌}
 use native.Mathlib.Omega.{arith}
-use lib.ListN.{length, get_or, drop}
+use lib.ListN.{length, get_or}
 use Rattle.expression.specs.declared.node.Expression.{Expression}
 use Rattle.expression.specs.Trees.{Tree, leaf, number, pi, variable, cell, function_call, prefixed, infixed}
 use Rattle.expression.specs.Nodes.{grown}
 use Rattle.expression.proofs.OneNode.{ByTree, one_node}
 use Rattle.text.specs.Reading.{Read}
-use Rattle.text.proofs.OneAnswer.{one_place}
-use Rattle.std.specs.Prelude.{Some, None}
+use Rattle.std.specs.Prelude.{Option, Some, None}
 use Rattle.node_lines.specs.Seen.{Line, line_seen, Finds}
 
 -- earlier lines that differ: line k is the variable k
@@ -42,26 +41,22 @@ tells : (n : ℕ) → ByTree n (λ k. get_or (variables 0 n) k (leaf pi)) line_b
 unfolding line_by
 tells n = record { number = λ k h. ap line_by (which 0 n k h) ∙ omega arith }
 
--- what two answers say of a node and of the rest of the text
-pub record Same (text : List ℕ) (e e' : Expression) (next next' : ℕ) : Type 0 where
-  pub node : e ≡ e'
-  pub rest : drop next text ≡ drop next' text
+-- what an answer says: a node, and the bytes after its line
+abbrev pub said : Line → Option (Expression × List ℕ)
+said (Some (e, rest)) = Some (e, rest.now)
+said None = None
 
-module _ {want : List Tree → Read Tree} {text : List ℕ} {lines : ℕ} where
-  seen_same : (r r' : Line) → Finds want text lines r → Finds want text lines r' → line_seen (variables 0 lines) text r ≡ line_seen (variables 0 lines) text r'
+module _ {want : List Tree → Read Tree} {lines : ℕ} where
+  seen_same : (r r' : Line) → Finds want lines r → Finds want lines r' → line_seen (variables 0 lines) r ≡ line_seen (variables 0 lines) r'
   seen_same r r' p q = p.seen (variables 0 lines) (how_many 0 lines) ∙ sym (q.seen (variables 0 lines) (how_many 0 lines))
 
-  same : (e e' : Expression) (next next' : ℕ) → Finds want text lines (Some (e, next)) → Finds want text lines (Some (e', next')) → Same text e e' next next'
-  same e e' next next' p q =
-      let s = seen_same (Some (e, next)) (Some (e', next')) p q in
+  pub one_line : (r r' : Line) → Finds want lines r → Finds want lines r' → said r ≡ said r'
+  one_line (Some (e, rest)) (Some (e', rest')) p q =
+      let s = seen_same (Some (e, rest)) (Some (e', rest')) p q in
       let g : grown (λ k. get_or (variables 0 lines) k (leaf pi)) e ≡ grown (λ k. get_or (variables 0 lines) k (leaf pi)) e' = cc in
-      record { node = one_node (tells lines) e e' p.within q.within g; rest = cc }
-
-  pub one_line : (r r' : Line) → Finds want text lines r → Finds want text lines r' → r ≡ r'
-  one_line (Some (e, next)) (Some (e', next')) p q =
-      let s = same e e' next next' p q in
-      let k = one_place text next next' p.inside q.inside s.rest in
-      λ i. Some (s.node i, k i)
-  one_line (Some (e, next)) None p q = let s = seen_same (Some (e, next)) None p q in let z : ◌≡◌ {A = ℕ} 0 1 = cc in absurd (omega arith)
-  one_line None (Some (e', next')) p q = let s = seen_same None (Some (e', next')) p q in let z : ◌≡◌ {A = ℕ} 0 1 = cc in absurd (omega arith)
+      let n = one_node (tells lines) e e' p.within q.within g in
+      let k : rest.now ≡ rest'.now = cc in
+      λ i. Some (n i, k i)
+  one_line (Some (e, rest)) None p q = let s = seen_same (Some (e, rest)) None p q in let z : ◌≡◌ {A = ℕ} 0 1 = cc in absurd (omega arith)
+  one_line None (Some (e', rest')) p q = let s = seen_same None (Some (e', rest')) p q in let z : ◌≡◌ {A = ℕ} 0 1 = cc in absurd (omega arith)
   one_line None None p q = refl

@@ -8,9 +8,10 @@ use native.Mathlib.Decide.{ℕ_discrete}
 use lib.ListN.{length, get_or, length-append}
 use lib.Dec.{eqb}
 use borrow.Author.Tests.{eq-eqb, ne_eqb}
-use Rattle.std.specs.Prelude.{Some}
+use Rattle.std.specs.Prelude.{Option, Some}
+use Rattle.std.specs.Borrow.{Bor}
 use Rattle.text.specs.Reading.{Read, is, bad, then, lf, ended, digit_of, run, spelt, decimal}
-use Rattle.text.specs.Seen.{Number, seen, Reads}
+use Rattle.text.specs.Seen.{seen}
 use Rattle.text.specs.Writing.{in_decimal}
 use Rattle.text.proofs.Fields.{told}
 use Rattle.text.proofs.Only.{never, ended_only, decimal_only}
@@ -163,9 +164,9 @@ shorter_line_end bs bad h = tt
 -- ---- for those who read one field after another
 
 -- the end of a line after what was wanted
-pub line_ends : {s : List ℕ} {want : Read ℕ} {n m : Number} → Reads (line_end (seen s n)) s m → Reads want s n → Reads (line_end want) s m
-line_ends e r = record { answer = e.answer ∙ ap line_end r.answer; inside = e.inside }
+pub line_ends : {want n m : Read ℕ} → m ≡ line_end n → n ≡ want → m ≡ line_end want
+line_ends e r = e ∙ ap line_end r
 
 -- a decimal number at the end of a line is below its limit
-pub end_below : (s : List ℕ) (limit : ℕ) (bs : List ℕ) {n : Number} {v next : ℕ} → Reads (line_end (decimal limit bs)) s n → n ≡ Some (v, next) → v < limit
-end_below s limit bs r q = let k = line_end_only (decimal limit bs) _ _ (told s r q) in (decimal_only limit _ bs _ k.read).0
+pub end_below : (limit : ℕ) (bs : List ℕ) {n : Option (ℕ × Bor (List ℕ))} {v : ℕ} {rest : Bor (List ℕ)} → seen n ≡ line_end (decimal limit bs) → n ≡ Some (v, rest) → v < limit
+end_below limit bs r q = let k = line_end_only (decimal limit bs) _ _ (told r q) in (decimal_only limit _ bs _ k.read).0

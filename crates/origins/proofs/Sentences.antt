@@ -7,10 +7,11 @@ use native.Mathlib.Numerals.{add-one}
 use native.Mathlib.Omega.{arith}
 use lib.ListN.{length, drop, get_or, drop_of_length-le}
 use borrow.Author.Tests.{lt-ltb, le-ltb, ne_eqb}
-use Rattle.std.specs.Prelude.{Some, None}
+use Rattle.std.specs.Prelude.{Option, Some, None}
+use Rattle.std.specs.Borrow.{Bor}
 use Rattle.text.specs.Letters.{bytes}
 use Rattle.text.specs.Reading.{Read, is, bad, decimal}
-use Rattle.text.specs.Seen.{Number, Reads}
+use Rattle.text.specs.Seen.{seen}
 use Rattle.text.specs.Writing.{in_decimal}
 use Rattle.text.specs.Put.{Put}
 use Rattle.text.proofs.Fields.{told as was-told, told_bad}
@@ -55,13 +56,13 @@ told_none line = refl
 pub put_nothing : (e : List ℕ) (at : ℕ) → Put e at [] at e
 put_nothing e at = record { place = omega arith; stored = refl }
 
-module _ (s : List ℕ) {e : List ℕ} {at : ℕ} (line : ℕ) {want : Read ℕ} {n : Number} (reads : Reads want s n) where
+module _ {e : List ℕ} {at : ℕ} (line : ℕ) {want : Read ℕ} {n : Option (ℕ × Bor (List ℕ))} (reads : seen n ≡ want) where
   pub says_nothing : n ≡ None → Put e at (told line want) at e × (at ≤ at + 55)
-  says_nothing q = (subst (λ l. Put e at l at e) (sym (ap (told line) (told_bad s reads q) ∙ told_none line)) (put_nothing e at), omega arith)
+  says_nothing q = (subst (λ l. Put e at l at e) (sym (ap (told line) (told_bad reads q) ∙ told_none line)) (put_nothing e at), omega arith)
 
-  pub says : {x : List ℕ} {job next r : ℕ} → n ≡ Some (job, next) → line < 1024 → Put e at (stands_at job line) r x × (r ≤ at + 55)
+  pub says : {x : List ℕ} {job r : ℕ} {next : Bor (List ℕ)} → n ≡ Some (job, next) → line < 1024 → Put e at (stands_at job line) r x × (r ≤ at + 55)
       → Put e at (told line want) r x × (r ≤ at + 55)
-  says {x} {job} {next} {r} q h (p, w) = (subst (λ l. Put e at l r x) (sym (ap (told line) (was-told s reads q) ∙ told_is line job (drop next s) h)) p, w)
+  says {x} {job} {r} {next} q h (p, w) = (subst (λ l. Put e at l r x) (sym (ap (told line) (was-told reads q) ∙ told_is line job next.now h)) p, w)
 
 -- ---- byte by byte
 

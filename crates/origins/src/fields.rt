@@ -1,10 +1,10 @@
 // The field `@` and a number, or `@-`, read at the end of a node line and written there.
-ghost use Rattle.std.specs.Prelude.{◌≡◌, ◌+◌, ◌≤◌, length, drop};
+ghost use Rattle.std.specs.Prelude.{◌≡◌, ◌+◌, ◌≤◌, length};
 ghost use Rattle.text.specs.Put.{Put};
-ghost use Rattle.text.specs.Seen.{seen, Reads};
+ghost use Rattle.text.specs.Seen.{seen};
 ghost use Rattle.origins.specs.Fields.{origin, after_at, line_end, origin_text};
 
-use text::reading::{Number, byte_at, end_field, read_decimal};
+use text::reading::{end_field, read_decimal};
 use text::writing::{decimal_length, write_byte, write_decimal};
 
 const TAB: u8 = 9;
@@ -15,39 +15,41 @@ const LF: u8 = 10;
 const ORIGINS: u64 = 1024;
 
 // What stands after the `@`.
-fn read_after_at(s: &[u8], at: usize) -> Number
-    ensures { Reads (after_at (drop at s.now)) s.now result }
+fn read_after_at(s: &[u8]) -> Option<(u64, &[u8])>
+    ensures { seen result ≡ after_at s.now }
 {
-    if byte_at(s, at) == b'-' {
-        return Some((0, at + 1));
+    let (&b, rest) = s.split_first()?;
+    if b == b'-' {
+        return Some((0, rest));
     }
-    let (line, next) = read_decimal(s, at, ORIGINS)?;
-    Some((line + 1, next))
+    let (line, rest) = read_decimal(s, ORIGINS)?;
+    Some((line + 1, rest))
 }
 
 // The origin, without the byte that ends its field.
-pub fn read_origin(s: &[u8], at: usize) -> Number
-    ensures { Reads (origin (drop at s.now)) s.now result }
+pub fn read_origin(s: &[u8]) -> Option<(u64, &[u8])>
+    ensures { seen result ≡ origin s.now }
 {
-    if byte_at(s, at) != b'@' {
+    let (&b, rest) = s.split_first()?;
+    if b != b'@' {
         return None;
     }
-    read_after_at(s, at + 1)
+    read_after_at(rest)
 }
 
 // The end of a node line, after its last field: the origin is accepted there, and ignored.
-pub fn end_line(s: &[u8], n: Number) -> Number
-    ensures { Reads (line_end (seen s.now n)) s.now result }
+pub fn end_line<'a>(n: Option<(u64, &'a [u8])>) -> Option<(u64, &'a [u8])>
+    ensures { seen result ≡ line_end (seen n.entry) }
 {
-    let (v, next) = n?;
-    let stop = byte_at(s, next);
+    let (v, s) = n?;
+    let (&stop, rest) = s.split_first()?;
     if stop == LF {
-        return Some((v, next + 1));
+        return Some((v, rest));
     }
     if stop != TAB {
         return None;
     }
-    let (_, end) = end_field(s, read_origin(s, next + 1), LF)?;
+    let (_, end) = end_field(read_origin(rest), LF)?;
     Some((v, end))
 }
 

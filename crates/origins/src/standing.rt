@@ -1,5 +1,5 @@
 // What is said of a listing with origins: for each line that has one, where it stood in the job.
-ghost use Rattle.std.specs.Prelude.{◌++◌, ◌+◌, ◌<◌, ◌≤◌, length, drop};
+ghost use Rattle.std.specs.Prelude.{◌++◌, ◌+◌, ◌<◌, ◌≤◌, length};
 ghost use Rattle.text.specs.Put.{Put};
 ghost use Rattle.text.specs.Reading.{decimal};
 ghost use Rattle.text.specs.Writing.{in_decimal};
@@ -33,12 +33,12 @@ fn write_stands(out: &mut [u8], at: usize, job: u64, res: u64) -> usize
     write_bytes(out, q, b" of the result\n")
 }
 
-// What the `@` of a line says, by the number after it.
-fn write_told(out: &mut [u8], at: usize, text: &[u8], after: usize, line: u64) -> usize
+// What the `@` of a line says, by what stands after it.
+fn write_told(out: &mut [u8], at: usize, after: &[u8], line: u64) -> usize
     requires { (line < 1024) × (at + 55 ≤ length out.old) }
-    ensures { Put out.old at (told line (decimal most_origins (drop after text.now))) result out.new × (result ≤ at + 55) }
+    ensures { Put out.old at (told line (decimal most_origins after.now)) result out.new × (result ≤ at + 55) }
 {
-    let Some((job, _)) = read_decimal(text, after, LINES) else {
+    let Some((job, _)) = read_decimal(after, LINES) else {
         return at;
     };
     write_stands(out, at, job, line)
@@ -58,7 +58,7 @@ pub fn write_standing(out: &mut [u8], at: usize, text: &[u8]) -> usize
             passed = false;
         } else if b == b'@' {
             if !passed && line < LINES {
-                next = write_told(out, next, text, i + 1, line);
+                next = write_told(out, next, &text[i + 1..], line);
             }
             passed = true;
         }

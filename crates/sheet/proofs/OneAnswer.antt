@@ -1,6 +1,6 @@
 -- Two answers that the contract of `read_sheet` allows are equal, and so are two that those of the look-ups, of a line and of its fields allow.
 -- Assumes nothing.
-use Rattle.std.specs.Prelude.{Option, Some, None}
+use Rattle.std.specs.Borrow.{Bor}
 use mathlib.Core.Path.{◌≡◌, refl, sym, ap, ◌∙◌, subst}
 use mathlib.Core.List.{List}
 use Prim.Native.Nat.{ℕ}
@@ -15,7 +15,6 @@ use Rattle.text.specs.Reading.{Read}
 use Rattle.text.specs.Lines as Lines
 use Rattle.text.specs.Lines.{Line, goes, stops, Whole}
 use Rattle.text.proofs.Only.{never}
-use Rattle.text.proofs.OneAnswer.{one_place}
 use Rattle.memory.proofs.Values.{length_up_to}
 use Rattle.sheet.specs.declared.Counts.{Counts}
 use Rattle.sheet.specs.declared.fields.VariableFields.{VariableFields}
@@ -23,7 +22,7 @@ use Rattle.sheet.specs.declared.fields.CellFields.{CellFields}
 use Rattle.sheet.specs.declared.fields.RowFields.{RowFields}
 use Rattle.sheet.specs.Rows.{Variable, Cell, Row, Rows, Lookup, found, missing, Numbered, at, nowhere, sheet}
 use Rattle.sheet.specs.Index.{link_of}
-use Rattle.sheet.specs.Seen.{number_of, seen_variable, seen_cell, seen_row, small_cell, small_row, VariableInside, CellInside, RowInside}
+use Rattle.sheet.specs.Seen.{number_of, seen_variable, seen_cell, seen_row, small_cell, small_row}
 use Rattle.sheet.specs.Table.{rows_of, seen, seen_found, seen_found_row, Takes}
 use Rattle.sheet.proofs.Finding.{number_back}
 
@@ -110,87 +109,92 @@ one_link (Some j) None e = absurd (omega (arith, e))
 one_link None (Some k) e = absurd (omega (arith, e))
 one_link None None e = refl
 
--- ---- the fields of a line: the numbers, the doubles and the place. The words of a double that is a NaN are not told, so that the doubles are
+-- ---- the fields of a line: the numbers, the doubles and the bytes after them. The words of a double that is a NaN are not told, so that the doubles are
 -- compared and not their words
 
-pub SameVariable : Option (VariableFields × ℕ) → Option (VariableFields × ℕ) → Type 0
-SameVariable (Some (v, i)) (Some (w, j)) = (v.number ≡ w.number) × (number_of v.value ≡ number_of w.value) × (i ≡ j)
+pub SameVariable : Option (VariableFields × Bor (List ℕ)) → Option (VariableFields × Bor (List ℕ)) → Type 0
+SameVariable (Some (v, i)) (Some (w, j)) = (v.number ≡ w.number) × (number_of v.value ≡ number_of w.value) × (i.now ≡ j.now)
 SameVariable (Some (v, i)) None = ⊥
 SameVariable None (Some (w, j)) = ⊥
 SameVariable None None = Unit {0}
 
-pub one_variable : {want : Read Variable} (text : List ℕ) (r r' : Option (VariableFields × ℕ)) → (seen_variable text r ≡ want) × VariableInside text r
-    → (seen_variable text r' ≡ want) × VariableInside text r' → SameVariable r r'
+pub one_variable : {want : Read Variable} (r r' : Option (VariableFields × Bor (List ℕ))) → seen_variable r ≡ want
+    → seen_variable r' ≡ want → SameVariable r r'
 unfolding SameVariable
-one_variable text (Some (v, i)) (Some (w, j)) p q =
-    let e = p.0 ∙ sym q.0 in
+one_variable (Some (v, i)) (Some (w, j)) p q =
+    let e = p ∙ sym q in
     let a : v.number ≡ w.number = cc in
     let b : number_of v.value ≡ number_of w.value = cc in
-    let c : i ≡ j = one_place text i j p.1 q.1 cc in
+    let c : i.now ≡ j.now = cc in
     (a, b, c)
-one_variable text (Some (v, i)) None p q = never (q.0 ∙ sym p.0)
-one_variable text None (Some (w, j)) p q = never (p.0 ∙ sym q.0)
-one_variable text None None p q = tt
+one_variable (Some (v, i)) None p q = never (q ∙ sym p)
+one_variable None (Some (w, j)) p q = never (p ∙ sym q)
+one_variable None None p q = tt
 
-pub SameCell : Option (CellFields × ℕ) → Option (CellFields × ℕ) → Type 0
-SameCell (Some (a, i)) (Some (b, j)) = (a.region ≡ b.region) × (a.index ≡ b.index) × (double_of a.real ≡ double_of b.real) × (i ≡ j)
+pub SameCell : Option (CellFields × Bor (List ℕ)) → Option (CellFields × Bor (List ℕ)) → Type 0
+SameCell (Some (a, i)) (Some (b, j)) = (a.region ≡ b.region) × (a.index ≡ b.index) × (double_of a.real ≡ double_of b.real) × (i.now ≡ j.now)
 SameCell (Some (a, i)) None = ⊥
 SameCell None (Some (b, j)) = ⊥
 SameCell None None = Unit {0}
 
-pub one_cell : {want : Read Cell} (text : List ℕ) (r r' : Option (CellFields × ℕ)) → (seen_cell text r ≡ want) × small_cell r × CellInside text r
-    → (seen_cell text r' ≡ want) × small_cell r' × CellInside text r' → SameCell r r'
+pub one_cell : {want : Read Cell} (r r' : Option (CellFields × Bor (List ℕ))) → (seen_cell r ≡ want) × small_cell r
+    → (seen_cell r' ≡ want) × small_cell r' → SameCell r r'
 unfolding SameCell
-one_cell text (Some (a, i)) (Some (b, j)) p q =
+one_cell (Some (a, i)) (Some (b, j)) p q =
     let e = p.0 ∙ sym q.0 in
     let region : a.region ≡ b.region = cc in
     let index : a.index ≡ b.index = cc in
     let real : double_of a.real ≡ double_of b.real = cc in
-    let place : i ≡ j = one_place text i j p.2 q.2 cc in
+    let place : i.now ≡ j.now = cc in
     (region, index, real, place)
-one_cell text (Some (a, i)) None p q = never (q.0 ∙ sym p.0)
-one_cell text None (Some (b, j)) p q = never (p.0 ∙ sym q.0)
-one_cell text None None p q = tt
+one_cell (Some (a, i)) None p q = never (q.0 ∙ sym p.0)
+one_cell None (Some (b, j)) p q = never (p.0 ∙ sym q.0)
+one_cell None None p q = tt
 
-pub SameRow : Option (RowFields × ℕ) → Option (RowFields × ℕ) → Type 0
+pub SameRow : Option (RowFields × Bor (List ℕ)) → Option (RowFields × Bor (List ℕ)) → Type 0
 SameRow (Some (a, i)) (Some (b, j)) =
-    (a.name ≡ b.name) × (number_of a.x ≡ number_of b.x) × (number_of a.y ≡ number_of b.y) × (number_of a.value ≡ number_of b.value) × (i ≡ j)
+    (a.name ≡ b.name) × (number_of a.x ≡ number_of b.x) × (number_of a.y ≡ number_of b.y) × (number_of a.value ≡ number_of b.value) × (i.now ≡ j.now)
 SameRow (Some (a, i)) None = ⊥
 SameRow None (Some (b, j)) = ⊥
 SameRow None None = Unit {0}
 
-pub one_row : {want : Read Row} (text : List ℕ) (r r' : Option (RowFields × ℕ)) → (seen_row text r ≡ want) × small_row r × RowInside text r
-    → (seen_row text r' ≡ want) × small_row r' × RowInside text r' → SameRow r r'
+pub one_row : {want : Read Row} (r r' : Option (RowFields × Bor (List ℕ))) → (seen_row r ≡ want) × small_row r
+    → (seen_row r' ≡ want) × small_row r' → SameRow r r'
 unfolding SameRow
-one_row text (Some (a, i)) (Some (b, j)) p q =
+one_row (Some (a, i)) (Some (b, j)) p q =
     let e = p.0 ∙ sym q.0 in
     let o : operation_of a.name ≡ operation_of b.name = cc in
     let name : a.name ≡ b.name = sym (number_back a.name p.1.0 p.1.1) ∙ ap operation_code o ∙ number_back b.name q.1.0 q.1.1 in
     let first : number_of a.x ≡ number_of b.x = cc in
     let second : number_of a.y ≡ number_of b.y = cc in
     let value : number_of a.value ≡ number_of b.value = cc in
-    let place : i ≡ j = one_place text i j p.2 q.2 cc in
+    let place : i.now ≡ j.now = cc in
     (name, first, second, value, place)
-one_row text (Some (a, i)) None p q = never (q.0 ∙ sym p.0)
-one_row text None (Some (b, j)) p q = never (p.0 ∙ sym q.0)
-one_row text None None p q = tt
+one_row (Some (a, i)) None p q = never (q.0 ∙ sym p.0)
+one_row None (Some (b, j)) p q = never (p.0 ∙ sym q.0)
+one_row None None p q = tt
 
--- ---- a line: the counts and the place, or the refusal; and the rows that the table then holds
+-- ---- a line: the counts and the bytes after it, or the refusal; and the rows that the table then holds
 
 goes_on : {A : Type 0} {s : Rows} {rest : List ℕ} {why : Refusal} → ◌≡◌ {A = Line Rows Refusal} (stops why) (goes s rest) → A
 goes_on e = let z : ◌≡◌ {A = ℕ} 0 1 = cc in absurd (omega arith)
 
-module _ {line : Line Rows Refusal} (text : List ℕ) {t₁ t₂ : List ℕ} {n : Counts} where
-  pub one_line : (r r' : Result (Counts × ℕ) Refusal) → Takes text t₁ n line r → Takes text t₂ n line r' → r ≡ r'
+-- what an answer says
+abbrev pub said : Result (Counts × Bor (List ℕ)) Refusal → Result (Counts × List ℕ) Refusal
+said (Ok (a, rest)) = Ok (a, rest.now)
+said (Err why) = Err why
+
+module _ {line : Line Rows Refusal} {t₁ t₂ : List ℕ} {n : Counts} where
+  pub one_line : (r r' : Result (Counts × Bor (List ℕ)) Refusal) → Takes t₁ n line r → Takes t₂ n line r' → said r ≡ said r'
   one_line (Ok (a, i)) (Ok (b, j)) p q =
       let e = p.answer ∙ sym q.answer in
       let s : rows_of t₁ a ≡ rows_of t₂ b = cc in
-      let place : i ≡ j = one_place text i j p.inside q.inside cc in
+      let rest : i.now ≡ j.now = cc in
       let counts : a ≡ b = one_counts t₁ t₂ a b s in
-      λ x. Ok (counts x, place x)
+      λ x. Ok (counts x, rest x)
   one_line (Ok (a, i)) (Err why) p q = goes_on (q.answer ∙ sym p.answer)
   one_line (Err why) (Ok (b, j)) p q = goes_on (p.answer ∙ sym q.answer)
   one_line (Err why) (Err why') p q = let e = p.answer ∙ sym q.answer in let w : why ≡ why' = cc in ap Err w
 
-  pub one_rows : (a b : Counts) (i j : ℕ) → Takes text t₁ n line (Ok (a, i)) → Takes text t₂ n line (Ok (b, j)) → rows_of t₁ a ≡ rows_of t₂ b
+  pub one_rows : (a b : Counts) (i j : Bor (List ℕ)) → Takes t₁ n line (Ok (a, i)) → Takes t₂ n line (Ok (b, j)) → rows_of t₁ a ≡ rows_of t₂ b
   one_rows a b i j p q = let e = p.answer ∙ sym q.answer in cc

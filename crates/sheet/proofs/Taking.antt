@@ -5,11 +5,12 @@ use mathlib.Core.Bool.{Bool, true, false, ◌&&◌}
 use Prim.Native.Nat.{ℕ, ◌+◌, ◌*◌, ◌≤◌, ◌<◌}
 use native.Mathlib.Omega.{arith}
 use native.Mathlib.Decide.{dec_lt}
-use lib.ListN.{length, get_or, drop}
+use lib.ListN.{length, get_or}
 use lib.Dec.{eqb}
 use lib.Ieee.{Float}
 use borrow.Author.Tests.{lt-ltb, le-ltb, ne_eqb}
 use Rattle.std.specs.Prelude.{Result, Ok, Err}
+use Rattle.std.specs.Borrow.{Bor}
 use Rattle.complex.specs.declared.Complex.{Complex}
 use Rattle.complex.specs.Bits.{double_of}
 use Rattle.expression.specs.declared.refusal.Refusal.{Refusal}
@@ -34,11 +35,11 @@ abbrev counts : ℕ → ℕ → ℕ → Counts
 counts v m f = record { variables = v; cells = m; functions = f }
 
 -- a line that is refused
-pub refuses : {text t : List ℕ} {n : Counts} {line : Line Rows Refusal} {why : Refusal} → stops why ≡ line → Takes text t n line (Err why)
-refuses e = record { answer = e; held = tt; inside = tt }
+pub refuses : {t : List ℕ} {n : Counts} {line : Line Rows Refusal} {why : Refusal} → stops why ≡ line → Takes t n line (Err why)
+refuses e = record { answer = e; held = tt }
 
-pub as_line : {text t : List ℕ} {n : Counts} {line line' : Line Rows Refusal} {r : Result (Counts × ℕ) Refusal} → Takes text t n line r → line ≡ line' → Takes text t n line' r
-as_line p e = record { answer = p.answer ∙ e; held = p.held; inside = p.inside }
+pub as_line : {t : List ℕ} {n : Counts} {line line' : Line Rows Refusal} {r : Result (Counts × Bor (List ℕ)) Refusal} → Takes t n line r → line ≡ line' → Takes t n line' r
+as_line p e = record { answer = p.answer ∙ e; held = p.held }
 
 module _ (t : List ℕ) (n : Counts) where
   pub line_number_lem : line_number (rows_of t n) ≡ line_of n
@@ -123,8 +124,8 @@ module _ (t : List ℕ) (n : Counts) (line : ℕ) (here : line ≡ line_of n) (f
 
 -- ---- a row more
 
-module _ (text t : List ℕ) (n : Counts) (h : Held t n) (room : table_words ≤ length t) (line : ℕ) (here : line ≡ line_of n) (first : ℕ) (bs : List ℕ) where
-  module _ (k : ℕ) (w : Words) (next : ℕ) (few : n.variables < 256) (e : is (variable k (number_of w)) (drop next text) ≡ fields_after first bs variable_fields) where
+module _ (t : List ℕ) (n : Counts) (h : Held t n) (room : table_words ≤ length t) (line : ℕ) (here : line ≡ line_of n) (first : ℕ) (bs : List ℕ) where
+  module _ (k : ℕ) (w : Words) (rest : Bor (List ℕ)) (few : n.variables < 256) (e : is (variable k (number_of w)) rest.now ≡ fields_after first bs variable_fields) where
     module _ (f : true ≡ variable_may t n k) where
       changed : Outside t (with_variable t n.variables k w) (3 * n.variables) (3 * n.variables + 3)
       changed = variable_outside t n.variables k w
@@ -149,15 +150,14 @@ module _ (text t : List ℕ) (n : Counts) (h : Held t n) (room : table_words ≤
         index = indexed_same h.index λ i l. changed.beyond i (omega arith);
       }
 
-      pub variable_taken : next ≤ length text → Takes text (with_variable t n.variables k w) n (variable_line (rows_of t n) first bs) (Ok (counts (n.variables + 1) n.cells n.functions, next))
+      pub variable_taken : Takes (with_variable t n.variables k w) n (variable_line (rows_of t n) first bs) (Ok (counts (n.variables + 1) n.cells n.functions, rest))
       unfolding variable_line
-      variable_taken inside = record {
-        answer = ap (λ s. goes s (drop next text)) variable_rows ∙ taken _ 256 n.variables _ _ _ line (number_is t n line here first bs) (length_up_to n.variables (variable_at t)) _ _ (drop next text) few e (f ∙ variable_order t n k (number_of w));
+      variable_taken = record {
+        answer = ap (λ s. goes s rest.now) variable_rows ∙ taken _ 256 n.variables _ _ _ line (number_is t n line here first bs) (length_up_to n.variables (variable_at t)) _ _ rest.now few e (f ∙ variable_order t n k (number_of w));
         held = (variable_held, omega arith);
-        inside = inside;
       }
 
-  module _ (region index real next : ℕ) (few : n.cells < 1024) (small : index < 4294967296) (e : is (cell region index (double_of real)) (drop next text) ≡ fields_after first bs cell_fields) where
+  module _ (region index real : ℕ) (rest : Bor (List ℕ)) (few : n.cells < 1024) (small : index < 4294967296) (e : is (cell region index (double_of real)) rest.now ≡ fields_after first bs cell_fields) where
     module _ (f : true ≡ cell_may t n (region * 4294967296 + index)) where
       key : ℕ
       key = region * 4294967296 + index
@@ -187,16 +187,15 @@ module _ (text t : List ℕ) (n : Counts) (h : Held t n) (room : table_words ≤
         index = indexed_same h.index λ i l. p.beyond i (omega arith);
       }
 
-      pub cell_taken : next ≤ length text → Takes text (with_cell t n.cells (region * 4294967296 + index) real) n (cell_line (rows_of t n) first bs) (Ok (counts n.variables (n.cells + 1) n.functions, next))
+      pub cell_taken : Takes (with_cell t n.cells (region * 4294967296 + index) real) n (cell_line (rows_of t n) first bs) (Ok (counts n.variables (n.cells + 1) n.functions, rest))
       unfolding cell_line key
-      cell_taken inside = record {
-        answer = ap (λ s. goes s (drop next text)) cell_rows ∙ taken _ 1024 n.cells _ _ _ line (number_is t n line here first bs) (length_up_to n.cells (cell_at t)) _ _ (drop next text) few e (f ∙ cell_order t n region index (double_of real) small);
+      cell_taken = record {
+        answer = ap (λ s. goes s rest.now) cell_rows ∙ taken _ 1024 n.cells _ _ _ line (number_is t n line here first bs) (length_up_to n.cells (cell_at t)) _ _ rest.now few e (f ∙ cell_order t n region index (double_of real) small);
         held = (cell_held, omega arith);
-        inside = inside;
       }
 
-  module _ (k : ℕ) (x y z : Words) (next : ℕ) (few : n.functions < 256)
-      (e : is (row (operation_of k) (number_of x) (number_of y) (number_of z)) (drop next text) ≡ fields_after first bs row_fields)
+  module _ (k : ℕ) (x y z : Words) (rest : Bor (List ℕ)) (few : n.functions < 256)
+      (e : is (row (operation_of k) (number_of x) (number_of y) (number_of z)) rest.now ≡ fields_after first bs row_fields)
       {t' : List ℕ} (q : Entered t t' n.functions k x y z) where
     row_rows : rows_of t' (counts n.variables n.cells (n.functions + 1))
         ≡ rows (up_to n.variables (variable_at t)) (up_to n.cells (cell_at t)) (up_to n.functions (row_at t) ++ (row (operation_of k) (number_of x) (number_of y) (number_of z) ∷ []))
@@ -221,12 +220,11 @@ module _ (text t : List ℕ) (n : Counts) (h : Held t n) (room : table_words ≤
       index = q.indexed h.index;
     }
 
-    pub row_taken : next ≤ length text → Takes text t' n (function_line (rows_of t n) first bs) (Ok (counts n.variables n.cells (n.functions + 1), next))
+    pub row_taken : Takes t' n (function_line (rows_of t n) first bs) (Ok (counts n.variables n.cells (n.functions + 1), rest))
     unfolding function_line
-    row_taken inside = record {
-      answer = ap (λ s. goes s (drop next text)) row_rows ∙ taken _ 256 n.functions _ _ _ line (number_is t n line here first bs) (length_up_to n.functions (row_at t)) _ _ (drop next text) few e refl;
+    row_taken = record {
+      answer = ap (λ s. goes s rest.now) row_rows ∙ taken _ 256 n.functions _ _ _ line (number_is t n line here first bs) (length_up_to n.functions (row_at t)) _ _ rest.now few e refl;
       held = (row_held, omega arith);
-      inside = inside;
     }
 
 -- ---- the first byte decides

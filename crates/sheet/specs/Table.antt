@@ -1,5 +1,6 @@
 -- What a table of words holds, read as the rows of a sheet, when it is one, and how a row is added. Only connecting.
-use Rattle.std.specs.Prelude.{ℕ, zero, suc, ◌+◌, ◌*◌, ◌/◌, ◌%◌, ◌≤◌, ◌<◌, ◌≡◌, List, ◌++◌, Bool, true, ◌&&◌, length, get_or, set, drop, ltb, eqb, Option, Some, None, Result, Ok, Err}
+use Rattle.std.specs.Prelude.{ℕ, zero, suc, ◌+◌, ◌*◌, ◌/◌, ◌%◌, ◌≤◌, ◌<◌, ◌≡◌, List, ◌++◌, Bool, true, ◌&&◌, get_or, set, ltb, eqb, Option, Some, None, Result, Ok, Err}
+use Rattle.std.specs.Borrow.{Bor}
 use Rattle.complex.specs.declared.Complex.{Complex}
 use Rattle.complex.specs.Bits.{bits_of, double_of, Canonical}
 use Rattle.complex.specs.Constants.{of_parts}
@@ -86,23 +87,17 @@ held_by t (Ok n) = Held t n
 held_by t (Err why) = Unit {0}
 
 -- the same of one line
-abbrev pub seen_step : (text t : List ℕ) → Result (Counts × ℕ) Refusal → Line Rows Refusal
-seen_step text t (Ok (n, next)) = goes (rows_of t n) (drop next text)
-seen_step text t (Err why) = stops why
+abbrev pub seen_step : (t : List ℕ) → Result (Counts × Bor (List ℕ)) Refusal → Line Rows Refusal
+seen_step t (Ok (n, rest)) = goes (rows_of t n) rest.now
+seen_step t (Err why) = stops why
 
-abbrev pub held_after : List ℕ → (line : ℕ) → Result (Counts × ℕ) Refusal → Type 0
-held_after t line (Ok (n, next)) = Held t n × (line_of n ≡ line + 1)
+abbrev pub held_after : List ℕ → (line : ℕ) → Result (Counts × Bor (List ℕ)) Refusal → Type 0
+held_after t line (Ok (n, rest)) = Held t n × (line_of n ≡ line + 1)
 held_after t line (Err why) = Unit {0}
 
--- the next line's place is one of the text or its end
-abbrev pub StepInside : List ℕ → Result (Counts × ℕ) Refusal → Type 0
-StepInside text (Ok (n, next)) = next ≤ length text
-StepInside text (Err why) = Unit {0}
-
-pub record Takes (text t : List ℕ) (n : Counts) (line : Line Rows Refusal) (r : Result (Counts × ℕ) Refusal) : Type 0 where
-  pub answer : seen_step text t r ≡ line
+pub record Takes (t : List ℕ) (n : Counts) (line : Line Rows Refusal) (r : Result (Counts × Bor (List ℕ)) Refusal) : Type 0 where
+  pub answer : seen_step t r ≡ line
   pub held : held_after t (line_of n) r
-  pub inside : StepInside text r
 
 -- ---- a row more
 

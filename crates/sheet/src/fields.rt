@@ -1,10 +1,10 @@
-// The fields of each kind of line, from the place after its first byte on. Doubles are words as they stand in the
+// The fields of each kind of line, after its first byte, with the bytes after them. Doubles are words as they stand in the
 // text.
-ghost use Rattle.std.specs.Prelude.{◌≡◌, ◌<◌, drop};
+ghost use Rattle.std.specs.Prelude.{◌≡◌};
 ghost use Rattle.sheet.specs.Rows.{complex_field, second_operand, fields_after, variable_fields, cell_fields, row_fields};
-ghost use Rattle.sheet.specs.Seen.{seen_pair, seen_variable, seen_cell, seen_row, small_cell, small_row, PairInside, VariableInside, CellInside, RowInside};
+ghost use Rattle.sheet.specs.Seen.{seen_pair, seen_variable, seen_cell, seen_row, small_cell, small_row};
 
-use spelling::operation_at;
+use spelling::first_operation;
 use text::reading::{decimal_field, end_field, hex_field};
 
 const TAB: u8 = 9;
@@ -43,52 +43,51 @@ pub struct RowFields {
     pub value: Words,
 }
 
-// A complex number and the place after its fields, as with the lines below.
-fn pair_field(text: &[u8], at: usize, stop: u8) -> Option<(Words, usize)>
-    requires { 0 < stop }
-    ensures { (seen_pair text.now result ≡ complex_field stop (drop at text.now)) × PairInside text.now result }
+// A complex number and the bytes after its fields, as with the lines below.
+fn pair_field(s: &[u8], stop: u8) -> Option<(Words, &[u8])>
+    ensures { seen_pair result ≡ complex_field stop s.now }
 {
-    let (re, second) = hex_field(text, at, TAB)?;
-    let (im, next) = hex_field(text, second, stop)?;
-    Some((Words { re, im }, next))
+    let (re, s) = hex_field(s, TAB)?;
+    let (im, s) = hex_field(s, stop)?;
+    Some((Words { re, im }, s))
 }
 
 // v: a number and its value.
-pub fn read_variable(text: &[u8], at: usize) -> Option<(VariableFields, usize)>
-    ensures { (seen_variable text.now result ≡ fields_after 118 (drop at text.now) variable_fields) × VariableInside text.now result }
+pub fn read_variable(s: &[u8]) -> Option<(VariableFields, &[u8])>
+    ensures { seen_variable result ≡ fields_after 118 s.now variable_fields }
 {
-    let (_, start) = end_field(text, Some((118, at)), TAB)?;
-    let (number, middle) = decimal_field(text, start, TAB, 65536)?;
-    let (value, next) = pair_field(text, middle, LF)?;
-    Some((VariableFields { number, value }, next))
+    let (_, s) = end_field(Some((118, s)), TAB)?;
+    let (number, s) = decimal_field(s, TAB, 65536)?;
+    let (value, s) = pair_field(s, LF)?;
+    Some((VariableFields { number, value }, s))
 }
 
 // m: region, index and a real.
-pub fn read_cell(text: &[u8], at: usize) -> Option<(CellFields, usize)>
-    ensures { (seen_cell text.now result ≡ fields_after 109 (drop at text.now) cell_fields) × small_cell result × CellInside text.now result }
+pub fn read_cell(s: &[u8]) -> Option<(CellFields, &[u8])>
+    ensures { (seen_cell result ≡ fields_after 109 s.now cell_fields) × small_cell result }
 {
-    let (_, start) = end_field(text, Some((109, at)), TAB)?;
-    let (region, middle) = decimal_field(text, start, TAB, 65536)?;
-    let (index, last) = decimal_field(text, middle, TAB, 4294967296)?;
-    let (real, next) = hex_field(text, last, LF)?;
+    let (_, s) = end_field(Some((109, s)), TAB)?;
+    let (region, s) = decimal_field(s, TAB, 65536)?;
+    let (index, s) = decimal_field(s, TAB, 4294967296)?;
+    let (real, s) = hex_field(s, LF)?;
     Some((
         CellFields {
             region,
             index,
             real,
         },
-        next,
+        s,
     ))
 }
 
 // For all but pow two fields of zeros; the bits of -0 are none.
-fn second_operand(text: &[u8], at: usize, name: u64) -> Option<(Words, usize)>
-    ensures { (seen_pair text.now result ≡ second_operand name (drop at text.now)) × PairInside text.now result }
+fn second_operand(s: &[u8], name: u64) -> Option<(Words, &[u8])>
+    ensures { seen_pair result ≡ second_operand name s.now }
 {
-    let (re, middle) = hex_field(text, at, TAB)?;
-    let (im, next) = hex_field(text, middle, TAB)?;
+    let (re, s) = hex_field(s, TAB)?;
+    let (im, s) = hex_field(s, TAB)?;
     if name == POWER {
-        return Some((Words { re, im }, next));
+        return Some((Words { re, im }, s));
     }
     if re != 0 {
         return None;
@@ -96,17 +95,17 @@ fn second_operand(text: &[u8], at: usize, name: u64) -> Option<(Words, usize)>
     if im != 0 {
         return None;
     }
-    Some((Words { re, im }, next))
+    Some((Words { re, im }, s))
 }
 
 // t: a name, two operands and the value.
-pub fn read_row(text: &[u8], at: usize) -> Option<(RowFields, usize)>
-    ensures { (seen_row text.now result ≡ fields_after 116 (drop at text.now) row_fields) × small_row result × RowInside text.now result }
+pub fn read_row(s: &[u8]) -> Option<(RowFields, &[u8])>
+    ensures { (seen_row result ≡ fields_after 116 s.now row_fields) × small_row result }
 {
-    let (_, start) = end_field(text, Some((116, at)), TAB)?;
-    let (name, operands) = end_field(text, operation_at(text, start), TAB)?;
-    let (x, middle) = pair_field(text, operands, TAB)?;
-    let (y, last) = second_operand(text, middle, name)?;
-    let (value, next) = pair_field(text, last, LF)?;
-    Some((RowFields { name, x, y, value }, next))
+    let (_, s) = end_field(Some((116, s)), TAB)?;
+    let (name, s) = end_field(first_operation(s), TAB)?;
+    let (x, s) = pair_field(s, TAB)?;
+    let (y, s) = second_operand(s, name)?;
+    let (value, s) = pair_field(s, LF)?;
+    Some((RowFields { name, x, y, value }, s))
 }

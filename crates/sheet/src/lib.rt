@@ -43,15 +43,14 @@ pub fn read_sheet(text: &[u8], table: &mut [u64]) -> Result<Counts, Refusal>
     requires { table_words ≤ length table.old }
     ensures { (seen table.new result ≡ sheet text.now) × held_by table.new result }
 {
-    let mut at: usize = 0;
+    let mut rest = text;
     let mut counts = Counts {
         variables: 0,
         cells: 0,
         functions: 0,
     };
-    // No `for`: a line tells where the next one begins.
-    while at < text.len() {
-        (counts, at) = take_line(text, at, table, counts)?;
+    while let Some((&first, after)) = rest.split_first() {
+        (counts, rest) = take_line(first, after, table, counts)?;
     }
     Ok(counts)
 }

@@ -1,5 +1,5 @@
 // One line of the sheet: its count, then its form and order, then its row into the table.
-ghost use Rattle.std.specs.Prelude.{◌≡◌, ◌+◌, ◌<◌, ◌≤◌, length, get_or, drop};
+ghost use Rattle.std.specs.Prelude.{◌≡◌, ◌≤◌, length};
 ghost use Rattle.memory.specs.Layout.{table_words};
 ghost use Rattle.sheet.specs.Rows.{sheet_line, variable_line, cell_line, function_line};
 ghost use Rattle.sheet.specs.Table.{rows_of, line_of, Held, Takes};
@@ -23,21 +23,20 @@ fn line_number(counts: Counts) -> u64
     (counts.variables + (counts.cells + counts.functions)) as u64
 }
 
-fn take_variable(
-    text: &[u8],
-    at: usize,
+fn take_variable<'a>(
+    s: &'a [u8],
     table: &mut [u64],
     counts: Counts,
-) -> Result<(Counts, usize), Refusal>
+) -> Result<(Counts, &'a [u8]), Refusal>
     requires { (table_words ≤ length table.old) × Held table.old counts }
-    ensures { Takes text.now table.new counts (variable_line (rows_of table.old counts) 118 (drop at text.now)) result }
+    ensures { Takes table.new counts (variable_line (rows_of table.old counts) 118 s.now) result }
 {
     let count = counts.variables;
     let line = line_number(counts);
     if MOST_VARIABLES <= count {
         return Err(Refusal::LongSheet(line));
     }
-    let Some((variable, next)) = read_variable(text, at) else {
+    let Some((variable, rest)) = read_variable(s) else {
         return Err(Refusal::BadSheet(line));
     };
     if !variable_may(table, counts, variable.number) {
@@ -49,24 +48,23 @@ fn take_variable(
         cells: counts.cells,
         functions: counts.functions,
     };
-    Ok((more, next))
+    Ok((more, rest))
 }
 
-fn take_cell(
-    text: &[u8],
-    at: usize,
+fn take_cell<'a>(
+    s: &'a [u8],
     table: &mut [u64],
     counts: Counts,
-) -> Result<(Counts, usize), Refusal>
+) -> Result<(Counts, &'a [u8]), Refusal>
     requires { (table_words ≤ length table.old) × Held table.old counts }
-    ensures { Takes text.now table.new counts (cell_line (rows_of table.old counts) 109 (drop at text.now)) result }
+    ensures { Takes table.new counts (cell_line (rows_of table.old counts) 109 s.now) result }
 {
     let count = counts.cells;
     let line = line_number(counts);
     if MOST_CELLS <= count {
         return Err(Refusal::LongSheet(line));
     }
-    let Some((cell, next)) = read_cell(text, at) else {
+    let Some((cell, rest)) = read_cell(s) else {
         return Err(Refusal::BadSheet(line));
     };
     let key = cell.region * 4294967296 + cell.index;
@@ -79,24 +77,23 @@ fn take_cell(
         cells: count + 1,
         functions: counts.functions,
     };
-    Ok((more, next))
+    Ok((more, rest))
 }
 
-fn take_row(
-    text: &[u8],
-    at: usize,
+fn take_row<'a>(
+    s: &'a [u8],
     table: &mut [u64],
     counts: Counts,
-) -> Result<(Counts, usize), Refusal>
+) -> Result<(Counts, &'a [u8]), Refusal>
     requires { (table_words ≤ length table.old) × Held table.old counts }
-    ensures { Takes text.now table.new counts (function_line (rows_of table.old counts) 116 (drop at text.now)) result }
+    ensures { Takes table.new counts (function_line (rows_of table.old counts) 116 s.now) result }
 {
     let count = counts.functions;
     let line = line_number(counts);
     if MOST_FUNCTIONS <= count {
         return Err(Refusal::LongSheet(line));
     }
-    let Some((row, next)) = read_row(text, at) else {
+    let Some((row, rest)) = read_row(s) else {
         return Err(Refusal::BadSheet(line));
     };
     put_row(table, count, row.name, row.x, row.y, row.value);
@@ -105,28 +102,27 @@ fn take_row(
         cells: counts.cells,
         functions: count + 1,
     };
-    Ok((more, next))
+    Ok((more, rest))
 }
 
-// The line at a place, by its first byte: the rows after it with the place of the next line, or why it is refused.
-pub fn take_line(
-    text: &[u8],
-    at: usize,
+// A line by its first byte and the bytes after that: the rows after it with the bytes after the line, or why it is refused.
+pub fn take_line<'a>(
+    first: u8,
+    s: &'a [u8],
     table: &mut [u64],
     counts: Counts,
-) -> Result<(Counts, usize), Refusal>
-    requires { (at < length text.now) × (table_words ≤ length table.old) × Held table.old counts }
-    ensures { Takes text.now table.new counts (sheet_line (rows_of table.old counts) (get_or text.now at 0) (drop (at + 1) text.now)) result }
+) -> Result<(Counts, &'a [u8]), Refusal>
+    requires { (table_words ≤ length table.old) × Held table.old counts }
+    ensures { Takes table.new counts (sheet_line (rows_of table.old counts) first s.now) result }
 {
-    let first = text[at];
     if first == b'v' {
-        return take_variable(text, at + 1, table, counts);
+        return take_variable(s, table, counts);
     }
     if first == b'm' {
-        return take_cell(text, at + 1, table, counts);
+        return take_cell(s, table, counts);
     }
     if first == b't' {
-        return take_row(text, at + 1, table, counts);
+        return take_row(s, table, counts);
     }
     Err(Refusal::BadSheet(line_number(counts)))
 }

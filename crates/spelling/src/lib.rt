@@ -1,84 +1,72 @@
-// The names of functions, operations and operators in the texts: read at a place, which gives a name's number, and written.
+// The names of functions, operations and operators in the texts: read at the start of a text, which gives a name's number, and written.
 
 #![tactic(auto)]
 
-ghost use Rattle.std.specs.Prelude.{◌≡◌, [], ◌∷◌, ◌+◌, ◌<◌, ◌≤◌, length, drop};
+ghost use Rattle.std.specs.Prelude.{◌≡◌, [], ◌∷◌, ◌+◌, ◌<◌, ◌≤◌, length};
 ghost use Rattle.text.specs.Reading.{name_from};
-ghost use Rattle.text.specs.Seen.{Reads};
+ghost use Rattle.text.specs.Seen.{seen};
 ghost use Rattle.text.specs.Put.{Put};
 ghost use Rattle.spelling.specs.Names.{names_with, function_names, operation_names, prefix_names, infix_names, named, function_name, operation_name, prefix_name, infix_name};
 
 use expression::refusal::Operation;
 use expression::{ExpressionFunction, InfixOperator, PrefixOperator};
-use text::reading::{Number, word_at};
 use text::writing::write_bytes;
 
 // sin, cos, exp, sqrt, and a fifth.
-fn name_at(s: &[u8], at: usize, fifth: &[u8]) -> Number
-    requires { 0 < length fifth.now }
-    ensures { Reads (name_from 1 (names_with fifth.now) (drop at s.now)) s.now result }
+fn first_name<'a>(s: &'a [u8], fifth: &[u8]) -> Option<(u64, &'a [u8])>
+    ensures { seen result ≡ name_from 1 (names_with fifth.now) s.now }
 {
-    if word_at(s, at, b"sin") {
-        return Some((1, at + 3));
+    if let Some(rest) = s.strip_prefix(b"sin") {
+        return Some((1, rest));
     }
-    if word_at(s, at, b"cos") {
-        return Some((2, at + 3));
+    if let Some(rest) = s.strip_prefix(b"cos") {
+        return Some((2, rest));
     }
-    if word_at(s, at, b"exp") {
-        return Some((3, at + 3));
+    if let Some(rest) = s.strip_prefix(b"exp") {
+        return Some((3, rest));
     }
-    if word_at(s, at, b"sqrt") {
-        return Some((4, at + 4));
+    if let Some(rest) = s.strip_prefix(b"sqrt") {
+        return Some((4, rest));
     }
-    if word_at(s, at, fifth) {
-        return Some((5, at + fifth.len()));
-    }
-    None
+    let rest = s.strip_prefix(fifth)?;
+    Some((5, rest))
 }
 
-pub fn function_at(s: &[u8], at: usize) -> Number
-    ensures { Reads (name_from 1 function_names (drop at s.now)) s.now result }
+pub fn first_function(s: &[u8]) -> Option<(u64, &[u8])>
+    ensures { seen result ≡ name_from 1 function_names s.now }
 {
-    name_at(s, at, b"cis")
+    first_name(s, b"cis")
 }
 
-pub fn operation_at(s: &[u8], at: usize) -> Number
-    ensures { Reads (name_from 1 operation_names (drop at s.now)) s.now result }
+pub fn first_operation(s: &[u8]) -> Option<(u64, &[u8])>
+    ensures { seen result ≡ name_from 1 operation_names s.now }
 {
-    name_at(s, at, b"pow")
+    first_name(s, b"pow")
 }
 
-pub fn prefix_at(s: &[u8], at: usize) -> Number
-    ensures { Reads (name_from 1 prefix_names (drop at s.now)) s.now result }
+pub fn first_prefix(s: &[u8]) -> Option<(u64, &[u8])>
+    ensures { seen result ≡ name_from 1 prefix_names s.now }
 {
-    if word_at(s, at, b"+") {
-        return Some((1, at + 1));
+    let (&b, rest) = s.split_first()?;
+    match b {
+        b'+' => Some((1, rest)),
+        b'-' => Some((2, rest)),
+        _ => None,
     }
-    if word_at(s, at, b"-") {
-        return Some((2, at + 1));
-    }
-    None
 }
 
-pub fn infix_at(s: &[u8], at: usize) -> Number
-    ensures { Reads (name_from 1 infix_names (drop at s.now)) s.now result }
+pub fn first_infix(s: &[u8]) -> Option<(u64, &[u8])>
+    ensures { seen result ≡ name_from 1 infix_names s.now }
 {
-    if word_at(s, at, b"+") {
-        return Some((1, at + 1));
+    let (&b, rest) = s.split_first()?;
+    match b {
+        b'+' => Some((1, rest)),
+        b'-' => Some((2, rest)),
+        b'*' => Some((3, rest)),
+        b'/' => Some((4, rest)),
+        b'^' => Some((5, rest)),
+        _ => None,
     }
-    if word_at(s, at, b"-") {
-        return Some((2, at + 1));
-    }
-    if word_at(s, at, b"*") {
-        return Some((3, at + 1));
-    }
-    if word_at(s, at, b"/") {
-        return Some((4, at + 1));
-    }
-    if word_at(s, at, b"^") {
-        return Some((5, at + 1));
-    }
-    None
 }
 
 fn write_name(out: &mut [u8], at: usize, number: u64, fifth: &[u8]) -> usize

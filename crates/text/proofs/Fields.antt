@@ -1,44 +1,47 @@
 -- What a reader's answer tells of the text: for those who read one field after another. Assumes nothing.
-use Rattle.std.proofs.Common.{◌≡◌, ℕ, suc, ◌+◌, ◌<◌, ◌≤◌, true, false, List, [], ◌∷◌, length, drop, sym, refl, ap, ◌∙◌, arith, length-append, length-drop, drop-drop}
-use Rattle.std.specs.Prelude.{Some, None}
-use Rattle.text.specs.Reading.{Read, is, bad, ended, decimal_field, starts, name_from}
-use Rattle.text.specs.Seen.{Number, seen, Reads}
-use Rattle.text.proofs.Only.{decimal_only, ended_only, starts_only}
+use Rattle.std.proofs.Common.{◌≡◌, ℕ, suc, ◌<◌, true, false, ◌&&◌, eqb, List, [], ◌∷◌, length, take, drop, sym, refl, ap, ◌∙◌}
+use lib.Pointwise.{pointwise}
+use Rattle.std.specs.Prelude.{Option, Some, None}
+use Rattle.std.specs.Borrow.{Bor}
+use Rattle.text.specs.Reading.{Read, is, bad, ended, decimal, decimal_field, starts, name_from}
+use Rattle.text.specs.Seen.{seen}
+use Rattle.text.proofs.Only.{decimal_only, ended_only}
 
--- what was wanted was read, and a place inside the text; or it was not
-pub told : (s : List ℕ) {want : Read ℕ} {n : Number} {v next : ℕ} → Reads want s n → n ≡ Some (v, next) → want ≡ is v (drop next s)
-told s r q = sym r.answer ∙ ap (seen s) q
+-- what was wanted was read, or it was not
+pub told : {A : Type 0} {want : Read A} {n : Option (A × Bor (List ℕ))} {v : A} {rest : Bor (List ℕ)} → seen n ≡ want → n ≡ Some (v, rest) → want ≡ is v rest.now
+told r q = sym r ∙ ap seen q
 
-pub told_place : (s : List ℕ) {want : Read ℕ} {n : Number} {v next : ℕ} → Reads want s n → n ≡ Some (v, next) → next ≤ length s
-told_place s r q = rw q at r.inside
-
-pub told_bad : (s : List ℕ) {want : Read ℕ} {n : Number} → Reads want s n → n ≡ None → want ≡ bad
-told_bad s r q = sym r.answer ∙ ap (seen s) q
+pub told_bad : {A : Type 0} {want : Read A} {n : Option (A × Bor (List ℕ))} → seen n ≡ want → n ≡ None → want ≡ bad
+told_bad r q = sym r ∙ ap seen q
 
 -- and the end of its field
-pub ends : {s : List ℕ} {want : Read ℕ} {n m : Number} (stop : ℕ) → Reads (ended stop (seen s n)) s m → Reads want s n → Reads (ended stop want) s m
-ends stop e r = record { answer = e.answer ∙ ap (ended stop) r.answer; inside = e.inside }
+pub ends : {A : Type 0} {want n m : Read A} (stop : ℕ) → m ≡ ended stop n → n ≡ want → m ≡ ended stop want
+ends stop e r = e ∙ ap (ended stop) r
 
--- a decimal field is below its limit
-pub told_below : (s : List ℕ) (stop limit : ℕ) (bs : List ℕ) {n : Number} {v next : ℕ} → Reads (decimal_field stop limit bs) s n → n ≡ Some (v, next) → v < limit
-told_below s stop limit bs r q = (decimal_only limit _ bs _ (ended_only stop _ _ _ (told s r q))).0
+module _ {n : Option (ℕ × Bor (List ℕ))} {v : ℕ} {rest : Bor (List ℕ)} where
+  -- a decimal number is below its limit
+  pub told_low : (limit : ℕ) (bs : List ℕ) → seen n ≡ decimal limit bs → n ≡ Some (v, rest) → v < limit
+  told_low limit bs r q = (decimal_only limit _ bs _ (told r q)).0
 
--- a word that stands at a place stands within the text
-pub word_inside : (word s : List ℕ) (at : ℕ) → 0 < length word → starts word (drop at s) ≡ true → at + length word ≤ length s
-word_inside word s at h e =
-    let l = ap length (starts_only word (drop at s) e) in
-    omega (arith, l, length-append word (drop (length word) (drop at s)), length-drop at s)
+  pub told_below : (stop limit : ℕ) (bs : List ℕ) → seen n ≡ decimal_field stop limit bs → n ≡ Some (v, rest) → v < limit
+  told_below stop limit bs r q = (decimal_only limit _ bs _ (ended_only stop _ _ _ (told r q))).0
+
+-- a word at the start, as `strip_prefix` compares it
+starts_as : (w bs : List ℕ) → pointwise eqb (take (length w) bs) w ≡ starts w bs
+unfolding starts
+starts_as [] bs = refl
+starts_as (w ∷ ws) [] = refl
+starts_as (w ∷ ws) (b ∷ bs) = ap (λ r. eqb b w && r) (starts_as ws bs)
 
 -- one of some names: the first, or one of the others
-pub name_here : (first : ℕ) (word : List ℕ) (words : List (List ℕ)) (s : List ℕ) (at : ℕ) → starts word (drop at s) ≡ true
-    → name_from first (word ∷ words) (drop at s) ≡ is first (drop (at + length word) s)
-unfolding name_from
-name_here first word words s at e = rw (e, drop-drop (length word) at s)
+module _ (first : ℕ) (word : List ℕ) (words : List (List ℕ)) (s : List ℕ) where
+  pub name_here : {rest : List ℕ} → pointwise eqb (take (length word) s) word ≡ true → rest ≡ drop (length word) s → name_from first (word ∷ words) s ≡ is first rest
+  unfolding name_from
+  name_here e q = rw (sym (starts_as word s) ∙ e, q)
 
-pub name_later : (first : ℕ) (word : List ℕ) (words : List (List ℕ)) (s : List ℕ) (at : ℕ) → starts word (drop at s) ≡ false
-    → name_from first (word ∷ words) (drop at s) ≡ name_from (suc first) words (drop at s)
-unfolding name_from
-name_later first word words s at e = rw e
+  pub name_later : pointwise eqb (take (length word) s) word ≡ false → name_from first (word ∷ words) s ≡ name_from (suc first) words s
+  unfolding name_from
+  name_later e = rw (sym (starts_as word s) ∙ e)
 
 pub name_none : (first : ℕ) (bs : List ℕ) → name_from first [] bs ≡ bad
 unfolding name_from

@@ -1,8 +1,8 @@
 -- The laws of `lines`: more fuel changes nothing, so a text is its first line and then the lines of the rest; and for a loop over a text: its
 -- end, a line that is read, and one that is refused. Assumes nothing.
-use Rattle.std.proofs.Common.{◌≡◌, ℕ, zero, suc, ◌+◌, ◌<◌, ◌≤◌, List, [], ◌∷◌, length, get_or, drop, sym, refl, ◌∙◌, arith, drop_of_length-le}
+use Rattle.std.proofs.Common.{◌≡◌, ℕ, zero, suc, ◌≤◌, List, [], ◌∷◌, length, sym, refl, ◌∙◌, arith}
+use Rattle.std.specs.List.{IsFirstAndRest}
 use Rattle.text.specs.Lines.{Line, goes, stops, Whole, read, refused, at_line, after_line, lines_by, lines}
-use Rattle.text.proofs.Running.{here}
 use Rattle.text.proofs.Shortening.{ShorterLine, Shortens}
 
 module _ {S R : Type 0} (line : S → ℕ → List ℕ → Line S R) (shortens : Shortens line) where
@@ -43,25 +43,26 @@ module _ {S R : Type 0} (line : S → ℕ → List ℕ → Line S R) (shortens :
 
 -- ---- a loop
 
--- what is left of a text, from the place `at` on, is the whole
-pub record Left {S R : Type 0} (line : S → ℕ → List ℕ → Line S R) (s : S) (text : List ℕ) (at : ℕ) (whole : Whole S R) : Type 0 where
+-- what is left of a text is the whole
+pub record Left {S R : Type 0} (line : S → ℕ → List ℕ → Line S R) (s : S) (text : List ℕ) (whole : Whole S R) : Type 0 where
   pub shortens : Shortens line
-  pub rest : lines line s (drop at text) ≡ whole
+  pub rest : lines line s text ≡ whole
 
-pub begins : {S R : Type 0} (line : S → ℕ → List ℕ → Line S R) → Shortens line → (s : S) (text : List ℕ) → Left line s text 0 (lines line s text)
+pub begins : {S R : Type 0} (line : S → ℕ → List ℕ → Line S R) → Shortens line → (s : S) (text : List ℕ) → Left line s text (lines line s text)
 begins line h s text = record { shortens = h; rest = refl }
 
-module _ {S R : Type 0} {line : S → ℕ → List ℕ → Line S R} {at : ℕ} {s : S} {text : List ℕ} {whole : Whole S R} (l : Left line s text at whole) where
-  pub ends : length text ≤ at → read s ≡ whole
-  ends h = sym (no_line line l.shortens s) ∙ (rw (drop_of_length-le text {i = at} h) at l.rest)
+pub ends : {S R : Type 0} {line : S → ℕ → List ℕ → Line S R} {s : S} (text : List ℕ) {whole : Whole S R} → Left line s text whole → length text ≡ 0 → read s ≡ whole
+ends {line = line} {s} [] l h = sym (no_line line l.shortens s) ∙ l.rest
+ends (b ∷ text) l h = absurd (omega arith)
 
-  unrolled : at < length text → after_line (line s (get_or text at 0) (drop (at + 1) text)) (λ s rest. lines line s rest) ≡ whole
-  unrolled h = sym (next_line_lem line l.shortens s (get_or text at 0) (drop (at + 1) text)) ∙ (rw (here text at h) at l.rest)
+module _ {S R : Type 0} {line : S → ℕ → List ℕ → Line S R} {s : S} {text : List ℕ} {whole : Whole S R} (l : Left line s text whole) {b : ℕ} {after : List ℕ} (f : IsFirstAndRest text b after) where
+  unrolled : after_line (line s b after) (λ s rest. lines line s rest) ≡ whole
+  unrolled = sym (next_line_lem line l.shortens s b after) ∙ (rw f.0 at l.rest)
 
-  pub goes_on : {s' : S} {next : ℕ} → at < length text → line s (get_or text at 0) (drop (at + 1) text) ≡ goes s' (drop next text) → Left line s' text next whole
+  pub goes_on : {s' : S} {next : List ℕ} → line s b after ≡ goes s' next → Left line s' next whole
   unfolding after_line
-  goes_on h e = record { shortens = l.shortens; rest = rw e at (unrolled h) }
+  goes_on e = record { shortens = l.shortens; rest = rw e at unrolled }
 
-  pub stops_at : {why : R} → at < length text → line s (get_or text at 0) (drop (at + 1) text) ≡ stops why → refused why ≡ whole
+  pub stops_at : {why : R} → line s b after ≡ stops why → refused why ≡ whole
   unfolding after_line
-  stops_at h e = rw e at (unrolled h)
+  stops_at e = rw e at unrolled

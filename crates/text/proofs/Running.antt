@@ -1,12 +1,11 @@
 -- The loops of `read_decimal`, `read_hex` and `word_at`: what each turn needs, over plain lists and numbers. Assumes nothing.
-use Rattle.std.proofs.Common.{◌≡◌, ℕ, zero, suc, ◌+◌, ◌-◌, ◌*◌, ◌%◌, ◌^◌, ◌<◌, ◌≤◌, max, min, Bool, true, false, cond, ◌&&◌, eqb, ltb, List, [], ◌∷◌, length, get_or, take, drop, take_all, sym, refl, ap, ◌∙◌, pow-suc, add-one, arith, length-drop, drop_of_length-le, drop-cons, drop-drop, le-ltb, lt-ltb, eq-eqb, ne_eqb, le-leb}
+use Rattle.std.proofs.Common.{◌≡◌, ℕ, zero, suc, ◌+◌, ◌-◌, ◌*◌, ◌%◌, ◌^◌, ◌<◌, ◌≤◌, max, min, Bool, true, false, cond, ◌&&◌, eqb, ltb, List, [], ◌∷◌, length, get_or, take, drop, take_all, sym, refl, ap, ◌∙◌, pow-suc, add-one, arith, length-drop, drop_of_length-le, drop-cons, le-ltb, lt-ltb, eq-eqb, ne_eqb, le-leb}
 use native.Mathlib.Nat.{pow-le-pow_right}
 use native.Mathlib.Decide.{dec_lt, ℕ_discrete}
 use lib.ListN.{get_or-eq_default}
 use borrow.Author.Tests.{lt-leb}
-use Rattle.std.specs.Prelude.{Some}
-use Rattle.std.specs.List.{starts_with, slice_range}
-use Rattle.text.specs.Seen.{Number, low_digit, high_digit}
+use Rattle.std.specs.List.{IsFirstAndRest, starts_with, slice_range}
+use Rattle.text.specs.Seen.{low_digit, high_digit}
 use Rattle.text.specs.Reading.{is, bad, ended, digit_of, run, value, spelt, decimal, hex_from, hex, starts}
 
 -- ---- a byte of the text
@@ -17,9 +16,6 @@ inside s i h = elim (dec_lt i (length s)) [
   | yes lt ↦ lt
   | no nlt ↦ let e : get_or s i 0 ≡ 0 = get_or-eq_default s 0 (omega arith) in absurd (omega (arith, rw e at h))
 ]
-
-pub told_inside : (s : List ℕ) {n : Number} {v next b : ℕ} → n ≡ Some (v, next) → b ≡ get_or s next 0 → 0 < b → next < length s
-told_inside s {next = next} q e h = inside s next (omega (arith, e, h))
 
 -- so does a digit
 pub within : (s : List ℕ) (i : ℕ) → digit_of (get_or s i 0) < 16 → i < length s
@@ -34,21 +30,24 @@ here s i lt = rw (add-one, drop-cons s i 0)
 
 -- ---- the end of a field
 
-pub ended_bad : (stop : ℕ) → ended {A = ℕ} stop bad ≡ bad
+pub ended_bad : {A : Type 0} (stop : ℕ) → ended {A = A} stop bad ≡ bad
 unfolding ended
 ended_bad stop = refl
 
-module _ {A : Type 0} (s : List ℕ) (x : A) (next stop : ℕ) where
-  pub ended_other : (get_or s next 0 ≡ stop → ⊥) → ended stop (is x (drop next s)) ≡ bad
+module _ {A : Type 0} (x : A) (stop : ℕ) where
+  pub ended_end : (s : List ℕ) → length s ≡ 0 → ended stop (is x s) ≡ bad
   unfolding ended
-  ended_other h = elim (dec_lt next (length s)) [
-    | yes lt ↦ rw (here s next lt, ne_eqb (get_or s next 0) stop h)
-    | no nlt ↦ rw (drop_of_length-le s {i = next} (omega arith))
-  ]
+  ended_end [] h = refl
+  ended_end (b ∷ s) h = absurd (omega arith)
 
-  pub ended_is : 0 < stop → get_or s next 0 ≡ stop → ended stop (is x (drop next s)) ≡ is x (drop (next + 1) s)
-  unfolding ended
-  ended_is p h = rw (here s next (inside s next (omega (arith, h, p))), eq-eqb (get_or s next 0) stop h)
+  module _ {s rest : List ℕ} {b : ℕ} (f : IsFirstAndRest s b rest) where
+    pub ended_other : (b ≡ stop → ⊥) → ended stop (is x s) ≡ bad
+    unfolding ended
+    ended_other h = rw (f.0, ne_eqb b stop h)
+
+    pub ended_is : b ≡ stop → ended stop (is x s) ≡ is x rest
+    unfolding ended
+    ended_is h = rw (f.0, eq-eqb b stop h)
 
 -- ---- a digit
 
@@ -151,113 +150,110 @@ too_large limit [] rest h = refl
 too_large limit (d ∷ ds) rest h = rw (le-ltb (value 0 (d ∷ ds)) limit h) (cond_same (eqb d 0 && ltb 0 (length ds)) bad)
 
 -- what is still to be read, added to what has been, is the whole
-pub record Going (s : List ℕ) (at limit first d v i : ℕ) : Type 0 where
-  pub from : at ≤ i
+pub record Going (s : List ℕ) (limit first d v i : ℕ) : Type 0 where
   pub small : v ≤ limit
-  pub below : at < i → v < limit
-  pub lead : at < i → first < 10
-  pub inside : at < i → i ≤ length s
-  pub start : at ≡ i → d ≡ first
+  pub below : 0 < i → v < limit
+  pub lead : 0 < i → first < 10
+  pub inside : i ≤ length s
+  pub start : i ≡ 0 → d ≡ first
   pub digit : d ≡ low_digit (get_or s i 0)
-  pub place : i + length (run (drop i s)) ≡ at + length (run (drop at s))
-  pub number : value v (run (drop i s)) ≡ value 0 (run (drop at s))
+  pub place : i + length (run (drop i s)) ≡ length (run s)
+  pub number : value v (run (drop i s)) ≡ value 0 (run s)
 
-pub begins : (s : List ℕ) (at limit d : ℕ) → d ≡ low_digit (get_or s at 0) → Going s at limit d d 0 at
-begins s at limit d e = record {
-  from = omega arith;
+pub begins : (s : List ℕ) (limit d : ℕ) → d ≡ low_digit (get_or s 0 0) → Going s limit d d 0 0
+begins s limit d e = record {
   small = omega arith;
   below = λ h. absurd (omega arith);
   lead = λ h. absurd (omega arith);
-  inside = λ h. absurd (omega arith);
+  inside = omega arith;
   start = λ h. refl;
   digit = e;
-  place = refl;
+  place = omega arith;
   number = refl;
 }
 
-module _ {s : List ℕ} {at limit f d v i : ℕ} (g : Going s at limit f d v i) where
+module _ {s : List ℕ} {limit f d v i : ℕ} (g : Going s limit f d v i) where
   at_digit : d < 10 → run (drop i s) ≡ d ∷ run (drop (i + 1) s)
   at_digit h = let e = sym (digit_low (get_or s i 0) g.digit h) in rw e at (run_more s i (omega (arith, e, h)))
 
   pub in_text : d < 10 → i < length s
   in_text h = within s i (omega (arith, digit_low (get_or s i 0) g.digit h))
 
-  pub goes_on : (e : ℕ) → d < 10 → v * 10 + d < limit → e ≡ low_digit (get_or s (i + 1) 0) → Going s at limit f e (v * 10 + d) (i + 1)
+  pub goes_on : (e : ℕ) → d < 10 → v * 10 + d < limit → e ≡ low_digit (get_or s (i + 1) 0) → Going s limit f e (v * 10 + d) (i + 1)
   unfolding value
   goes_on e h m q = record {
-    from = omega (arith, g.from);
     small = omega arith;
     below = λ _. m;
-    lead = λ _. elim (dec_lt at i) [ yes l ↦ g.lead l | no n ↦ omega (arith, g.start (omega (arith, n, g.from)), h) ];
-    inside = λ _. omega (arith, in_text h);
-    start = λ l. absurd (omega (arith, g.from, l));
+    lead = λ _. elim (dec_lt 0 i) [ yes l ↦ g.lead l | no n ↦ omega (arith, g.start (omega (arith, n)), h) ];
+    inside = omega (arith, in_text h);
+    start = λ l. absurd (omega (arith, l));
     digit = q;
     place = omega (arith, rw (at_digit h) at g.place);
     number = rw (at_digit h) at g.number;
   }
 
-  pub over : d < 10 → limit ≤ v * 10 + d → bad ≡ decimal limit (drop at s)
+  pub over : d < 10 → limit ≤ v * 10 + d → bad ≡ decimal limit s
   unfolding value decimal
-  over h m = sym (too_large limit (run (drop at s)) _ (omega (arith, value_grows (v * 10 + d) (run (drop (i + 1) s)), rw (at_digit h) at g.number)))
+  over h m = sym (too_large limit (run s) _ (omega (arith, value_grows (v * 10 + d) (run (drop (i + 1) s)), rw (at_digit h) at g.number)))
 
   -- at any other byte
   module _ (stop : 10 ≤ d) where
     none_left : run (drop i s) ≡ []
     none_left = run_none s i (decimal_none (get_or s i 0) g.digit stop)
 
-    long : at + length (run (drop at s)) ≡ i
+    long : length (run s) ≡ i
     long = omega (arith, rw none_left at g.place)
 
-    spells : value 0 (run (drop at s)) ≡ v
+    spells : value 0 (run s) ≡ v
     unfolding value
     spells = sym (rw none_left at g.number)
 
-    rest_is : drop (length (run (drop at s))) (drop at s) ≡ drop i s
-    rest_is = drop-drop (length (run (drop at s))) at s ∙ ap (λ k. drop k s) long
+    rest_is : drop (length (run s)) s ≡ drop i s
+    rest_is = ap (λ k. drop k s) long
 
-    pub no_digit_lem : i ≡ at → bad ≡ decimal limit (drop at s)
+    pub no_digit_lem : i ≡ 0 → bad ≡ decimal limit s
     unfolding decimal spelt
-    no_digit_lem e = let z : run (drop at s) ≡ [] = rw e at none_left in sym (rw z)
+    no_digit_lem e = let z : run s ≡ [] = rw e at none_left in sym (rw z)
 
-    module _ (first : f ≡ low_digit (get_or s at 0)) (some : i ≡ at → ⊥) where
+    module _ (first : f ≡ low_digit (get_or s 0 0)) (some : i ≡ 0 → ⊥) where
       tail : List ℕ
-      tail = run (drop (at + 1) s)
+      tail = run (drop 1 s)
 
-      leads : run (drop at s) ≡ f ∷ tail
+      leads : run s ≡ f ∷ tail
       unfolding tail
       leads =
-          let l = g.lead (omega (arith, g.from, some)) in
-          let e = sym (digit_low (get_or s at 0) first l) in
-          rw e at (run_more s at (omega (arith, e, l)))
+          let l = g.lead (omega (arith, some)) in
+          let e = sym (digit_low (get_or s 0 0) first l) in
+          rw e at (run_more s 0 (omega (arith, e, l)))
 
-      tail_long : length tail ≡ i - at - 1
+      tail_long : length tail ≡ i - 1
       tail_long = omega (arith, rw leads at long)
 
-      pub zeros : f ≡ 0 → 1 < i - at → bad ≡ decimal limit (drop at s)
+      pub zeros : f ≡ 0 → 1 < i → bad ≡ decimal limit s
       unfolding decimal spelt
       zeros z h = sym (rw (leads, eq-eqb f 0 z, lt-ltb 0 (length tail) (omega (arith, tail_long, h))))
 
-      pub zero_alone : f ≡ 0 → i - at ≤ 1 → is v (drop i s) ≡ decimal limit (drop at s)
+      pub zero_alone : f ≡ 0 → i ≤ 1 → is v (drop i s) ≡ decimal limit s
       unfolding decimal spelt
       zero_alone z h =
           let r = rw leads at rest_is in
           let q = rw leads at spells in
-          sym (rw (leads, eq-eqb f 0 z, le-ltb 0 (length tail) (omega (arith, tail_long, h)), r, q, lt-ltb v limit (g.below (omega (arith, g.from, some)))))
+          sym (rw (leads, eq-eqb f 0 z, le-ltb 0 (length tail) (omega (arith, tail_long, h)), r, q, lt-ltb v limit (g.below (omega (arith, some)))))
 
-      pub no_zero : (f ≡ 0 → ⊥) → is v (drop i s) ≡ decimal limit (drop at s)
+      pub no_zero : (f ≡ 0 → ⊥) → is v (drop i s) ≡ decimal limit s
       unfolding decimal spelt
       no_zero z =
           let r = rw leads at rest_is in
           let q = rw leads at spells in
-          sym (rw (leads, ne_eqb f 0 z, r, q, lt-ltb v limit (g.below (omega (arith, g.from, some)))))
+          sym (rw (leads, ne_eqb f 0 z, r, q, lt-ltb v limit (g.below (omega (arith, some)))))
 
 -- ---- sixteen hex digits: what is left to be done is the whole, unless there was a byte that is none
 
-pub record Hexing (s : List ℕ) (at v worst k : ℕ) : Type 0 where
+pub record Hexing (s : List ℕ) (v worst k : ℕ) : Type 0 where
   pub few : k ≤ 16
   pub small : v < 16 ^ k
-  pub rest : worst < 16 → hex_from (16 - k) v (drop (at + k) s) ≡ hex (drop at s)
-  pub spoilt : 16 ≤ worst → bad ≡ hex (drop at s)
+  pub rest : worst < 16 → hex_from (16 - k) v (drop k s) ≡ hex s
+  pub spoilt : 16 ≤ worst → bad ≡ hex s
 
 -- fewer bytes than digits
 too_few : (k v : ℕ) (bs : List ℕ) → length bs < k → hex_from k v bs ≡ bad
@@ -266,49 +262,48 @@ too_few zero v bs h = absurd (omega arith)
 too_few (suc k) v [] h = refl
 too_few (suc k) v (b ∷ bs) h = rw (too_few k (v * 16 + digit_of b) bs (omega arith)) (cond_same (ltb (digit_of b) 16) bad)
 
-pub hex_short : (s : List ℕ) (at : ℕ) → length s < at + 16 → bad ≡ hex (drop at s)
+pub hex_short : (s : List ℕ) → length s < 16 → bad ≡ hex s
 unfolding hex
-hex_short s at h = sym (too_few 16 0 (drop at s) (omega (arith, length-drop at s, h)))
+hex_short s h = sym (too_few 16 0 s h)
 
-pub hex_begins : (s : List ℕ) (at : ℕ) → Hexing s at 0 0 0
+pub hex_begins : (s : List ℕ) → Hexing s 0 0 0
 unfolding hex
-hex_begins s at = let z : at + 0 ≡ at = omega arith in record { few = omega arith; small = omega arith; rest = λ _. rw z; spoilt = λ h. absurd (omega arith) }
+hex_begins s = record { few = omega arith; small = omega arith; rest = λ _. refl; spoilt = λ h. absurd (omega arith) }
 
 -- the next digit takes the value from below 16 ^ k to below 16 ^ (k + 1), which is at most 2 ^ 64
 pub hex_room : (v k d : ℕ) → k < 16 → v < 16 ^ k → d < 16 → (v * 16 + d < 16 ^ (k + 1)) × (16 ^ (k + 1) ≤ 2 ^ 64)
 hex_room v k d hk hv hd =
     (rw (add-one, pow-suc 16 k) (omega arith), pow-le-pow_right {n = 16} (omega arith) {i = k + 1} {j = 16} (omega arith))
 
-module _ {s : List ℕ} {at v worst k : ℕ} (g : Hexing s at v worst k) where
-  pub hex_goes_on : (d : ℕ) → k < 16 → at + 16 ≤ length s → d ≡ digit_of (get_or s (at + k) 0) → Hexing s at (v * 16 + d % 16) (max worst d) (k + 1)
+module _ {s : List ℕ} {v worst k : ℕ} (g : Hexing s v worst k) where
+  pub hex_goes_on : (d : ℕ) → k < 16 → 16 ≤ length s → d ≡ digit_of (get_or s k 0) → Hexing s (v * 16 + d % 16) (max worst d) (k + 1)
   unfolding hex_from
   hex_goes_on d hk room e =
       let q : 16 - k ≡ suc (16 - (k + 1)) = omega arith in
-      let n : at + (k + 1) ≡ at + k + 1 = omega arith in
-      let h = here s (at + k) (omega (arith, room, hk)) in
+      let h = here s k (omega (arith, room, hk)) in
       record {
         few = omega arith;
         small = (hex_room v k (d % 16) hk g.small (omega arith)).0;
         rest = λ w.
             let o : d < 16 = omega (arith, w) in
             let m : d % 16 ≡ d = omega arith in
-            rw (n, m, e) (rw (q, h, lt-ltb (digit_of (get_or s (at + k) 0)) 16 (omega (arith, o, e))) at (g.rest (omega (arith, w))));
+            rw (m, e) (rw (q, h, lt-ltb (digit_of (get_or s k 0)) 16 (omega (arith, o, e))) at (g.rest (omega (arith, w))));
         spoilt = λ w. elim (dec_lt worst 16) [
           | no x ↦ g.spoilt (omega (arith, x))
-          | yes y ↦ rw (q, h, le-ltb (digit_of (get_or s (at + k) 0)) 16 (omega (arith, w, y, e))) at (g.rest y)
+          | yes y ↦ rw (q, h, le-ltb (digit_of (get_or s k 0)) 16 (omega (arith, w, y, e))) at (g.rest y)
         ];
       }
 
-  pub hex_done : 16 ≤ k → worst ≤ 15 → is v (drop (at + 16) s) ≡ hex (drop at s)
+  pub hex_done : 16 ≤ k → worst ≤ 15 → is v (drop 16 s) ≡ hex s
   unfolding hex_from
-  hex_done h w = let q : 16 - k ≡ 0 = omega arith in let z : at + k ≡ at + 16 = omega (arith, g.few, h) in rw (q, z) at (g.rest (omega (arith, w)))
+  hex_done h w = let q : 16 - k ≡ 0 = omega arith in let z : k ≡ 16 = omega (arith, g.few, h) in rw (q, z) at (g.rest (omega (arith, w)))
 
 -- ---- a word
 
 eqb_sym : (a b : ℕ) → eqb a b ≡ eqb b a
 eqb_sym a b = elim (ℕ_discrete a b) [ yes e ↦ rw e | no n ↦ rw (ne_eqb a b n, ne_eqb b a (λ e. n (sym e))) ]
 
-starts_as : (w bs : List ℕ) → starts_with eqb bs w ≡ starts w bs
+pub starts_as : (w bs : List ℕ) → starts_with eqb bs w ≡ starts w bs
 unfolding starts
 starts_as [] bs = refl
 starts_as (w ∷ ws) [] = refl

@@ -1,12 +1,9 @@
-// Numbers, names and fields at a place of a text. Past the end there is no digit, no letter and no end of a field.
+// Numbers and fields at the start of a text, each with the bytes after it. Past the end there is no digit and no end of a field.
 ghost use Rattle.std.specs.Prelude.{◌≡◌, ◌^◌, ◌<◌, ◌≤◌, drop, slice_index};
 ghost use Rattle.text.specs.Reading.{digit_of, decimal, hex, starts, ended, decimal_field, hex_field};
-ghost use Rattle.text.specs.Seen.{seen, Reads, low_digit, high_digit};
+ghost use Rattle.text.specs.Seen.{seen, low_digit, high_digit};
 
 use std::num::wrapping_sub_u8;
-
-// What is read at a place: a number and the place after it, or none such.
-pub type Number = Option<(u64, usize)>;
 
 // The byte at a place, and 0 past the end.
 pub fn byte_at(s: &[u8], i: usize) -> u8
@@ -55,14 +52,14 @@ fn decimal_digit(b: u8) -> u64
 }
 
 // A decimal number below the limit.
-pub fn read_decimal(s: &[u8], at: usize, limit: u64) -> Number
+pub fn read_decimal(s: &[u8], limit: u64) -> Option<(u64, &[u8])>
     requires { limit ≤ 2 ^ 33 }
-    ensures { Reads (decimal limit (drop at s.now)) s.now result }
+    ensures { seen result ≡ decimal limit s.now }
 {
-    let first = decimal_digit(byte_at(s, at));
+    let first = decimal_digit(byte_at(s, 0));
     let mut d = first;
     let mut v: u64 = 0;
-    let mut i = at;
+    let mut i: usize = 0;
     // No plainer over the bytes: where the digits end is answered too, and would be counted beside them.
     while d < 10 {
         v = v * 10 + d;
@@ -72,22 +69,22 @@ pub fn read_decimal(s: &[u8], at: usize, limit: u64) -> Number
         i += 1;
         d = decimal_digit(byte_at(s, i));
     }
-    if i == at {
+    if i == 0 {
         return None;
     }
     if first == 0 {
-        if 1 < i - at {
+        if 1 < i {
             return None;
         }
     }
-    Some((v, i))
+    Some((v, &s[i..]))
 }
 
 // 16 hex digits: all are read before it is asked whether one of them is none.
-pub fn read_hex(s: &[u8], at: usize) -> Number
-    ensures { Reads (hex (drop at s.now)) s.now result }
+pub fn read_hex(s: &[u8]) -> Option<(u64, &[u8])>
+    ensures { seen result ≡ hex s.now }
 {
-    let digits = s.get(at..)?.get(..16)?;
+    let (digits, rest) = s.split_at_checked(16)?;
     let mut v: u64 = 0;
     let mut worst: u8 = 0;
     for &b in digits {
@@ -98,33 +95,32 @@ pub fn read_hex(s: &[u8], at: usize) -> Number
     if 15 < worst {
         return None;
     }
-    Some((v, at + 16))
+    Some((v, rest))
 }
 
 // The byte that ends a field, after what stood in it.
-pub fn end_field(s: &[u8], n: Number, stop: u8) -> Number
-    requires { 0 < stop }
-    ensures { Reads (ended stop (seen s.now n)) s.now result }
+pub fn end_field<'a>(n: Option<(u64, &'a [u8])>, stop: u8) -> Option<(u64, &'a [u8])>
+    ensures { seen result ≡ ended stop (seen n.entry) }
 {
-    let (v, next) = n?;
-    if byte_at(s, next) != stop {
+    let (v, s) = n?;
+    let (&b, rest) = s.split_first()?;
+    if b != stop {
         return None;
     }
-    Some((v, next + 1))
+    Some((v, rest))
 }
 
-pub fn decimal_field(s: &[u8], at: usize, stop: u8, limit: u64) -> Number
-    requires { (0 < stop) × (limit ≤ 2 ^ 33) }
-    ensures { Reads (decimal_field stop limit (drop at s.now)) s.now result }
+pub fn decimal_field(s: &[u8], stop: u8, limit: u64) -> Option<(u64, &[u8])>
+    requires { limit ≤ 2 ^ 33 }
+    ensures { seen result ≡ decimal_field stop limit s.now }
 {
-    end_field(s, read_decimal(s, at, limit), stop)
+    end_field(read_decimal(s, limit), stop)
 }
 
-pub fn hex_field(s: &[u8], at: usize, stop: u8) -> Number
-    requires { 0 < stop }
-    ensures { Reads (hex_field stop (drop at s.now)) s.now result }
+pub fn hex_field(s: &[u8], stop: u8) -> Option<(u64, &[u8])>
+    ensures { seen result ≡ hex_field stop s.now }
 {
-    end_field(s, read_hex(s, at), stop)
+    end_field(read_hex(s), stop)
 }
 
 // Whether a word stands at a place.

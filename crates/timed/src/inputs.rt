@@ -44,19 +44,18 @@ fn put_fields(table: &mut [u64], line: usize, f: Fields)
 pub extern "C" fn timed_read_lines(text: &[u8], table: &mut [u64]) -> u64
     ensures { ReadsLines text.now table.old result table.new }
 {
-    let mut at: usize = 0;
+    let mut rest = text;
     let mut lines: usize = 0;
-    // No `for`: a line tells where the next one begins.
-    while at < text.len() {
+    while let Some((&first, after)) = rest.split_first() {
         if 1024 <= lines {
             return refused(Refusal::LongList(lines as u64));
         }
-        let Some((e, next)) = read_node(text, at, lines) else {
+        let Some((e, next)) = read_node(first, after, lines) else {
             return refused(Refusal::BadList(lines as u64));
         };
         put_fields(table, lines, fields_of(e));
         lines += 1;
-        at = next;
+        rest = next;
     }
     lines as u64
 }

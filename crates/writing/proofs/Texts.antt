@@ -26,7 +26,7 @@ use Rattle.memory.proofs.Values.{length_up_to, at_up_to, up_to_snoc}
 use Rattle.text.specs.Writing.{line}
 use Rattle.text.specs.Put.{Put}
 use Rattle.writing.specs.Order.{order, line_fields, text, text_of, written}
-use Rattle.writing.specs.Ordering.{AllIn, empty, Listed, visited, Visited, no_child, text_fields, line_text, line_at, lines_text, all_text}
+use Rattle.writing.specs.Ordering.{AllIn, empty, Listed, visited, Visited, above_all, text_fields, line_text, line_at, lines_text, all_text}
 use Rattle.memory.specs.Layout.{table_words}
 use Rattle.listing.specs.Tables.{line_trees, moved_to, moved}
 use Rattle.writing.proofs.Orders.{laid_all, all_is, true_not_false}
@@ -99,10 +99,10 @@ none_listed m n table h o = record {
   marks = λ k o. absurd (omega arith);
 }
 
-module _ {m : Memory} {n : ℕ} (h : Holds m n) {root count : ℕ} {rows : Memory} {table₀ table : List ℕ} (inside : root < n) (v : Visited m n table₀ root no_child 0 count rows table) where
+module _ {m : Memory} {n : ℕ} (h : Holds m n) {root count : ℕ} {rows : Memory} {table₀ table : List ℕ} (inside : root < n) (v : Visited m n table₀ root above_all 0 count rows table) where
   pub order_is : line_trees m table count ≡ order (tree_at m root)
   unfolding visited up_to
-  order_is = v.done ∙ rw (lt-ltb root no_child (omega (arith, inside, room_small h)))
+  order_is = v.done ∙ rw (lt-ltb root above_all (omega (arith, inside, room_small h)))
 
   pub count_is : length (order (tree_at m root)) ≡ count
   count_is = ap length (sym order_is) ∙ length_up_to count (λ k. tree_at m (get_or table k 0))

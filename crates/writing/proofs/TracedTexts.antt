@@ -22,7 +22,7 @@ use Rattle.text.specs.Put.{Put}
 use Rattle.text.proofs.Putting.{few_digits}
 use Rattle.listing.specs.Tables.{line_trees}
 use Rattle.writing.specs.Order.{order}
-use Rattle.writing.specs.Ordering.{Listed, Visited, no_child, line_text, line_at, traced_text, traced_lines_text, all_text}
+use Rattle.writing.specs.Ordering.{Listed, Visited, above_all, line_text, line_at, traced_text, traced_lines_text, all_text}
 use Rattle.writing.specs.Origins as Spec
 use Rattle.writing.specs.Origins.{traced_line, traced_text_of, written_traced}
 use Rattle.writing.proofs.Texts.{line_fields_lem, order_is, count_is}
@@ -71,7 +71,7 @@ module _ {m : Memory} {desk : List ℕ} {given : List Tree} (s : Sound (record {
 
   -- ---- the answer
 
-  module _ {root lines : ℕ} {rows : Memory} {table₀ table : List ℕ} (inside : root < count desk) (v : Visited m (count desk) table₀ root no_child 0 lines rows table) where
+  module _ {root lines : ℕ} {rows : Memory} {table₀ table : List ℕ} (inside : root < count desk) (v : Visited m (count desk) table₀ root above_all 0 lines rows table) where
     lines_are : length (order (tree_at m root)) ≡ lines
     lines_are = count_is s.holds inside v
 

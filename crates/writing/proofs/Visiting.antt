@@ -16,18 +16,18 @@ use Rattle.expression.specs.Alike.{identical}
 use Rattle.expression.specs.Limits.{Proper}
 use Rattle.expression.proofs.Likeness.{identical_same, same_identical}
 use Rattle.expression.specs.declared.node.Expression.{Expression}
+use Rattle.expression.specs.declared.node.Operands.{Operands}
 use Rattle.store.specs.Nodes.{expression_of}
 use Rattle.expression.specs.Nodes.{operands_of, grown, Within}
 use Rattle.store.specs.Storing.{among, place}
-use Rattle.store.specs.Memory.{Memory, memory, columns, with_link, fields_at, expression_at, tree_at, tree_of}
+use Rattle.store.specs.Memory.{Memory, columns, with_link, fields_at, expression_at, tree_at, tree_of}
 use Rattle.store.specs.Held.{Holds}
 use Rattle.store.proofs.Places.{place_within, place_hit, place_first, among_yes, among_no}
 use Rattle.store.proofs.Stored.{proper, limited, one_node, read_node}
 use Rattle.store.proofs.Trees.{room_each}
 use Rattle.memory.proofs.Values.{length_up_to, at_up_to, up_to_grown}
-use Rattle.writing.specs.declared.order.Children.{Children}
 use Rattle.writing.specs.Order.{once, finished}
-use Rattle.writing.specs.Ordering.{AllIn, no_child, children_in, children_of, most_rows, Tells, Entered, Enters, Listed, visited, Visited}
+use Rattle.writing.specs.Ordering.{AllIn, most_rows, Tells, Entered, Enters, Listed, visited, visited_in, Visited, VisitedIn}
 use Rattle.listing.specs.Tables.{line_trees}
 use Rattle.writing.proofs.Orders.{once_new, done_already, finished_laid, laid_all, not_yet, true_not_false}
 
@@ -94,37 +94,33 @@ module _ {m : Memory} {n : ℕ} (h : Holds m n) {rows : Memory} {table : List �
 -- ---- the children of a node
 
 module _ (m : Memory) (node : ℕ) (small : node < most_rows) where
-  none_visited : (done : List Tree) → visited m no_child node done ≡ done
-  unfolding visited
-  none_visited done = rw (le-ltb no_child node (omega (arith, small)))
-
   below_visited : (child : ℕ) (done : List Tree) → child < node → visited m child node done ≡ finished (tree_at m child) done
   unfolding visited
   below_visited child done h = rw (lt-ltb child node h)
 
   finished_by : (e : Expression) (done : List Tree) → Within node e
-      → finished (tree_of m e) done ≡ once (tree_of m e) (visited m (children_of e).right node (visited m (children_of e).left node done))
-  unfolding finished grown operands_of children_in
-  finished_by (Expression.Number z) done w = rw (none_visited done, none_visited done)
-  finished_by Expression.PiConstant done w = rw (none_visited done, none_visited done)
-  finished_by (Expression.Variable v) done w = rw (none_visited done, none_visited done)
-  finished_by (Expression.Address r i) done w = rw (none_visited done, none_visited done)
-  finished_by (Expression.FunctionCall f a) done w = rw (below_visited a done w, none_visited (finished (tree_at m a) done))
-  finished_by (Expression.Prefix o a) done w = rw (below_visited a done w, none_visited (finished (tree_at m a) done))
+      → finished (tree_of m e) done ≡ once (tree_of m e) (visited_in m node done (operands_of e))
+  unfolding finished grown operands_of visited_in
+  finished_by (Expression.Number z) done w = refl
+  finished_by Expression.PiConstant done w = refl
+  finished_by (Expression.Variable v) done w = refl
+  finished_by (Expression.Address r i) done w = refl
+  finished_by (Expression.FunctionCall f a) done w = rw (below_visited a done w)
+  finished_by (Expression.Prefix o a) done w = rw (below_visited a done w)
   finished_by (Expression.Infix o a b) done w = rw (below_visited a done w.0, below_visited b (finished (tree_at m a) done) w.1)
 
   module _ (each : (k : ℕ) → Proper (tree_at m k)) where
     still_not : (e : Expression) (done : List Tree) → Within node e → Proper (tree_of m e) → among done (tree_of m e) ≡ false
-        → among (visited m (children_of e).right node (visited m (children_of e).left node done)) (tree_of m e) ≡ false
-    unfolding grown operands_of children_in size depth
-    still_not (Expression.Number z) done w p e = rw (none_visited done, none_visited done) e
-    still_not Expression.PiConstant done w p e = rw (none_visited done, none_visited done) e
-    still_not (Expression.Variable v) done w p e = rw (none_visited done, none_visited done) e
-    still_not (Expression.Address r i) done w p e = rw (none_visited done, none_visited done) e
+        → among (visited_in m node done (operands_of e)) (tree_of m e) ≡ false
+    unfolding grown operands_of visited_in size depth
+    still_not (Expression.Number z) done w p e = e
+    still_not Expression.PiConstant done w p e = e
+    still_not (Expression.Variable v) done w p e = e
+    still_not (Expression.Address r i) done w p e = e
     still_not (Expression.FunctionCall f a) done w p e =
-        rw (below_visited a done w, none_visited (finished (tree_at m a) done)) (not_yet (tree_at m a) (function_call f (tree_at m a)) done (each a) p (omega arith) e)
+        rw (below_visited a done w) (not_yet (tree_at m a) (function_call f (tree_at m a)) done (each a) p (omega arith) e)
     still_not (Expression.Prefix o a) done w p e =
-        rw (below_visited a done w, none_visited (finished (tree_at m a) done)) (not_yet (tree_at m a) (prefixed o (tree_at m a)) done (each a) p (omega arith) e)
+        rw (below_visited a done w) (not_yet (tree_at m a) (prefixed o (tree_at m a)) done (each a) p (omega arith) e)
     still_not (Expression.Infix o a b) done w p e =
         rw (below_visited a done w.0, below_visited b (finished (tree_at m a) done) w.1)
         (not_yet (tree_at m b) (infixed o (tree_at m a) (tree_at m b)) (finished (tree_at m a) done) (each b) p (omega arith)
@@ -145,10 +141,20 @@ module _ (m rows : Memory) (same : rows ≡ columns m.tag m.first m.second rows.
 
 -- ---- the returns
 
--- where the ways with a visit and without one have met
-pub visit_met : {m : Memory} {n : ℕ} {table : List ℕ} {node below count r r' : ℕ} {store store' : List (List ℕ)} {table₁ table₂ : List ℕ} → store ≡ store' → table₁ ≡ table₂ → r ≡ r'
-    → Visited m n table node below count r' (memory store') table₂ → Visited m n table node below count r (memory store) table₁
-visit_met a b c v = rw (a, b, c) v
+-- of a node's operands
+module _ {m : Memory} {n : ℕ} {table : List ℕ} {node count : ℕ} {o : Operands} where
+  pub visits_nothing : {rows : Memory} → o ≡ Operands.Nothing → Listed m n rows table count → VisitedIn m n table node count count o rows table
+  unfolding visited_in
+  visits_nothing e l = record { listed = l; done = rw e refl }
+
+  pub visits_one : {a r : ℕ} {rows' : Memory} {table' : List ℕ} → o ≡ Operands.One a → Visited m n table a node count r rows' table' → VisitedIn m n table node count r o rows' table'
+  unfolding visited_in
+  visits_one e v = record { listed = v.listed; done = rw e v.done }
+
+  pub visits_two : {a b r r' : ℕ} {rows' rows'' : Memory} {table' table'' : List ℕ} → o ≡ Operands.Two a b
+      → Visited m n table a node count r rows' table' → Visited m n table' b node r r' rows'' table'' → VisitedIn m n table node count r' o rows'' table''
+  unfolding visited_in
+  visits_two {b = b} e v w = record { listed = w.listed; done = rw e (w.done ∙ ap (visited m b node) v.done) }
 
 pub room_small : {m : Memory} {n : ℕ} → Holds m n → n ≤ most_rows
 room_small {m} {n} h = (room_each m n h.fits).most
@@ -189,20 +195,23 @@ module _ {m : Memory} {n : ℕ} (h : Holds m n) {rows : Memory} {table : List �
           let z : get_or rows.link node 0 ≡ k = rw q at (l.marks k p) in
           true_not_false (sym (sym e ∙ t ∙ rw (z, lt-ltb k count p, q, eq-eqb node node refl)))
 
-      module _ {e : Expression} {c : Children} {left right r' : ℕ} {rows₁ rows₂ rows₃ : Memory} {table₁ table₂ table₃ : List ℕ} (new : r ≡ false) (e-is : e ≡ expression_at rows node) (c-is : c ≡ children_of e)
-          (v₁ : Visited m n table c.left node count left rows₁ table₁) (v₂ : Visited m n table₁ c.right node left right rows₂ table₂)
+      module _ {right r' : ℕ} {rows₂ rows₃ : Memory} {table₂ table₃ : List ℕ} (new : r ≡ false)
+          (v₂ : node < n → VisitedIn m n table node count right (operands_of (expression_at rows node)) rows₂ table₂)
           (enters : Enters rows₂ table₂ node right r' rows₃ table₃) where
         inside : node < n
         inside = in-range o
+
+        abbrev e : Expression
+        e = expression_at rows node
 
         tree : Tree
         tree = tree_at m node
 
         parts : Within node e × (tree_of m e ≡ tree_at m node)
-        parts = read_node h node inside (e-is ∙ expression_kept m rows l.same node)
+        parts = read_node h node inside (expression_kept m rows l.same node)
 
-        done₂ : line_trees m table₂ right ≡ visited m (children_of e).right node (visited m (children_of e).left node (line_trees m table count))
-        done₂ = rw (← c-is) (v₂.done ∙ ap (visited m c.right node) v₁.done)
+        done₂ : line_trees m table₂ right ≡ visited_in m node (line_trees m table count) (operands_of e)
+        done₂ = (v₂ inside).done
 
         new₂ : among (line_trees m table₂ right) (tree_at m node) ≡ false
         new₂ =
@@ -211,10 +220,10 @@ module _ {m : Memory} {n : ℕ} (h : Holds m n) {rows : Memory} {table : List �
             (rw parts.1 (not_among h l node inside (unlisted new)))))
 
         unlisted₂ : (k : ℕ) → k < right → get_or table₂ k 0 ≡ node → ⊥
-        unlisted₂ k p q = true_not_false (sym (listed_among h v₂.listed node k p q) ∙ new₂)
+        unlisted₂ k p q = true_not_false (sym (listed_among h (v₂ inside).listed node k p q) ∙ new₂)
 
         l₂ : Listed m n rows₂ table₂ right
-        l₂ = v₂.listed
+        l₂ = (v₂ inside).listed
 
         room_left : right < most_rows
         room_left = omega (arith, room_small h, pigeon n (right + 1) f below_n apart)
@@ -269,7 +278,7 @@ module _ {m : Memory} {n : ℕ} (h : Holds m n) {rows : Memory} {table : List �
             up_to_grown right (λ k. tree_at m (get_or table₃ k 0)) (λ k. tree_at m (get_or table₂ k 0)) (tree_at m node) (λ k p. ap (tree_at m) (kept_line k p)) (ap (tree_at m) at_end_law)
             ∙ sym (once_new (tree_at m node) (line_trees m table₂ right) new₂)
             ∙ ap (once (tree_at m node)) done₂
-            ∙ subst (λ t. once t (visited m (children_of e).right node (visited m (children_of e).left node (line_trees m table count))) ≡ finished t (line_trees m table count)) parts.1
+            ∙ subst (λ t. once t (visited_in m node (line_trees m table count) (operands_of e)) ≡ finished t (line_trees m table count)) parts.1
             (sym (finished_by m node node_small e (line_trees m table count) parts.0))
 
         pub visit_entered : Visited m n table node below count r' rows₃ table₃

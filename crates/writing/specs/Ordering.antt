@@ -13,7 +13,6 @@ use Rattle.store.specs.Tracing.{Traced}
 use Rattle.expression.specs.declared.node.Operands.{Operands}
 use Rattle.expression.specs.Nodes.{operands_of}
 use Rattle.memory.specs.Layout.{table_words}
-use Rattle.writing.specs.declared.order.Children.{Children}
 use Rattle.writing.specs.Order.{finished, leaf_fields, written}
 use Rattle.writing.specs.Origins.{written_traced}
 use Rattle.spelling.specs.Names.{function_name, prefix_name, infix_name}
@@ -44,19 +43,8 @@ pub data Laid : List Tree → Type 0 where
 -- ---- nodes
 
 -- above all nodes
-abbrev pub no_child : ℕ
-no_child = 18446744073709551615
-
-abbrev pub children : ℕ → ℕ → Children
-children left right = record { left = left; right = right }
-
-unfoldable pub children_in : Operands → Children
-children_in Operands.Nothing = children no_child no_child
-children_in (Operands.One a) = children a no_child
-children_in (Operands.Two a b) = children a b
-
-abbrev pub children_of : Expression → Children
-children_of e = children_in (operands_of e)
+abbrev pub above_all : ℕ
+above_all = 18446744073709551615
 
 -- a store has at most so many nodes
 abbrev pub most_rows : ℕ
@@ -89,6 +77,12 @@ pub record Listed (m : Memory) (n : ℕ) (rows : Memory) (table : List ℕ) (cou
 unfoldable pub visited : (m : Memory) (node below : ℕ) (done : List Tree) → List Tree
 visited m node below done = cond (ltb node below) (finished (tree_at m node) done) done
 
+-- and after its operands, left before right
+unfoldable pub visited_in : (m : Memory) (node : ℕ) (done : List Tree) → Operands → List Tree
+visited_in m node done Operands.Nothing = done
+visited_in m node done (Operands.One a) = visited m a node done
+visited_in m node done (Operands.Two a b) = visited m b node (visited m a node done)
+
 -- from a table to the next
 pub record Visited (m : Memory) (n : ℕ) (table : List ℕ) (node below count r : ℕ) (rows' : Memory) (table' : List ℕ) : Type 0 where
   pub listed : Listed m n rows' table' r
@@ -98,6 +92,15 @@ pub record Visited (m : Memory) (n : ℕ) (table : List ℕ) (node below count r
 abbrev pub Visits : (rows : Memory) (table : List ℕ) (node below count r : ℕ) (rows' : Memory) (table' : List ℕ) → Type 0
 Visits rows table node below count r rows' table' =
     (m : Memory) (n : ℕ) → Holds m n → (node < below → node < n) → Listed m n rows table count → Visited m n table node below count r rows' table'
+
+-- the same of a node's operands
+pub record VisitedIn (m : Memory) (n : ℕ) (table : List ℕ) (node count r : ℕ) (o : Operands) (rows' : Memory) (table' : List ℕ) : Type 0 where
+  pub listed : Listed m n rows' table' r
+  pub done : line_trees m table' r ≡ visited_in m node (line_trees m table count) o
+
+abbrev pub VisitsOperands : (rows : Memory) (table : List ℕ) (node count r : ℕ) (rows' : Memory) (table' : List ℕ) → Type 0
+VisitsOperands rows table node count r rows' table' =
+    (m : Memory) (n : ℕ) → Holds m n → node < n → Listed m n rows table count → VisitedIn m n table node count r (operands_of (expression_at rows node)) rows' table'
 
 -- ---- a line whose operands are numbers of lines
 

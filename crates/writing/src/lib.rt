@@ -14,7 +14,7 @@ use expression::refusal::Refusal;
 use line::write_row;
 use lines::{Plain, Traced, text_length, write_lines};
 use memory::read;
-use order::{NONE, visit};
+use order::visit;
 use store::reading::{expression_at, fields_at};
 use store::words::link_at;
 
@@ -65,7 +65,7 @@ pub fn write_listing(
     ensures writes { Writes (memory store.old) root result out.old out.new }
     ensures kept { KeepsRows (memory store.old) root (memory store.new) }
 {
-    let count = visit(store, table, root, NONE, 0);
+    let count = visit(store, table, root, usize::MAX, 0);
     if 1024 < count {
         return Err(Refusal::LongList(0));
     }
@@ -89,7 +89,7 @@ pub fn write_origins(
     requires { table_words ≤ length table.old }
     ensures { WritesTraced (memory store.old) root result out.old out.new }
 {
-    let lines = visit(store, table, root, NONE, 0);
+    let lines = visit(store, table, root, usize::MAX, 0);
     if 1024 < lines {
         return Err(Refusal::LongList(0));
     }

@@ -2,7 +2,7 @@
 // Word i of the table is the node of line i; the link of node k is the line of node k, if that line's node is k.
 ghost use Rattle.std.specs.Prelude.{◌≡◌};
 ghost use Rattle.store.specs.Memory.{memory};
-ghost use Rattle.writing.specs.Ordering.{children_in, Tells, Visits, Enters};
+ghost use Rattle.writing.specs.Ordering.{Tells, Visits, VisitsOperands, Enters};
 
 use expression::node::Operands;
 use memory::{put, read};
@@ -11,29 +11,6 @@ use store::words::{link_at, put_link};
 
 // A store has at most this many nodes, and the table this many lines.
 const MOST: usize = 4096;
-
-// Above all nodes: where there is no child.
-pub const NONE: usize = 0xFFFF_FFFF_FFFF_FFFF;
-
-#[derive(Clone, Copy)]
-pub struct Children {
-    pub left: usize,
-    pub right: usize,
-}
-
-// Both operands of a node.
-fn children_of(operands: Operands) -> Children
-    ensures { result ≡ children_in operands }
-{
-    match operands {
-        Operands::Nothing => Children {
-            left: NONE,
-            right: NONE,
-        },
-        Operands::One(left) => Children { left, right: NONE },
-        Operands::Two(left, right) => Children { left, right },
-    }
-}
 
 // Whether a node is among the first `count` of the table.
 fn is_listed(store: &[[u64; 4]], table: &[u64], node: usize, count: usize) -> bool
@@ -59,7 +36,23 @@ fn enter(store: &mut [[u64; 4]], table: &mut [u64], node: usize, count: usize) -
     count + 1
 }
 
+// The nodes below `node`, as far as they are not in the table.
+#[cycle(visiting)]
+fn visit_operands(store: &mut [[u64; 4]], table: &mut [u64], node: usize, count: usize) -> usize
+    ensures { VisitsOperands (memory store.old) table.old node count result (memory store.new) table.new }
+{
+    match operands_at(store, node) {
+        Operands::Nothing => count,
+        Operands::One(child) => visit(store, table, child, node, count),
+        Operands::Two(left, right) => {
+            let last = visit(store, table, left, node, count);
+            visit(store, table, right, node, last)
+        }
+    }
+}
+
 // The nodes below `node` and then itself, as far as they are not in the table; a number that is not below `below` is no node.
+#[cycle(visiting)]
 pub fn visit(
     store: &mut [[u64; 4]],
     table: &mut [u64],
@@ -75,16 +68,6 @@ pub fn visit(
     if is_listed(store, table, node, count) {
         return count;
     }
-    let c = children_of(operands_at(store, node));
-    let left = c.left;
-    let right = c.right;
-    let mut last = count;
-    // No call where there is no child.
-    if left < node {
-        last = visit(store, table, left, node, last);
-    }
-    if right < node {
-        last = visit(store, table, right, node, last);
-    }
+    let last = visit_operands(store, table, node, count);
     enter(store, table, node, last)
 }

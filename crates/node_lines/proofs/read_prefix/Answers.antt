@@ -3,18 +3,18 @@ use mathlib.Core.Path.{sym}
 use Rattle.expression.specs.Nodes.{grown}
 use Rattle.text.specs.Reading.{then}
 use Rattle.node_lines.specs.NodeLines.{prefix_fields, child_by}
-use Rattle.text.proofs.Fields.{told, told_place, told_bad, ends}
+use Rattle.text.proofs.Fields.{told, told_bad, ends}
 use Rattle.origins.proofs.Ending.{line_ends, end_below}
 use Rattle.node_lines.proofs.read_prefix.Goals as goal
 
 pub returns-in_err-o : goal.returns-in_err-o
 unfolding prefix_fields child_by then grown
-returns-in_err-o c = rw c.from_residual.ensures record { seen = λ earlier q. sym (rw (told_bad c.args.s.now (ends 9 c.end_field.ensures c.prefix_at.ensures) c.in_err-o.was)); inside = tt; within = tt }
+returns-in_err-o c = rw c.from_residual.ensures record { seen = λ earlier q. sym (rw (told_bad (ends 9 c.end_field.ensures c.first_prefix.ensures) c.in_err-o.was)); within = tt }
 
 pub returns-in_err-child : goal.returns-in_err-child
 unfolding prefix_fields child_by then grown
-returns-in_err-child c = rw c.from_residual-in_err-child.ensures record { seen = λ earlier q. sym (rw (told c.args.s.now (ends 9 c.end_field.ensures c.prefix_at.ensures) c.in_ok-o.was, q, told_bad c.args.s.now (line_ends c.end_line.ensures c.read_decimal.ensures) c.in_err-child.was)); inside = tt; within = tt }
+returns-in_err-child c = rw c.from_residual-in_err-child.ensures record { seen = λ earlier q. sym (rw (told (ends 9 c.end_field.ensures c.first_prefix.ensures) c.in_ok-o.was, q, told_bad (line_ends c.end_line.ensures c.read_decimal.ensures) c.in_err-child.was)); within = tt }
 
 pub returns : goal.returns
 unfolding prefix_fields child_by then grown
-returns c = record { seen = λ earlier q. sym (rw (told c.args.s.now (ends 9 c.end_field.ensures c.prefix_at.ensures) c.in_ok-o.was, q, told c.args.s.now (line_ends c.end_line.ensures c.read_decimal.ensures) c.in_ok-child.was, c.from_code.ensures)); inside = told_place c.args.s.now (line_ends c.end_line.ensures c.read_decimal.ensures) c.in_ok-child.was; within = end_below c.args.s.now _ _ (line_ends c.end_line.ensures c.read_decimal.ensures) c.in_ok-child.was }
+returns c = record { seen = λ earlier q. sym (rw (told (ends 9 c.end_field.ensures c.first_prefix.ensures) c.in_ok-o.was, q, told (line_ends c.end_line.ensures c.read_decimal.ensures) c.in_ok-child.was, c.from_code.ensures)); within = end_below _ _ (line_ends c.end_line.ensures c.read_decimal.ensures) c.in_ok-child.was }

@@ -4,8 +4,8 @@ use Rattle.sheet.specs.Table.{line_of}
 use Rattle.sheet.proofs.Sheets.{Reading}
 use Rattle.sheet.proofs.read_sheet.Given as goal
 
-abbrev pub invariant-loop-at : goal.invariant-loop-at
-invariant-loop-at l = Reading l.text l.initial.table l.table l.at l.counts
+abbrev pub invariant-loop-first : goal.invariant-loop-first
+invariant-loop-first l = Reading l.text l.initial.table l.table l.rest l.counts
 
-abbrev pub decreases-loop-at : goal.decreases-loop-at
-decreases-loop-at l = 1537 - line_of l.counts
+abbrev pub decreases-loop-first : goal.decreases-loop-first
+decreases-loop-first l = 1537 - line_of l.counts

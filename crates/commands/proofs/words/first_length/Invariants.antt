@@ -1,6 +1,4 @@
 -- `first_length` meets its contract. Assumes nothing.
-use Prim.Native.Nat.{◌-◌}
-use lib.ListN.{length}
 use Rattle.commands.proofs.FirstWord.{Within}
 use Rattle.commands.proofs.words.first_length.Given as goal
 

@@ -1,18 +1,13 @@
--- `next_line` meets its contract. The invariant is `Searching`. Assumes nothing.
-use mathlib.Core.Path.{refl, ap, ◌∙◌}
-use lib.ListN.{drop}
-use native.Mathlib.Omega.{arith}
+-- `next_line` meets its contract: what is left has the same next line. Assumes nothing.
+use Rattle.std.proofs.Common.{◌∙◌}
 use Rattle.console.proofs.TapeLines.{line_on, line_ends, line_none}
 use Rattle.console.proofs.tape.next_line.Goals as goal
 
-pub loop-i-init : goal.loop-i-init
-loop-i-init c = record { from = omega arith; most = omega arith; rest = refl }
+pub returns-then-b-eq-LF : goal.returns-then-b-eq-LF
+returns-then-b-eq-LF c = line_ends c.in-Some.ensures.cases c.if-b-eq-LF.true ∙ c.loop-b.invariant
 
-pub returns-then-s-i-eq-LF : goal.returns-then-s-i-eq-LF
-returns-then-s-i-eq-LF c = (omega (arith, c.loop-i.invariant.from), omega arith, line_ends c.loop-i.invariant c.loop-i-test.true c.if-s-i-eq-LF.true)
-
-pub loop-i-preserved : goal.loop-i-preserved
-loop-i-preserved c = line_on c.loop-i.invariant c.loop-i-test.true c.if-s-i-eq-LF.false
+pub loop-b-preserved : goal.loop-b-preserved
+loop-b-preserved c = line_on c.in-Some.ensures.cases c.if-b-eq-LF.false ∙ c.loop-b.invariant
 
 pub returns : goal.returns
-returns c = (omega (arith, c.requires), omega arith, ap (λ i. drop i c.args.s.now) (omega (arith, c.loop-i.invariant.most, c.loop-i-test.false)) ∙ line_none c.loop-i.invariant c.loop-i-test.false)
+returns c = line_none _ c.in_default.ensures.cases ∙ c.loop-b.invariant

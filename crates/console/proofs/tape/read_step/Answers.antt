@@ -8,20 +8,20 @@ use borrow.Author.Rules.{rules}
 use Rattle.console.proofs.tape.read_step.Goals as goal
 
 pub loop-k-init : goal.loop-k-init
-loop-k-init c = step_begins _ _ _ (search rules)
+loop-k-init c = step_begins _ _ (search rules)
 
 pub returns-in_default : goal.returns-in_default
 unfolding or_zeros
-returns-in_default c = ap or_zeros (step_none c.loop-k.invariant c.stop_after.ensures c.loop-k-test.true (told_bad c.args.s.now c.read_byte.ensures c.in_default.is))
+returns-in_default c = ap or_zeros (step_none c.loop-k.invariant c.stop_after.ensures c.loop-k-test.true (told_bad c.read_byte.ensures c.in_default.is))
 
 pub overflow_cast-step : goal.overflow_cast-step
-overflow_cast-step c = omega (arith, (byte_only _ _ (told c.args.s.now c.read_byte.ensures c.in-Some.is)).0)
+overflow_cast-step c = omega (arith, (byte_only _ _ (told c.read_byte.ensures c.in-Some.is)).0)
 
 pub bounds-step-k : goal.bounds-step-k
 bounds-step-k c = omega (arith, c.loop-k.invariant.long, c.loop-k-test.true)
 
 pub loop-k-preserved : goal.loop-k-preserved
-loop-k-preserved c = step_on c.loop-k.invariant c.stop_after.ensures c.loop-k-test.true (told c.args.s.now c.read_byte.ensures c.in-Some.is)
+loop-k-preserved c = step_on c.loop-k.invariant c.stop_after.ensures c.loop-k-test.true (told c.read_byte.ensures c.in-Some.is)
 
 pub returns : goal.returns
 returns c = step_done c.loop-k.invariant c.loop-k-test.false

@@ -4,4 +4,4 @@ use Rattle.console.proofs.TapeLines.{Taking}
 use Rattle.console.proofs.tape.read_tape.Given as goal
 
 abbrev pub invariant-loop : goal.invariant-loop
-invariant-loop l = Taking l.initial.out l.text l.out (513 - l.counter) l.at l.n
+invariant-loop l = Taking l.initial.out l.text l.out l.rest (513 - l.counter) l.n

@@ -4,4 +4,4 @@ use Rattle.faults.proofs.Telling.{Fielding}
 use Rattle.faults.proofs.fields.fields_fault.Given as goal
 
 abbrev pub invariant-loop-k : goal.invariant-loop-k
-invariant-loop-k l = Fielding l.text (form_with l.origin l.form) l.at l.i l.k
+invariant-loop-k l = Fielding l.line (form_with l.origin l.form) l.rest l.k

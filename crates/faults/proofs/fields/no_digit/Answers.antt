@@ -1,20 +1,13 @@
 -- `no_digit` meets its contract. The measure is what is left of the text. Assumes nothing.
-use mathlib.Core.Path.{refl, sym, ◌∙◌}
-use native.Mathlib.Omega.{arith}
-use Rattle.faults.proofs.Telling.{digit_inside, digit_passed, digit_none}
+use Rattle.std.proofs.Common.{sym, ◌∙◌}
+use Rattle.faults.proofs.Telling.{digit_passed, digit_none, no_byte}
 use Rattle.faults.proofs.fields.no_digit.Goals as goal
 
-pub loop-i-init : goal.loop-i-init
-loop-i-init c = refl
+pub returns-then-base-digit : goal.returns-then-base-digit
+returns-then-base-digit c = digit_none c.in-Some.ensures.cases c.args.base (rw c.digit.ensures at c.if-base-digit.true) ∙ c.loop-b.invariant
 
-pub overflow_add-i : goal.overflow_add-i
-overflow_add-i c = omega (arith, digit_inside c.args.text.now c.args.base c.loop-i.i c.requires (rw (c.digit.ensures, c.byte_at.ensures) at c.loop-i-test.true))
-
-pub loop-i-smaller : goal.loop-i-smaller
-loop-i-smaller c = omega (arith, digit_inside c.args.text.now c.args.base c.loop-i.i c.requires (rw (c.digit.ensures, c.byte_at.ensures) at c.loop-i-test.true))
-
-pub loop-i-preserved : goal.loop-i-preserved
-loop-i-preserved c = sym (digit_passed c.args.text.now c.args.base c.loop-i.i c.requires (rw (c.digit.ensures, c.byte_at.ensures) at c.loop-i-test.true)) ∙ c.loop-i.invariant
+pub loop-b-preserved : goal.loop-b-preserved
+loop-b-preserved c = sym (digit_passed c.in-Some.ensures.cases c.args.base (rw c.digit.ensures at c.if-base-digit.false)) ∙ c.loop-b.invariant
 
 pub returns : goal.returns
-returns c = digit_none c.args.text.now c.args.base c.loop-i.i (rw (c.digit.ensures, c.byte_at.ensures) at c.loop-i-test.false) ∙ c.loop-i.invariant
+returns c = no_byte _ c.args.base c.in_default.ensures.cases ∙ c.loop-b.invariant

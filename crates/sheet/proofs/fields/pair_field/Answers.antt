@@ -6,12 +6,12 @@ use Rattle.sheet.proofs.fields.pair_field.Goals as goal
 
 pub returns-in_err-re : goal.returns-in_err-re
 unfolding complex_field then
-returns-in_err-re c = rw c.from_residual.ensures (rw (sym (rw c.in_err-re.was at c.hex_field.ensures.answer)), tt)
+returns-in_err-re c = rw c.from_residual.ensures (rw (sym (rw c.in_err-re.was at c.hex_field.ensures)))
 
 pub returns-in_err-im : goal.returns-in_err-im
 unfolding complex_field then
-returns-in_err-im c = rw c.from_residual-in_err-im.ensures (rw (sym (rw c.in_ok-re.was at c.hex_field.ensures.answer), sym (rw c.in_err-im.was at c.hex_field-2.ensures.answer)), tt)
+returns-in_err-im c = rw c.from_residual-in_err-im.ensures (rw (sym (rw c.in_ok-re.was at c.hex_field.ensures), sym (rw c.in_err-im.was at c.hex_field-2.ensures)))
 
 pub returns : goal.returns
 unfolding complex_field then
-returns c = (rw (sym (rw c.in_ok-re.was at c.hex_field.ensures.answer), sym (rw c.in_ok-im.was at c.hex_field-2.ensures.answer)), rw c.in_ok-im.was at c.hex_field-2.ensures.inside)
+returns c = rw (sym (rw c.in_ok-re.was at c.hex_field.ensures), sym (rw c.in_ok-im.was at c.hex_field-2.ensures))

@@ -32,4 +32,4 @@ pub overflow_add-more : goal.overflow_add-more
 overflow_add-more c = omega arith
 
 pub returns : goal.returns
-returns c = rw c.put_cell.ensures (cell_taken _ c.args.table.now c.args.counts c.requires.1 c.requires.0 c.line_number-line.result c.line_number-line.ensures _ _ _ _ _ _ c.if-count-ge-MOST_CELLS.false (rw c.in-Some.is at c.read_cell.ensures.1).1 (rw c.in-Some.is at c.read_cell.ensures.0) (sym c.if-not-cell_may.false ∙ c.cell_may.ensures) (rw c.in-Some.is at c.read_cell.ensures.2))
+returns c = rw c.put_cell.ensures (cell_taken c.args.table.now c.args.counts c.requires.1 c.requires.0 c.line_number-line.result c.line_number-line.ensures _ _ _ _ _ _ c.if-count-ge-MOST_CELLS.false (rw c.in-Some.is at c.read_cell.ensures.1).1 (rw c.in-Some.is at c.read_cell.ensures.0) (sym c.if-not-cell_may.false ∙ c.cell_may.ensures))

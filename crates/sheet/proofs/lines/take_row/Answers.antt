@@ -19,4 +19,4 @@ pub overflow_add-more : goal.overflow_add-more
 overflow_add-more c = omega arith
 
 pub returns : goal.returns
-returns c = row_taken _ c.args.table.now c.args.counts c.requires.1 c.requires.0 c.line_number-line.result c.line_number-line.ensures _ _ _ _ _ _ _ c.if-count-ge-MOST_FUNCTIONS.false (rw c.in-Some.is at c.read_row.ensures.0) c.put_row.ensures (rw c.in-Some.is at c.read_row.ensures.2)
+returns c = row_taken c.args.table.now c.args.counts c.requires.1 c.requires.0 c.line_number-line.result c.line_number-line.ensures _ _ _ _ _ _ _ c.if-count-ge-MOST_FUNCTIONS.false (rw c.in-Some.is at c.read_row.ensures.0) c.put_row.ensures

@@ -11,13 +11,13 @@ pub returns-then-count-ge-MOST_VARIABLES : goal.returns-then-count-ge-MOST_VARIA
 returns-then-count-ge-MOST_VARIABLES c = refuses (variable_many c.args.table.now c.args.counts c.line_number-line.result c.line_number-line.ensures _ _ c.if-count-ge-MOST_VARIABLES.true)
 
 pub returns-in_default : goal.returns-in_default
-returns-in_default c = refuses (variable_malformed c.args.table.now c.args.counts c.line_number-line.result c.line_number-line.ensures _ _ c.if-count-ge-MOST_VARIABLES.false (rw c.in_default.is at c.read_variable.ensures.0))
+returns-in_default c = refuses (variable_malformed c.args.table.now c.args.counts c.line_number-line.result c.line_number-line.ensures _ _ c.if-count-ge-MOST_VARIABLES.false (rw c.in_default.is at c.read_variable.ensures))
 
 pub variable_may-requires : goal.variable_may-requires
 variable_may-requires c = c.requires.1
 
 pub returns-then-not-variable_may : goal.returns-then-not-variable_may
-returns-then-not-variable_may c = refuses (variable_misplaced c.args.table.now c.args.counts c.line_number-line.result c.line_number-line.ensures _ _ c.if-count-ge-MOST_VARIABLES.false (rw c.in-Some.is at c.read_variable.ensures.0) (sym c.if-not-variable_may.true ∙ c.variable_may.ensures))
+returns-then-not-variable_may c = refuses (variable_misplaced c.args.table.now c.args.counts c.line_number-line.result c.line_number-line.ensures _ _ c.if-count-ge-MOST_VARIABLES.false (rw c.in-Some.is at c.read_variable.ensures) (sym c.if-not-variable_may.true ∙ c.variable_may.ensures))
 
 pub put_variable-requires : goal.put_variable-requires
 put_variable-requires c = c.if-count-ge-MOST_VARIABLES.false
@@ -26,4 +26,4 @@ pub overflow_add-more : goal.overflow_add-more
 overflow_add-more c = omega arith
 
 pub returns : goal.returns
-returns c = rw c.put_variable.ensures (variable_taken _ c.args.table.now c.args.counts c.requires.1 c.requires.0 c.line_number-line.result c.line_number-line.ensures _ _ _ _ _ c.if-count-ge-MOST_VARIABLES.false (rw c.in-Some.is at c.read_variable.ensures.0) (sym c.if-not-variable_may.false ∙ c.variable_may.ensures) (rw c.in-Some.is at c.read_variable.ensures.1))
+returns c = rw c.put_variable.ensures (variable_taken c.args.table.now c.args.counts c.requires.1 c.requires.0 c.line_number-line.result c.line_number-line.ensures _ _ _ _ _ c.if-count-ge-MOST_VARIABLES.false (rw c.in-Some.is at c.read_variable.ensures) (sym c.if-not-variable_may.false ∙ c.variable_may.ensures))

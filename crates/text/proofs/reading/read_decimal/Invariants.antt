@@ -4,7 +4,7 @@ use Rattle.text.proofs.Running.{Going}
 use Rattle.text.proofs.reading.read_decimal.Given as goal
 
 abbrev pub invariant-loop-d : goal.invariant-loop-d
-invariant-loop-d l = Going l.s l.at l.limit l.first l.d l.v l.i
+invariant-loop-d l = Going l.s l.limit l.first l.d l.v l.i
 
 abbrev pub decreases-loop-d : goal.decreases-loop-d
 decreases-loop-d l = length l.s - l.i

@@ -3,4 +3,4 @@ use Rattle.text.proofs.Running.{Hexing}
 use Rattle.text.proofs.reading.read_hex.Given as goal
 
 abbrev pub invariant-loop-b : goal.invariant-loop-b
-invariant-loop-b l = Hexing l.s l.at l.v l.worst l.b-index
+invariant-loop-b l = Hexing l.s l.v l.worst l.b-index

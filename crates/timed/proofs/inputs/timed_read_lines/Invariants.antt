@@ -6,9 +6,9 @@ use lib.ListN.{length}
 use Rattle.timed.specs.Reading.{AnsweredBy}
 use Rattle.timed.proofs.inputs.timed_read_lines.Given as goal
 
-abbrev pub invariant-loop-at : goal.invariant-loop-at
-invariant-loop-at l =
-    (l.lines ≤ 1024) × (length l.table ≡ length l.initial.table) × ((r : ℕ) (table' : List ℕ) → AnsweredBy (1025 - l.lines) l.text l.at l.lines l.table r table' → AnsweredBy 1025 l.text 0 0 l.initial.table r table')
+abbrev pub invariant-loop-first : goal.invariant-loop-first
+invariant-loop-first l =
+    (l.lines ≤ 1024) × (length l.table ≡ length l.initial.table) × ((r : ℕ) (table' : List ℕ) → AnsweredBy (1025 - l.lines) l.rest l.lines l.table r table' → AnsweredBy 1025 l.text 0 l.initial.table r table')
 
-abbrev pub decreases-loop-at : goal.decreases-loop-at
-decreases-loop-at l = 1024 - l.lines
+abbrev pub decreases-loop-first : goal.decreases-loop-first
+decreases-loop-first l = 1024 - l.lines

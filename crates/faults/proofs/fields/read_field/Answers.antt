@@ -1,7 +1,7 @@
--- `field_at` meets its contract: the tests on the kind pick the case of the definition. Assumes nothing.
+-- `read_field` meets its contract: the tests on the kind pick the case of the definition. Assumes nothing.
 use borrow.Author.Tests.{eq-eqb, ne_eqb}
 use Rattle.faults.specs.Faulting.{read}
-use Rattle.faults.proofs.fields.field_at.Goals as goal
+use Rattle.faults.proofs.fields.read_field.Goals as goal
 
 pub returns-then-kind-eq72 : goal.returns-then-kind-eq72
 unfolding read
@@ -21,4 +21,4 @@ returns-then-kind-eq64 c = rw (ne_eqb _ _ c.if-kind-eq72.false, ne_eqb _ _ c.if-
 
 pub returns : goal.returns
 unfolding read
-returns c = rw (ne_eqb _ _ c.if-kind-eq72.false, ne_eqb _ _ c.if-kind-eq78.false, ne_eqb _ _ c.if-kind-eq73.false, ne_eqb _ _ c.if-kind-eq64.false) c.words_at.ensures
+returns c = rw (ne_eqb _ _ c.if-kind-eq72.false, ne_eqb _ _ c.if-kind-eq78.false, ne_eqb _ _ c.if-kind-eq73.false, ne_eqb _ _ c.if-kind-eq64.false) c.read_words.ensures
