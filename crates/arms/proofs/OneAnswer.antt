@@ -1,18 +1,21 @@
 -- Two answers that a contract of `arms` allows are equal: an arm is determined by its plan, since a store has each tree once. Assumes nothing.
 use mathlib.Core.Path.{◌≡◌, refl, sym, ap, ◌∙◌}
-use mathlib.Core.Bool.{Bool, cond}
+use mathlib.Core.Bool.{Bool, true, false, cond}
 use Rattle.std.specs.Prelude.{Option, Some, None}
 use Rattle.complex.specs.declared.Complex.{Complex}
 use mathlib.Core.List.{List, [], ◌∷◌, ◌++◌}
-use Prim.Native.Nat.{ℕ, ◌+◌, ◌*◌, ◌<◌}
+use Prim.Native.Nat.{ℕ, zero, suc, ◌+◌, ◌*◌, ◌<◌}
+use native.Mathlib.Omega.{arith}
+use native.Mathlib.Decide.{ℕ_discrete}
 use lib.Dec.{eqb}
 use lib.ListN.{get_or}
 use Rattle.expression.specs.declared.InfixOperator.{InfixOperator}
 use Rattle.expression.specs.declared.node.Expression.{Expression}
-use Rattle.expression.specs.Trees.{Tree, leaf, pi}
-use Rattle.expression.specs.Nodes.{Within}
+use Rattle.expression.specs.Trees.{Tree, leaf, pi, function_call, prefixed, infixed}
+use Rattle.expression.specs.Nodes.{Within, grown}
 use Rattle.expression.proofs.OneNode.{ByTree, node_by, node_back}
-use Rattle.store.specs.Memory.{Memory, columns, tree_at, tree_of}
+use Rattle.store.specs.Nodes.{expression_as, expression_of}
+use Rattle.store.specs.Memory.{Memory, columns, fields_on, expression_at, tree_at, tree_of}
 use Rattle.store.specs.Held.{Holds}
 use Rattle.store.proofs.OneAnswer.{tells}
 use Rattle.arms.specs.declared.Arm.{Arm}
@@ -144,19 +147,13 @@ module _ {m : Memory} {n : ℕ} (h : Holds m n) where
       → LikensTo test m e k r → LikensTo test m e k r' → r ≡ r'
   one_likened test e k t w a p q = p n t h w a ∙ sym (q n t h w a)
 
-  -- ---- what is found exactly where a test holds: `negated`, `parts_of`, `beside_last` and `beside_first`
-
-  pub one_operand : (e : Expression) {r r' : Option ℕ} → Within n e → FindsOperand e r → FindsOperand e r' → r ≡ r'
-  one_operand e w p q = one_found _ _ (λ x y a b. one_at a b) _ _ (p m n w) (q m n w)
-
-  pub one_pair : (op : InfixOperator) (e : Expression) {r r' : Option (ℕ × ℕ)} → Within n e → FindsParts op e r → FindsParts op e r' → r ≡ r'
-  one_pair op e w p q = one_found _ _ (λ x y a b i. (one_at a.0 b.0 i, one_at a.1 b.1 i)) _ _ (p m n w) (q m n w)
+  -- ---- what is found beside: `beside_last` and `beside_first`
 
   pub one_beside : (test : Tree → Tree → Bool) (part : Tree → Tree) (e : Expression) (k : ℕ) (t : Tree) {r r' : Option ℕ} → Within n e → At m n k t
       → FindsBeside test part m e k r → FindsBeside test part m e k r' → r ≡ r'
   one_beside test part e k t w a p q = one_found _ _ (λ x y c d. one_at c d) _ _ (p n t h w a) (q n t h w a)
 
--- ---- what is said in every memory needs no store: `is_zero_number`, `is_one_number` and `numbers_of`
+-- ---- what is said in every memory needs no store: `is_zero_number`, `is_one_number`, `numbers_of`, `negated` and `parts_of`
 
 pub one_look : {A : Type 0} (want : Memory → A) {r r' : A} → ((m : Memory) → r ≡ want m) → ((m : Memory) → r' ≡ want m) → r ≡ r'
 one_look want p q = p (columns [] [] [] []) ∙ sym (q (columns [] [] [] []))
@@ -166,3 +163,84 @@ one_told test e = one_look (λ m. test (tree_of m e))
 
 pub one_of_numbers : (a b : Expression) {r r' : Option (Complex × Complex)} → FindsNumbers a b r → FindsNumbers a b r' → r ≡ r'
 one_of_numbers a b p q = let m = columns [] [] [] [] in one_found _ _ (λ x y c d i. ((c.0 ∙ sym d.0) i, (c.1 ∙ sym d.1) i)) _ _ (p m) (q m)
+
+-- a memory in which node j alone is pi tells it from all others
+unfoldable spot : ℕ → List ℕ
+spot zero = 2 ∷ []
+spot (suc j) = 0 ∷ spot j
+
+at_spot : (j : ℕ) → get_or (spot j) j 0 ≡ 2
+unfolding spot
+at_spot zero = refl
+at_spot (suc j) = at_spot j
+
+off_spot : (j k : ℕ) → (j ≡ k → ⊥) → get_or (spot j) k 0 ≡ 0
+unfolding spot
+off_spot zero zero n = absurd (n refl)
+off_spot zero (suc k) n = refl
+off_spot (suc j) zero n = refl
+off_spot (suc j) (suc k) n = off_spot j k (λ e. n (ap suc e))
+
+one_pi : ℕ → Memory
+one_pi j = columns (spot j) [] [] []
+
+is_leaf : Tree → Bool
+is_leaf (leaf l) = true
+is_leaf (function_call f t) = false
+is_leaf (prefixed o t) = false
+is_leaf (infixed o l r) = false
+
+pi_there : (j : ℕ) → is_leaf (tree_at (one_pi j) j) ≡ true
+unfolding tree_at expression_at fields_on expression_of expression_as grown is_leaf one_pi
+pi_there j = rw (at_spot j) refl
+
+none_else : (j k : ℕ) → (j ≡ k → ⊥) → is_leaf (tree_at (one_pi j) k) ≡ false
+unfolding tree_at expression_at fields_on expression_of expression_as grown is_leaf one_pi
+none_else j k n = rw (off_spot j k n) refl
+
+told_apart : {n j k : ℕ} {t : Tree} → At (one_pi j) n j t → At (one_pi j) n k t → j ≡ k
+told_apart {j = j} {k = k} p q = elim (ℕ_discrete j k) [
+  | yes e ↦ e
+  | no e ↦ never (sym (none_else j k e) ∙ ap is_leaf (q.tree ∙ sym p.tree) ∙ pi_there j)
+]
+
+-- more nodes than an expression's operands
+above : Expression → ℕ
+above (Expression.Number z) = 0
+above Expression.PiConstant = 0
+above (Expression.Variable v) = 0
+above (Expression.Address region index) = 0
+above (Expression.FunctionCall f a) = a + 1
+above (Expression.Prefix o a) = a + 1
+above (Expression.Infix o a b) = a + b + 1
+
+within_above : (e : Expression) → Within (above e) e
+unfolding above
+within_above (Expression.Number z) = tt
+within_above Expression.PiConstant = tt
+within_above (Expression.Variable v) = tt
+within_above (Expression.Address region index) = tt
+within_above (Expression.FunctionCall f a) = omega arith
+within_above (Expression.Prefix o a) = omega arith
+within_above (Expression.Infix o a b) = (omega arith, omega arith)
+
+pub one_operand : (e : Expression) {r r' : Option ℕ} → FindsOperand e r → FindsOperand e r' → r ≡ r'
+one_operand e {r} {r'} p q = go r r' p q
+  where
+    go : (r r' : Option ℕ) → FindsOperand e r → FindsOperand e r' → r ≡ r'
+    go None None p q = refl
+    go None (Some k) p q = never (sym (p (one_pi 0) (above e) (within_above e)) ∙ (q (one_pi 0) (above e) (within_above e)).0)
+    go (Some j) None p q = never (sym (q (one_pi 0) (above e) (within_above e)) ∙ (p (one_pi 0) (above e) (within_above e)).0)
+    go (Some j) (Some k) p q = ap Some (told_apart (p (one_pi j) (above e) (within_above e)).1 (q (one_pi j) (above e) (within_above e)).1)
+
+pub one_pair : (op : InfixOperator) (e : Expression) {r r' : Option (ℕ × ℕ)} → FindsParts op e r → FindsParts op e r' → r ≡ r'
+one_pair op e {r} {r'} p q = go r r' p q
+  where
+    go : (r r' : Option (ℕ × ℕ)) → FindsParts op e r → FindsParts op e r' → r ≡ r'
+    go None None p q = refl
+    go None (Some k) p q = never (sym (p (one_pi 0) (above e) (within_above e)) ∙ (q (one_pi 0) (above e) (within_above e)).0)
+    go (Some j) None p q = never (sym (q (one_pi 0) (above e) (within_above e)) ∙ (p (one_pi 0) (above e) (within_above e)).0)
+    go (Some (a, b)) (Some (c, d)) p q =
+        let x : a ≡ c = told_apart (p (one_pi a) (above e) (within_above e)).1.0 (q (one_pi a) (above e) (within_above e)).1.0 in
+        let y : b ≡ d = told_apart (p (one_pi b) (above e) (within_above e)).1.1 (q (one_pi b) (above e) (within_above e)).1.1 in
+        λ i. Some (x i, y i)

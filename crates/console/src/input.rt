@@ -3,6 +3,7 @@ ghost use Rattle.std.specs.Prelude.{◌≡◌, min, length};
 ghost use Rattle.io.specs.Counts.{IsPrefixLen};
 ghost use Rattle.console.specs.Parting.{Parted};
 ghost use Rattle.console.specs.Slices.{SheetPart};
+ghost use Rattle.console.specs.declared.input.Unread.{Unread as Whys};
 
 use std::io;
 use std::io::Read;
@@ -17,6 +18,8 @@ pub enum Unread {
 }
 
 impl From<io::Error> for Unread {
+    ghost from_gives = { λ error unread. unread ≡ Whys.Failed };
+
     fn from(_error: io::Error) -> Unread {
         Unread::Failed
     }

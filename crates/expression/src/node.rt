@@ -1,5 +1,5 @@
 // A node: an expression whose operands are numbers of earlier nodes, what its operands are, and the same node with others.
-ghost use Rattle.std.specs.Prelude.{◌≡◌, ℕ};
+ghost use Rattle.std.specs.Prelude.{◌≡◌};
 ghost use Rattle.expression.specs.Nodes as Nodes;
 
 use super::{ExpressionFunction, InfixOperator, PrefixOperator};
@@ -52,17 +52,5 @@ pub fn with_operands(e: Expression, left: usize, last: usize) -> Expression
         | Expression::PiConstant
         | Expression::Variable(_)
         | Expression::Address(_, _) => e,
-    }
-}
-
-// The same operation on what `look` gives for its operands.
-pub fn map_operands<F: Fn(usize) -> usize>(e: Expression, look: F) -> Expression
-    requires { F.IsAlwaysCallable look }
-    ensures { (given : ℕ → ℕ) → ((k r : ℕ) → F.post look k r → r ≡ given k) → result ≡ Nodes.mapped given e }
-{
-    match operands_of(e) {
-        Operands::Nothing => e,
-        Operands::One(a) => with_operands(e, 0, look(a)),
-        Operands::Two(a, b) => with_operands(e, look(a), look(b)),
     }
 }

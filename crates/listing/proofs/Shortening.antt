@@ -1,7 +1,7 @@
 -- A line of a listing is taken away from the text: the rest is never longer, so that the fuel of `listing` never runs out. Assumes nothing.
 use mathlib.Core.List.{List}
 use mathlib.Core.Bool.{Bool, cond, ◌&&◌}
-use Prim.Native.Nat.{ℕ, ◌≤◌}
+use Prim.Native.Nat.{ℕ}
 use lib.ListN.{length}
 use lib.Dec.{ltb, eqb}
 use Rattle.expression.specs.Trees.{Tree}
@@ -10,12 +10,12 @@ use Rattle.store.specs.Storing.{Answer, intern}
 use Rattle.text.specs.Letters.{letter}
 use Rattle.text.specs.Reading.{Read, is, bad, tab, lf, ended, decimal_field}
 use Rattle.text.specs.Lines.{none, above_last}
-use Rattle.text.proofs.Shortening.{Shorter, ShorterLine, Shortens, as_long, shorter_cond, shorter_line_cond, shorter_then, shorter_ended, shorter_decimal}
+use Rattle.text.proofs.Shortening.{EndOf, Shorter, ShorterLine, Shortens, as_long, shorter_cond, shorter_line_cond, shorter_then, shorter_ended, shorter_decimal}
 use Rattle.node_lines.specs.NodeLines.{child_field, node_fields}
 use Rattle.node_lines.proofs.Shortening.{child_shorter, node_shorter}
 use Rattle.listing.specs.Listings.{Known, Swap, stored, formed, node_line, swap_fields, above_variable, swapped, swap_line, listing_line}
 
-stored_shorter : (k : Known) (bs rest : List ℕ) (a : Answer) → length rest ≤ length bs → ShorterLine bs (stored k rest a)
+stored_shorter : (k : Known) (bs rest : List ℕ) (a : Answer) → EndOf bs rest → ShorterLine bs (stored k rest a)
 unfolding stored
 stored_shorter k bs rest (Storing.gives t s) h = h
 stored_shorter k bs rest (Storing.refused why s) h = tt

@@ -9,12 +9,12 @@ ghost use Rattle.store.specs.Tracing.{Traced};
 ghost use Rattle.listing.specs.Listings.{node_line, listing_line};
 ghost use Rattle.listing.specs.Tables.{moved, Reads, FindsSwap, Above, Ready, TakesSwap, TakesLine, ReadsLines, root_of, LooksUp};
 
-use expression::node::{Expression, map_operands};
+use expression::node::Expression;
 use expression::refusal::Refusal;
 use memory::halving::search;
 use memory::layout::{DESK_WORDS, SWAPS_FROM};
 use memory::{put, read};
-use node_lines::{LF, TAB, read_node};
+use node_lines::{LF, TAB, map_operands, read_node};
 use store::desk::refusal_of;
 use store::{add, mark, start};
 use text::reading::{decimal_field, end_field};

@@ -1,7 +1,7 @@
 -- Two answers that the contract of `read_node` allows are one. Assumes nothing.
-use mathlib.Core.Path.{◌≡◌, refl, sym, ap, ◌∙◌}
+use mathlib.Core.Path.{◌≡◌, refl, sym, ap, subst, ◌∙◌}
 use mathlib.Core.List.{List, [], ◌∷◌}
-use Prim.Native.Nat.{ℕ, zero, suc, ◌+◌, ◌<◌}
+use Prim.Native.Nat.{ℕ, zero, suc, ◌+◌, ◌-◌, ◌<◌}
 use native.Mathlib.Omega.{arith}
 use lib.ListN.{length, get_or}
 use Rattle.expression.specs.declared.node.Expression.{Expression}
@@ -10,7 +10,11 @@ use Rattle.expression.specs.Nodes.{grown}
 use Rattle.expression.proofs.OneNode.{ByTree, one_node}
 use Rattle.text.specs.Reading.{Read}
 use Rattle.std.specs.Prelude.{Option, Some, None}
+use Rattle.text.proofs.OneAnswer.{place_in, LeftAt}
+use Rattle.text.proofs.Shortening.{EndOf, end_place, Shorter}
+use Rattle.node_lines.specs.NodeLines.{node_fields}
 use Rattle.node_lines.specs.Seen.{Line, line_seen, Finds}
+use Rattle.node_lines.proofs.Shortening.{node_shorter}
 
 -- earlier lines that differ: line k is the variable k
 unfoldable variables : (from n : ℕ) → List Tree
@@ -46,17 +50,37 @@ abbrev pub said : Line → Option (Expression × List ℕ)
 said (Some (e, rest)) = Some (e, rest.now)
 said None = None
 
+place_said : (text : List ℕ) → Option (Expression × List ℕ) → ℕ
+place_said text (Some (e, rest)) = length text - length rest
+place_said text None = length text
+
+place_is : (text : List ℕ) (r : Line) → place_in text r ≡ place_said text (said r)
+unfolding place_said
+place_is text (Some (e, rest)) = refl
+place_is text None = refl
+
 module _ {want : List Tree → Read Tree} {lines : ℕ} where
   seen_same : (r r' : Line) → Finds want lines r → Finds want lines r' → line_seen (variables 0 lines) r ≡ line_seen (variables 0 lines) r'
   seen_same r r' p q = p.seen (variables 0 lines) (how_many 0 lines) ∙ sym (q.seen (variables 0 lines) (how_many 0 lines))
 
-  pub one_line : (r r' : Line) → Finds want lines r → Finds want lines r' → said r ≡ said r'
-  one_line (Some (e, rest)) (Some (e', rest')) p q =
+  one_said : (r r' : Line) → Finds want lines r → Finds want lines r' → said r ≡ said r'
+  one_said (Some (e, rest)) (Some (e', rest')) p q =
       let s = seen_same (Some (e, rest)) (Some (e', rest')) p q in
       let g : grown (λ k. get_or (variables 0 lines) k (leaf pi)) e ≡ grown (λ k. get_or (variables 0 lines) k (leaf pi)) e' = cc in
       let n = one_node (tells lines) e e' p.within q.within g in
       let k : rest.now ≡ rest'.now = cc in
       λ i. Some (n i, k i)
-  one_line (Some (e, rest)) None p q = let s = seen_same (Some (e, rest)) None p q in let z : ◌≡◌ {A = ℕ} 0 1 = cc in absurd (omega arith)
-  one_line None (Some (e', rest')) p q = let s = seen_same None (Some (e', rest')) p q in let z : ◌≡◌ {A = ℕ} 0 1 = cc in absurd (omega arith)
-  one_line None None p q = refl
+  one_said (Some (e, rest)) None p q = let s = seen_same (Some (e, rest)) None p q in let z : ◌≡◌ {A = ℕ} 0 1 = cc in absurd (omega arith)
+  one_said None (Some (e', rest')) p q = let s = seen_same None (Some (e', rest')) p q in let z : ◌≡◌ {A = ℕ} 0 1 = cc in absurd (omega arith)
+  one_said None None p q = refl
+
+  -- with the place of these bytes in the text
+  pub one_line : (text : List ℕ) (r r' : Line) → Finds want lines r → Finds want lines r' → (said r ≡ said r') × (place_in text r ≡ place_in text r')
+  one_line text r r' p q = let s = one_said r r' p q in (s, place_is text r ∙ ap (place_said text) s ∙ sym (place_is text r'))
+
+-- what `read_node` leaves is what the text has from its place on
+pub node_left : (first : ℕ) (text : List ℕ) {lines : ℕ} (r : Line) → Finds (λ earlier. node_fields earlier first text) lines r → LeftAt text r
+node_left first text {lines} (Some (e, rest)) f =
+    let l : EndOf text rest.now = subst (Shorter text) (sym (f.seen (variables 0 lines) (how_many 0 lines))) (node_shorter (variables 0 lines) first text) in
+    (omega arith, end_place l)
+node_left first text None f = tt

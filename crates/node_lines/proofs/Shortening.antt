@@ -1,36 +1,16 @@
--- A node line is taken away from the text: the rest is never longer. Assumes nothing.
-use mathlib.Core.Path.{◌≡◌, refl, ap}
+-- A node line is taken away from the text: the rest is an end of it, and so never longer. Assumes nothing.
 use mathlib.Core.List.{List}
 use Prim.Native.Nat.{ℕ}
-use native.Mathlib.Omega.{arith}
-use lib.ListN.{length, length-append}
+use lib.ListN.{length}
 use lib.Dec.{eqb}
 use Rattle.expression.specs.Trees.{Tree}
 use Rattle.spelling.specs.Names.{function_names, prefix_names, infix_names}
 use Rattle.text.specs.Letters.{letter}
 use Rattle.text.specs.Reading.{Read, is, bad, tab, ended, decimal, hex, decimal_field, hex_field, name_field}
-use Rattle.text.specs.Writing.{in_decimal, in_hex}
-use Rattle.text.proofs.Only.{decimal_only, hex_only}
-use Rattle.text.proofs.Shortening.{Shorter, as_long, shorter_cond, shorter_then, shorter_ended, shorter_decimal, shorter_hex_field, shorter_name_field}
+use Rattle.text.proofs.Shortening.{Shorter, as_long, shorter_cond, shorter_then, shorter_ended, shorter_decimal_number, shorter_hex_number, shorter_decimal, shorter_hex_field, shorter_name_field}
 use Rattle.origins.specs.Fields.{line_end}
 use Rattle.origins.proofs.Ending.{shorter_line_end}
 use Rattle.node_lines.specs.NodeLines.{child_by, child_field, number_fields, variable_fields, cell_fields, function_fields, prefix_fields, infix_fields, fields_of, pi_line, line_by, node_fields}
-
--- ---- numbers, without the byte that ends them
-
-decimal_shorter : (limit : ℕ) (bs : List ℕ) → Shorter bs (decimal limit bs)
-decimal_shorter limit bs = go (decimal limit bs) refl
-  where
-    go : (r : Read ℕ) → decimal limit bs ≡ r → Shorter bs r
-    go (is n rest) q = omega (arith, ap length (decimal_only limit n bs rest q).1, length-append (in_decimal n) rest)
-    go bad q = tt
-
-hex_shorter : (bs : List ℕ) → Shorter bs (hex bs)
-hex_shorter bs = go (hex bs) refl
-  where
-    go : (r : Read ℕ) → hex bs ≡ r → Shorter bs r
-    go (is n rest) q = omega (arith, ap length (hex_only n bs rest q).1, length-append (in_hex n) rest)
-    go bad q = tt
 
 -- ---- fields and lines, whatever ends them, if that takes away too
 
@@ -41,7 +21,7 @@ module _ (end : Read ℕ → Read ℕ) (shorter : EndShortens end) where
   child_by_shorter : (earlier : List Tree) (bs : List ℕ) → Shorter bs (child_by end earlier bs)
   unfolding child_by
   child_by_shorter earlier bs =
-      shorter_then bs (end (decimal (length earlier) bs)) _ (shorter bs (decimal (length earlier) bs) (decimal_shorter (length earlier) bs)) λ i rest. as_long rest
+      shorter_then bs (end (decimal (length earlier) bs)) _ (shorter bs (decimal (length earlier) bs) (shorter_decimal_number (length earlier) bs)) λ i rest. as_long rest
 
 pub child_shorter : (stop : ℕ) (earlier : List Tree) (bs : List ℕ) → Shorter bs (child_field stop earlier bs)
 child_shorter stop = child_by_shorter (ended stop) (shorter_ended stop)
@@ -51,18 +31,18 @@ module _ (end : Read ℕ → Read ℕ) (shorter : EndShortens end) where
   unfolding number_fields
   number_shorter bs =
       shorter_then bs (hex_field tab bs) _ (shorter_hex_field tab bs) λ re bs.
-      shorter_then bs (end (hex bs)) _ (shorter bs (hex bs) (hex_shorter bs)) λ im bs.
+      shorter_then bs (end (hex bs)) _ (shorter bs (hex bs) (shorter_hex_number bs)) λ im bs.
       as_long bs
 
   variable_shorter : (bs : List ℕ) → Shorter bs (variable_fields end bs)
   unfolding variable_fields
-  variable_shorter bs = shorter_then bs (end (decimal 65536 bs)) _ (shorter bs (decimal 65536 bs) (decimal_shorter 65536 bs)) λ v bs. as_long bs
+  variable_shorter bs = shorter_then bs (end (decimal 65536 bs)) _ (shorter bs (decimal 65536 bs) (shorter_decimal_number 65536 bs)) λ v bs. as_long bs
 
   cell_shorter : (bs : List ℕ) → Shorter bs (cell_fields end bs)
   unfolding cell_fields
   cell_shorter bs =
       shorter_then bs (decimal_field tab 65536 bs) _ (shorter_decimal tab 65536 bs) λ region bs.
-      shorter_then bs (end (decimal 4294967296 bs)) _ (shorter bs (decimal 4294967296 bs) (decimal_shorter 4294967296 bs)) λ index bs.
+      shorter_then bs (end (decimal 4294967296 bs)) _ (shorter bs (decimal 4294967296 bs) (shorter_decimal_number 4294967296 bs)) λ index bs.
       as_long bs
 
   function_shorter : (earlier : List Tree) (bs : List ℕ) → Shorter bs (function_fields end earlier bs)

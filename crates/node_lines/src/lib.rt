@@ -1,15 +1,17 @@
-// A node line of a listing: its fields, read from the front of a text, as a node whose operands are numbers of earlier lines.
+// A node line of a listing: its fields, read from the front of a text, as a node whose operands are numbers of earlier lines; and a node with
+// other operands in place of these.
 
 #![tactic(auto)]
 
-ghost use Rattle.std.specs.Prelude.{◌≤◌};
+ghost use Rattle.std.specs.Prelude.{◌≡◌, ◌≤◌, ℕ};
+ghost use Rattle.expression.specs.Nodes.{mapped};
 ghost use Rattle.origins.specs.Fields.{line_end};
 ghost use Rattle.node_lines.specs.NodeLines.{pi_line, number_fields, variable_fields, cell_fields, function_fields, prefix_fields, infix_fields, fields_of, node_fields};
 ghost use Rattle.node_lines.specs.Seen.{Finds, FindsLeaf};
 
 use complex::Complex;
 use complex::bits::from_bits;
-use expression::node::Expression;
+use expression::node::{Expression, Operands, operands_of, with_operands};
 use expression::{ExpressionFunction, InfixOperator, PrefixOperator};
 use origins::fields::end_line;
 use spelling::{first_function, first_infix, first_prefix};
@@ -131,4 +133,16 @@ pub fn read_node(first: u8, s: &[u8], lines: usize) -> Option<(Expression, &[u8]
         return None;
     }
     read_fields(first, fields, lines)
+}
+
+// A node line's node, or a node as it is written, by what `look` gives for its operands: nodes for lines, or lines for nodes.
+pub fn map_operands<F: Fn(usize) -> usize>(e: Expression, look: F) -> Expression
+    requires { F.IsAlwaysCallable look }
+    ensures { (given : ℕ → ℕ) → ((k r : ℕ) → F.post look k r → r ≡ given k) → result ≡ mapped given e }
+{
+    match operands_of(e) {
+        Operands::Nothing => e,
+        Operands::One(a) => with_operands(e, 0, look(a)),
+        Operands::Two(a, b) => with_operands(e, look(a), look(b)),
+    }
 }

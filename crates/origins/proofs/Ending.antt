@@ -5,7 +5,7 @@ use mathlib.Core.List.{List, [], ◌∷◌, ◌++◌}
 use Prim.Native.Nat.{ℕ, zero, suc, ◌≤◌, ◌<◌}
 use native.Mathlib.Omega.{arith}
 use native.Mathlib.Decide.{ℕ_discrete}
-use lib.ListN.{length, get_or, length-append}
+use lib.ListN.{get_or}
 use lib.Dec.{eqb}
 use borrow.Author.Tests.{eq-eqb, ne_eqb}
 use Rattle.std.specs.Prelude.{Option, Some}
@@ -16,7 +16,7 @@ use Rattle.text.specs.Writing.{in_decimal}
 use Rattle.text.proofs.Fields.{told}
 use Rattle.text.proofs.Only.{never, ended_only, decimal_only}
 use Rattle.text.proofs.RoundTrip.{decimal_reads, ended_here}
-use Rattle.text.proofs.Shortening.{Shorter, as_long, shorter_cond, shorter_then, shorter_ended}
+use Rattle.text.proofs.Shortening.{EndOf, end_then, end_next, Shorter, as_long, shorter_cond, shorter_than, shorter_then, shorter_ended, shorter_decimal_number}
 use Rattle.origins.specs.Fields.{most_origins, after_at, origin, line_end, origin_text}
 
 -- ---- without an origin it is LF alone
@@ -127,35 +127,24 @@ line_end_only (is y (b ∷ bs)) x rest e = elim (ℕ_discrete b 9) [
     go bad p f q = never f
 line_end_only bad x rest e = never e
 
--- ---- the rest is never longer
-
-shorter_number : (limit : ℕ) (bs : List ℕ) → Shorter bs (decimal limit bs)
-shorter_number limit bs = go (decimal limit bs) refl
-  where
-    go : (r : Read ℕ) → decimal limit bs ≡ r → Shorter bs r
-    go (is n rest) q = omega (arith, ap length (decimal_only limit n bs rest q).1, length-append (in_decimal n) rest)
-    go bad q = tt
-
-shorter_than : (bs cs : List ℕ) (r : Read ℕ) → length cs ≤ length bs → Shorter cs r → Shorter bs r
-shorter_than bs cs (is x rest) l h = omega (arith, l, h)
-shorter_than bs cs bad l h = tt
+-- ---- the rest is an end of the text
 
 shorter_after : (bs : List ℕ) → Shorter bs (after_at bs)
 unfolding after_at
 shorter_after [] = tt
 shorter_after (b ∷ bs) =
-    shorter_cond (b ∷ bs) (eqb b 45) (is 0 bs) _ (omega arith) (shorter_then (b ∷ bs) (decimal most_origins (b ∷ bs)) (λ n rest. is (suc n) rest) (shorter_number most_origins (b ∷ bs)) λ n rest. as_long rest)
+    shorter_cond (b ∷ bs) (eqb b 45) (is 0 bs) _ (end_next b bs) (shorter_then (b ∷ bs) (decimal most_origins (b ∷ bs)) (λ n rest. is (suc n) rest) (shorter_decimal_number most_origins (b ∷ bs)) λ n rest. as_long rest)
 
-shorter_origin : (bs : List ℕ) → Shorter bs (origin bs)
+pub shorter_origin : (bs : List ℕ) → Shorter bs (origin bs)
 unfolding origin
 shorter_origin [] = tt
-shorter_origin (b ∷ bs) = shorter_cond (b ∷ bs) (eqb b 64) (after_at bs) bad (shorter_than (b ∷ bs) bs (after_at bs) (omega arith) (shorter_after bs)) tt
+shorter_origin (b ∷ bs) = shorter_cond (b ∷ bs) (eqb b 64) (after_at bs) bad (shorter_than (b ∷ bs) bs (after_at bs) (end_next b bs) (shorter_after bs)) tt
 
 pub shorter_line_end : (bs : List ℕ) (r : Read ℕ) → Shorter bs r → Shorter bs (line_end r)
 unfolding line_end
 shorter_line_end bs (is x []) h = tt
 shorter_line_end bs (is x (b ∷ rest)) h =
-    let l : length rest ≤ length bs = omega (arith, h) in
+    let l : EndOf bs rest = end_then h (end_next b rest) in
     shorter_cond bs (eqb b 9) _ _
     (shorter_then bs (ended lf (origin rest)) (λ _ after. is x after) (shorter_than bs rest (ended lf (origin rest)) l (shorter_ended lf rest (origin rest) (shorter_origin rest))) λ _ after. as_long after)
     (shorter_cond bs (eqb b 10) (is x rest) bad l tt)

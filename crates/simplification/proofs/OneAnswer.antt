@@ -9,6 +9,7 @@ use Rattle.store.specs.declared.desk.Refused.{Refused}
 use Rattle.store.specs.Desk.{count}
 use Rattle.store.specs.Held.{Lent, tree_in, Sound}
 use Rattle.store.proofs.Stored.{OneAnswer, one_answer}
+use Rattle.store.proofs.OneAnswer.{Same, one_word}
 use Rattle.sheet.specs.declared.Counts.{Counts}
 use Rattle.sheet.specs.Rows.{Rows}
 use Rattle.sheet.specs.Table.{Held}
@@ -25,8 +26,8 @@ pub one_simplified : (limit : ℕ) {table : List ℕ} {rows : Counts} {node : �
     → Simplifies limit table rows node r l l₁ → Simplifies limit table rows node r' l l₂ → OneAnswer r r' l₁ l₂
 one_simplified limit {node = node} = one_built (λ l. node < count l.desk) (λ R l. simplify_by one_more R limit (tree_in l node))
 
--- ---- so the answer itself is one
+-- ---- so the answer itself is one: the node, or that there is none, and why
 
 pub one_node : (limit : ℕ) {table : List ℕ} {rows : Counts} {node : ℕ} {l l₁ l₂ : Lent} (r r' : Result ℕ Refused) → Held table rows → Sound l → node < count l.desk
-    → Simplifies limit table rows node r l l₁ → Simplifies limit table rows node r' l l₂ → r ≡ r'
-one_node limit r r' t s i p q = (one_simplified limit r r' t s i p q).same
+    → Simplifies limit table rows node r l l₁ → Simplifies limit table rows node r' l l₂ → Same r r' l₁ l₂
+one_node limit r r' t s i p q = one_word r r' (p t s i) (q t s i)

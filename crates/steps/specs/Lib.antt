@@ -1,3 +1,3 @@
--- The definitions that the contracts of `steps` cite. To believe: Steps; Same only connects.
+-- The definitions that the contracts of `steps` cite. To believe: Steps; Same only connects, in proofs.
 pub mod Steps
 pub mod Same

@@ -1,23 +1,28 @@
 -- Two answers that a contract of the store allows are equal; of what builds, Stored says in what sense. Assumes nothing.
 use mathlib.Core.Path.{◌≡◌, refl, sym, ap, ◌∙◌}
-use mathlib.Core.Bool.{Bool}
+use mathlib.Core.Bool.{Bool, true, false, cond}
 use mathlib.Core.List.{List, [], ◌∷◌}
 use Prim.Native.Nat.{ℕ, zero, suc, ◌≤◌, ◌<◌}
 use native.Mathlib.Omega.{arith}
 use native.Mathlib.Decide.{dec_lt}
+use lib.Dec.{ltb}
 use lib.ListN.{length, get_or}
-use Rattle.std.specs.Prelude.{Option, Some, None, IfSome, Result, Ok, Err}
+use Rattle.std.specs.Prelude.{Option, Some, None, IfSome, Result, Ok, Err, IsErr}
+use Rattle.complex.specs.declared.Complex.{Complex}
 use Rattle.memory.specs.Layout.{desk_words}
+use Rattle.expression.specs.declared.refusal.Operation.{Operation}
 use Rattle.expression.specs.declared.refusal.Refusal.{Refusal}
 use Rattle.expression.specs.declared.node.Expression.{Expression}
+use Rattle.expression.specs.Trees.{Tree, size, depth}
+use Rattle.expression.specs.Limits.{largest, deepest}
 use Rattle.expression.specs.Alike.{identical}
 use Rattle.expression.specs.Nodes.{Within, Sound as SoundNode}
 use Rattle.expression.proofs.OneNode.{ByTree, one_node}
 use Rattle.store.specs.Nodes.{fields_of}
-use Rattle.store.specs.Storing.{State, Answer, place}
+use Rattle.store.specs.Storing.{State, state, Answer, gives, refused, and_then, among, intern, place}
 use Rattle.store.specs.Memory.{Memory, memory, column, class_at, trees, tree_at, tree_of, kept_as}
 use Rattle.store.specs.declared.desk.Refused.{Refused}
-use Rattle.store.specs.Desk.{count, calls_on, marks_on, OfBuilding, refusal_on, Refuses, Notes}
+use Rattle.store.specs.Desk.{count, calls_on, marks_on, need_on, why_on, OfBuilding, refusal_on, Asks, Refuses, Notes}
 use Rattle.store.specs.Index.{key_of}
 use Rattle.store.specs.Held.{Holds, Lent, state_in, Sound, Built, Builds, Adds, Keeps, Recalls, Compares, Begun}
 use Rattle.store.specs.Walk.{Walked, WalkedTo}
@@ -40,12 +45,38 @@ pub one_built : (Of : Lent → Type 0) (want : Lent → State → Answer) {l l�
     → OneAnswer r r' l₁ l₂
 one_built Of want r r' s o p q = one_answer r r' (p s o) (q s o)
 
--- the answer itself is determined: one node, or that nothing was built
-pub one_word : {want : Answer} {l l₁ l₂ : Lent} (r r' : Result ℕ Refused) → Built want r l l₁ → Built want r' l l₂ → r ≡ r'
-one_word r r' p q = (one_answer r r' p q).same
+-- the answer itself is determined: one node, or that nothing was built, and then one refusal
+abbrev pub Same : (r r' : Result ℕ Refused) (l l' : Lent) → Type 0
+Same r r' l l' = (r ≡ r') × (IsErr r → refusal_on l.desk ≡ refusal_on l'.desk)
 
-pub one_added : (e : Expression) {l l₁ l₂ : Lent} (r r' : Result ℕ Refused) → Sound l → Within (count l.desk) e → Adds e r l l₁ → Adds e r' l l₂ → r ≡ r'
+pub one_word : {want : Answer} {l l₁ l₂ : Lent} (r r' : Result ℕ Refused) → Built want r l l₁ → Built want r' l l₂ → Same r r' l₁ l₂
+one_word r r' p q = let o = one_answer r r' p q in (o.same, o.refusal)
+
+pub one_added : (e : Expression) {l l₁ l₂ : Lent} (r r' : Result ℕ Refused) → Sound l → Within (count l.desk) e → Adds e r l l₁ → Adds e r' l l₂ → Same r r' l₁ l₂
 one_added e r r' s w p q = one_word r r' (p s w) (q s w)
+
+-- ---- an answer that is not INCOMPLETE: so of one step after another, and of storing a tree, which is refused by 6, 7 and 8 alone
+
+abbrev pub Complete : Answer → Type 0
+Complete (gives t σ) = Unit {0}
+Complete (refused why σ) = why ≡ Refusal.Incomplete → ⊥
+
+pub complete_then : (a : Answer) (next : Tree → State → Answer) → Complete a → ((t : Tree) (σ : State) → Complete (next t σ)) → Complete (and_then a next)
+unfolding and_then
+complete_then (gives t σ) next c n = n t σ
+complete_then (refused why σ) next c n = c
+
+complete_if : (b : Bool) (x y : Answer) → Complete x → Complete y → Complete (cond b x y)
+complete_if true x y p q = p
+complete_if false x y p q = q
+
+pub complete_stored : (t : Tree) (σ : State) → Complete (intern t σ)
+unfolding intern
+complete_stored t (state room stored kept tally) =
+    complete_if (among stored t) _ _ tt
+    (complete_if (ltb largest (size t)) _ _ (λ e. (let z : ◌≡◌ {A = ℕ} 0 1 = cc in omega arith))
+    (complete_if (ltb deepest (depth t)) _ _ (λ e. (let z : ◌≡◌ {A = ℕ} 0 1 = cc in omega arith))
+    (complete_if (ltb (length stored) room) _ _ tt (λ e. (let z : ◌≡◌ {A = ℕ} 0 1 = cc in omega arith)))))
 
 pub one_kept : {m m₁ m₂ : Memory} {e r : ℕ} (desk : List ℕ) → Sound (record { rows = m; desk = desk }) → e < count desk → r < count desk → Keeps m m₁ e r → Keeps m m₂ e r
     → state_in (record { rows = m₁; desk = desk }) ≡ state_in (record { rows = m₂; desk = desk })
@@ -98,6 +129,14 @@ pub one_refused : {why : Refusal} {desk desk₁ desk₂ : List ℕ} → length d
     → (refusal_on desk₁ ≡ refusal_on desk₂) × (count desk₁ ≡ count desk₂) × (calls_on desk₁ ≡ calls_on desk₂) × (marks_on desk₁ ≡ marks_on desk₂)
 one_refused l o p q =
     (p.told l o ∙ sym (q.told l o), p.alike.counted ∙ sym q.alike.counted, p.alike.called ∙ sym q.alike.called, p.alike.marked ∙ sym q.alike.marked)
+
+-- ---- `ask`: what the desk says is lacking, and what else is read of it
+
+pub one_asked : {operation : Operation} {x y : Complex} {desk desk₁ desk₂ : List ℕ} → length desk ≡ desk_words
+    → Asks operation x y desk desk₁ → Asks operation x y desk desk₂
+    → (need_on desk₁ ≡ need_on desk₂) × (why_on desk₁ ≡ why_on desk₂) × (count desk₁ ≡ count desk₂) × (calls_on desk₁ ≡ calls_on desk₂) × (marks_on desk₁ ≡ marks_on desk₂)
+one_asked l p q =
+    (p.need l ∙ sym (q.need l), p.numbered ∙ sym q.numbered, p.alike.counted ∙ sym q.alike.counted, p.alike.called ∙ sym q.alike.called, p.alike.marked ∙ sym q.alike.marked)
 
 -- ---- `note`: what is read of the desk besides what a refusal carries
 

@@ -1,6 +1,6 @@
 -- What the words of the desk say: how many nodes stand, how many simplify calls were made, why nothing was built and what that carries, and which t
 -- rows were used. Only connecting.
-use Rattle.std.specs.Prelude.{ℕ, zero, suc, ◌+◌, ◌≤◌, ◌≡◌, List, ◌++◌, cond, length, get_or, set, drop, eqb, Option, Some, None}
+use Rattle.std.specs.Prelude.{ℕ, ◌+◌, ◌≤◌, ◌≡◌, List, ◌++◌, cond, length, get_or, set, drop, eqb, Option, Some, None}
 use Rattle.memory.specs.Layout.{desk_words, marks_from, numbered}
 use Rattle.memory.specs.Marks.{noted}
 use Rattle.complex.specs.declared.Complex.{Complex}

@@ -86,6 +86,31 @@ fn meet(store: &[[u64; 4]], k: usize, f: Fields, key: Fields) -> Meeting
     Meeting::Stranger
 }
 
+// The same where most nodes that are met are strangers, as far down a long chain: by the key first, which tells of these alone.
+fn meet_far(store: &[[u64; 4]], k: usize, f: Fields, key: Fields) -> Meeting
+    ensures { key ≡ key_of (class_at (memory store.now)) f → Meets (memory store.now) k f key result }
+{
+    if code_in(tag_at(store, k)) != f.code {
+        return Meeting::Stranger;
+    }
+    let kind = f.code % 8;
+    let first = first_at(store, k);
+    let second = second_at(store, k);
+    if word_key(store, FIRST_OPERANDS, kind, first) != key.first {
+        return Meeting::Stranger;
+    }
+    if word_key(store, SECOND_OPERANDS, kind, second) != key.second {
+        return Meeting::Stranger;
+    }
+    if first != f.first {
+        return Meeting::Kin;
+    }
+    if second != f.second {
+        return Meeting::Kin;
+    }
+    Meeting::Own
+}
+
 // The head of a bucket, of n nodes, as a number plus one or 0, which `find` begins with and `enter` writes. Where no node was entered the word may
 // hold anything: a number counts if it is a node's whose home is this bucket. So nothing is cleared before the first node.
 pub fn head_of(store: &[[u64; 4]], n: usize, bucket: usize) -> usize
@@ -106,7 +131,9 @@ pub fn head_of(store: &[[u64; 4]], n: usize, bucket: usize) -> usize
 }
 
 // What is left of a long chain: all nodes below `at`, row by row. No row has to wait for the one before, as in a chain, so that
-// numbers that were searched until they fell in one bucket cost little more than others.
+// numbers that were searched until they fell in one bucket cost little more than others. A function of its own in the archive: within `add`
+// too few registers are left for its loop, which took twice the time there.
+#[inline(never)]
 fn scan(
     store: &[[u64; 4]],
     n: usize,
@@ -119,7 +146,7 @@ fn scan(
 {
     let mut kin = class;
     for node in (0..at).rev() {
-        match meet(store, node, f, key) {
+        match meet_far(store, node, f, key) {
             Meeting::Own => return Ok(node),
             Meeting::Kin => kin = class_at(store, node) as usize,
             Meeting::Stranger => (),

@@ -190,8 +190,8 @@ module _ {node left last : ℕ} {r : Result ℕ Refused} {e : Expression} {l l' 
   rebuilt_built t b f = then_node (λ u s. intern (wrap e t u) s) b refl λ p. rebuilt_added t p (f p)
 
 pub is_rebuilt : {node left last k : ℕ} {r : Result ℕ Refused} {e : Expression} {l l' : Lent} {table table' : List ℕ} → Adds (with_operands e left last) r l l' → r ≡ Ok k
-    → table' ≡ set table (word_of node) (k % 4096 + 1) → Rebuilds node e left last (Ok k) l l' table table'
-is_rebuilt a e t = record { added = rw e at a; noted = t }
+    → table' ≡ set table (word_of node) (k % 65536 + 1) → Rebuilds node e left last (Ok k) l l' table table'
+is_rebuilt {k = k} a e t = record { added = rw e at a; noted = λ l. (let few : k % 65536 ≡ k = omega (arith, l) in rw few at t) }
 
 pub not_rebuilt : {node left last : ℕ} {r r' : Result ℕ Refused} {why : Refused} {e : Expression} {l l' : Lent} {table : List ℕ} → Adds (with_operands e left last) r l l'
     → r ≡ Err why → IsErr r' → Rebuilds node e left last r' l l' table table
@@ -205,10 +205,10 @@ rebuilt_known : {node left last r : ℕ} {e : Expression} {l l' : Lent} {table t
     → Settled given l' t (tree_in l' r) × Knows given nodes swaps l' table'
 rebuilt_known {node} {r = r} {l' = l'} q {given} {nodes} {swaps} {t} u k o tree b f =
     let settled = built_settled u b t f in
-    let small : r % 4096 ≡ r = omega (arith, b.inside, (room_each l'.rows (count l'.desk) b.step.sound.holds.fits).most) in
+    let small : r < 65536 = omega (arith, b.inside, (room_each l'.rows (count l'.desk) b.step.sound.holds.fits).most) in
     let now : tree_in l' node ≡ t = b.step.stays node (omega (arith, o, k.stand)) ∙ tree in (
       settled,
-      subst (λ table'. Knows given nodes swaps l' table') (sym (rw small at q.noted))
+      subst (λ table'. Knows given nodes swaps l' table') (sym (q.noted small))
           (knows_more (knows_on k b.step) node r o b.inside (subst (λ t. Settled given l' t (tree_in l' r)) (sym now) settled)),
     )
 

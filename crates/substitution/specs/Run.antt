@@ -36,9 +36,9 @@ abbrev pub numbered : ℕ → Option ℕ
 numbered zero = None
 numbered (suc k) = Some k
 
--- r is what a node became, and nodes are fewer than 4097; a refusal is not remembered
+-- r is what a node became, and nodes are fewer than 65536; a refusal is not remembered
 abbrev pub Remembers : (node : ℕ) (r : Result ℕ Refused) (table table' : List ℕ) → Type 0
-Remembers node (Ok k) table table' = table' ≡ set table (word_of node) (k % 4096 + 1)
+Remembers node (Ok k) table table' = k < 65536 → table' ≡ set table (word_of node) (k + 1)
 Remembers node (Err e) table table' = table' ≡ table
 
 -- from l on, substituting into the tree t gives u and stores nothing

@@ -9,6 +9,9 @@ use memory::{put, read};
 // The number of a node is below this.
 const MOST: usize = 4096;
 
+// What a node became is remembered below this, far above any node.
+const REMEMBERED: usize = 65_536;
+
 // The table's word for a node.
 fn word_of(node: usize) -> usize
     ensures { result ≡ word_of node }
@@ -35,7 +38,7 @@ pub fn recalled(table: &[u64], node: usize) -> Option<usize>
 
 // What a node became.
 pub fn remember(table: &mut [u64], node: usize, became: usize)
-    ensures { table.new ≡ set table.old (word_of node) (became % 4096 + 1) }
+    ensures { table.new ≡ set table.old (word_of node) (became % 65536 + 1) }
 {
-    put(table, word_of(node), (became % MOST + 1) as u64);
+    put(table, word_of(node), (became % REMEMBERED + 1) as u64);
 }

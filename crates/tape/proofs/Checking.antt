@@ -11,14 +11,14 @@ use lib.ListN.{length, drop}
 use lib.Seq.{drop-drop}
 use lib.Dec.{T, ltb, eqb}
 use borrow.Author.Tests.{lt-ltb, le-ltb, eq-eqb, ne_eqb, ltb-true, eqb-true, not-true, not-false}
-use Rattle.std.specs.Prelude.{Option, Some, None, Result, Ok, Err, is_ok}
+use Rattle.std.specs.Prelude.{Option, Some, None, Result, Ok, Err, is_ok, is_some}
 use Rattle.expression.specs.declared.refusal.Refusal.{Refusal}
 use Rattle.steps.specs.declared.Fields.{Fields}
 use Rattle.steps.specs.Steps.{fields_in, known, step_of}
 use Rattle.steps.proofs.Knowing.{first_true, second_true}
 use Rattle.tape.specs.declared.Picked.{Picked}
 use Rattle.tape.specs.Tapes.{fields_of_all, count, takes, after, allowed, check_from, check, better, picked, part_of, pick}
-use Rattle.tape.specs.Run.{values_after}
+use Rattle.tape.specs.Run.{values_after, checked}
 
 pub never : {A : Type 0} → false ≡ true → A
 never e = absurd (subst T (sym e) tt)
@@ -232,6 +232,14 @@ bad_from step values (f ∷ fs) = bad_if (allowed values f) (check_from (suc ste
 pub refused_by : (bs : List ℕ) {why : Refusal} → check bs ≡ Err why → (step : ℕ) × (why ≡ Refusal.BadTape step)
 unfolding check IsBad
 refused_by bs e = subst IsBad e (bad_if _ _ 0 (bad_from 0 0 (fields_of_all (count bs) bs)))
+
+-- ---- the first bad step, if there is one
+
+pub none_bad : (r : Option ℕ) (b : Bool) → is_some r ≡ not b → b ≡ is_ok (checked r)
+none_bad None true e = refl
+none_bad None false e = never e
+none_bad (Some k) true e = never (sym e)
+none_bad (Some k) false e = refl
 
 -- ---- the pick
 

@@ -1,5 +1,5 @@
 -- What the functions of `tape` ensure on rows, bytes and the player's array. Only connecting.
-use Rattle.std.specs.Prelude.{◌≡◌, ℕ, zero, suc, ◌+◌, ◌≤◌, ◌<◌, List, [], ◌∷◌, Bool, true, false, cond, length, get_or, Option, Some, None, Result}
+use Rattle.std.specs.Prelude.{◌≡◌, ℕ, zero, suc, ◌+◌, ◌≤◌, ◌<◌, List, [], ◌∷◌, Bool, true, false, cond, length, get_or, Option, Some, None, Result, Ok, Err}
 use Rattle.std.specs.Float.{nan}
 use Rattle.complex.specs.declared.Complex.{Complex}
 use Rattle.expression.specs.declared.refusal.Refusal.{Refusal}
@@ -51,6 +51,11 @@ Compiles m root nodes r out out' = Holds m nodes → root < nodes → ◌≡◌ 
 -- how many values there are after a step, if it is allowed
 unfoldable pub values_after : (values : ℕ) → Fields → Option ℕ
 values_after values f = cond (allowed values f) (Some (after values (step_of f))) None
+
+-- the first bad step, if there is one, as an answer
+abbrev pub checked : Option ℕ → Result (Unit {0}) Refusal
+checked None = Ok tt
+checked (Some step) = Err (Refusal.BadTape step)
 
 -- ---- playing
 

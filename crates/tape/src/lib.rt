@@ -5,7 +5,7 @@
 ghost use Rattle.std.specs.Prelude.{◌≡◌, ◌*◌, ◌≤◌, length, is_ok};
 ghost use Rattle.steps.specs.Steps.{step_of};
 ghost use Rattle.tape.specs.Tapes as Tapes;
-ghost use Rattle.tape.specs.Run.{values_after};
+ghost use Rattle.tape.specs.Run.{values_after, checked};
 
 use expression::refusal::Refusal;
 use steps::bytes::fields_at;
@@ -53,46 +53,56 @@ fn values_after(values: usize, f: Fields) -> Option<usize>
     Some(left + 1)
 }
 
-// The steps one by one, where there are `count` whole ones.
-fn check_steps(tape: &[u8], count: usize) -> Result<(), Refusal>
+// The steps one by one, where there are `count` whole ones: the first bad one. It is a number and no refusal, which would go through memory: so
+// checking and picking take half the stack.
+fn check_steps(tape: &[u8], count: usize) -> Option<u64>
     requires { (24 * count ≤ length tape.now) × (count ≤ 512) }
-    ensures { result ≡ Tapes.check_from 0 0 (Tapes.fields_of_all count tape.now) }
+    ensures { checked result ≡ Tapes.check_from 0 0 (Tapes.fields_of_all count tape.now) }
 {
     let mut values: usize = 0;
     for i in 0..count {
-        // No `ok_or`: a refusal would be made at each step, and dropped.
         let Some(next) = values_after(values, fields_at(tape, 24 * i)) else {
-            return Err(Refusal::BadTape(i as u64));
+            return Some(i as u64);
         };
         values = next;
     }
     if values == 1 {
-        return Ok(());
+        return None;
     }
-    Err(Refusal::BadTape(count as u64))
+    Some(count as u64)
 }
 
-// A tape is sound, or it is refused by its first bad step. "Length faults name step 0."
-pub fn check(tape: &[u8]) -> Result<(), Refusal>
-    ensures { result ≡ Tapes.check tape.now }
+// "Length faults name step 0."
+fn first_bad(tape: &[u8]) -> Option<u64>
+    ensures { checked result ≡ Tapes.check tape.now }
 {
     let count = tape.len() / 24;
     if tape.len() % 24 != 0 {
-        return Err(Refusal::BadTape(0));
+        return Some(0);
     }
     if count == 0 {
-        return Err(Refusal::BadTape(0));
+        return Some(0);
     }
     if MOST_STEPS < count {
-        return Err(Refusal::BadTape(0));
+        return Some(0);
     }
     check_steps(tape, count)
+}
+
+// A tape is sound, or it is refused by its first bad step.
+pub fn check(tape: &[u8]) -> Result<(), Refusal>
+    ensures { result ≡ Tapes.check tape.now }
+{
+    match first_bad(tape) {
+        None => Ok(()),
+        Some(step) => Err(Refusal::BadTape(step)),
+    }
 }
 
 fn is_sound(tape: &[u8]) -> bool
     ensures { result ≡ is_ok (Tapes.check tape.now) }
 {
-    check(tape).is_ok()
+    first_bad(tape).is_none()
 }
 
 // Which of two tapes has fewer steps, the first at a tie; an unsound one loses.

@@ -3,7 +3,7 @@
 use Rattle.std.proofs.Common.{◌≡◌, ℕ, zero, suc, ◌≤◌, List, [], ◌∷◌, length, sym, refl, ◌∙◌, arith}
 use Rattle.std.specs.List.{IsFirstAndRest}
 use Rattle.text.specs.Lines.{Line, goes, stops, Whole, read, refused, at_line, after_line, lines_by, lines}
-use Rattle.text.proofs.Shortening.{ShorterLine, Shortens}
+use Rattle.text.proofs.Shortening.{end_short, ShorterLine, Shortens}
 
 module _ {S R : Type 0} (line : S → ℕ → List ℕ → Line S R) (shortens : Shortens line) where
   none_left : (fuel : ℕ) (s : S) → lines_by fuel line s [] ≡ read s
@@ -14,7 +14,7 @@ module _ {S R : Type 0} (line : S → ℕ → List ℕ → Line S R) (shortens :
   after : (bs : List ℕ) (l : Line S R) (m n : S → List ℕ → Whole S R) → ShorterLine bs l → ((s : S) (rest : List ℕ) → length rest ≤ length bs → m s rest ≡ n s rest)
       → after_line l m ≡ after_line l n
   unfolding after_line
-  after bs (goes s rest) m n h e = e s rest h
+  after bs (goes s rest) m n h e = e s rest (end_short h)
   after bs (stops why) m n h e = refl
 
   enough : (f g : ℕ) (s : S) (bs : List ℕ) → length bs ≤ f → length bs ≤ g → lines_by f line s bs ≡ lines_by g line s bs

@@ -67,12 +67,12 @@ module _ {Rest : (s : List ℕ) (lines : ℕ) (table : List ℕ) (r : ℕ) (tabl
   one_turn (bad l o f p q) (ends l' p' q') = absurd (omega (arith, l, l'))
   one_turn (bad l o f p q) (long l' o' p' q') = absurd (omega (arith, o, o'))
   one_turn (bad l o f p q) (bad l' o' f' p' q') = two p q p' q'
-  one_turn (bad l o f p q) (goes e' next' l' o' f' a') = let k = one_line None (Some (e', next')) f f' in let z : ◌≡◌ {A = ℕ} 0 1 = cc in absurd (omega arith)
+  one_turn (bad l o f p q) (goes e' next' l' o' f' a') = let k = (one_line s None (Some (e', next')) f f').0 in let z : ◌≡◌ {A = ℕ} 0 1 = cc in absurd (omega arith)
   one_turn (goes e next l o f a) (ends l' p' q') = absurd (omega (arith, l, l'))
   one_turn (goes e next l o f a) (long l' o' p' q') = absurd (omega (arith, o, o'))
-  one_turn (goes e next l o f a) (bad l' o' f' p' q') = let k = one_line (Some (e, next)) None f f' in let z : ◌≡◌ {A = ℕ} 0 1 = cc in absurd (omega arith)
+  one_turn (goes e next l o f a) (bad l' o' f' p' q') = let k = (one_line s (Some (e, next)) None f f').0 in let z : ◌≡◌ {A = ℕ} 0 1 = cc in absurd (omega arith)
   one_turn (goes e next l o f a) (goes e' next' l' o' f' a') =
-      let k = one_line (Some (e, next)) (Some (e', next')) f f' in
+      let k = (one_line s (Some (e, next)) (Some (e', next')) f f').0 in
       let q : ◌≡◌ {A = Expression × List ℕ} (e, next.now) (e', next'.now) = cc in
       let n : next.now ≡ next'.now = ap (λ p. p.1) q in
       let x : e ≡ e' = ap (λ p. p.0) q in

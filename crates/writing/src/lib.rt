@@ -9,11 +9,12 @@ ghost use Rattle.listing.specs.Tables.{moved};
 ghost use Rattle.text.specs.Put.{Put};
 ghost use Rattle.writing.specs.Ordering.{line_at, lines_text, Writes, KeepsRows, WritesTraced};
 
-use expression::node::{Expression, map_operands};
+use expression::node::Expression;
 use expression::refusal::Refusal;
 use line::write_row;
 use lines::{Plain, Traced, text_length, write_lines};
 use memory::read;
+use node_lines::map_operands;
 use order::visit;
 use store::reading::{expression_at, fields_at};
 use store::words::link_at;

@@ -1,7 +1,7 @@
 -- `map_operands` meets its contract. Assumes nothing.
 use mathlib.Core.Path.{ap, ◌∙◌}
 use Rattle.expression.specs.Nodes.{with_operands, mapped_to}
-use Rattle.expression.proofs.node.map_operands.Goals as goal
+use Rattle.node_lines.proofs.map_operands.Goals as goal
 
 pub returns-in-Nothing : goal.returns-in-Nothing
 unfolding mapped_to
