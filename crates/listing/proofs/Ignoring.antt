@@ -16,7 +16,7 @@ use Rattle.store.specs.Storing as Storing
 use Rattle.store.specs.Storing.{State, Answer, intern}
 use Rattle.text.specs.Reading.{Read, is, bad, then, tab, lf, ended, decimal_field}
 use Rattle.text.specs.Lines.{Line, goes, stops, Whole, after_line, lines, none, above_last}
-use Rattle.text.proofs.Shortening.{end_short, ShorterLine}
+use Rattle.text.proofs.Shortening.{ShorterLine}
 use Rattle.text.proofs.Lining.{next_line_lem}
 use Rattle.node_lines.specs.NodeLines.{child_field, node_fields}
 use Rattle.node_lines.specs.Without.{kept, without, without_origins}
@@ -92,7 +92,7 @@ line_ignores substituting k first bs = elim (ℕ_discrete first 115) [
 after_relined : (bs : List ℕ) (l : Line Known Refusal) (next : Known → List ℕ → Whole Known Refusal) → ShorterLine bs l
     → ((k : Known) (rest : List ℕ) → length rest ≤ length bs → next k (without_origins rest) ≡ next k rest) → after_line (relined l) next ≡ after_line l next
 unfolding after_line relined
-after_relined bs (goes k rest) next h e = e k rest (end_short h)
+after_relined bs (goes k rest) next h e = e k rest h
 after_relined bs (stops why) next h e = refl
 
 lines_by_lem : (substituting : Bool) (fuel : ℕ) (k : Known) (bs : List ℕ) → length bs ≤ fuel → lines (listing_line substituting) k (without_origins bs) ≡ lines (listing_line substituting) k bs

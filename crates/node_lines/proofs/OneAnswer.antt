@@ -11,10 +11,10 @@ use Rattle.expression.proofs.OneNode.{ByTree, one_node}
 use Rattle.text.specs.Reading.{Read}
 use Rattle.std.specs.Prelude.{Option, Some, None}
 use Rattle.text.proofs.OneAnswer.{place_in, LeftAt}
-use Rattle.text.proofs.Shortening.{EndOf, end_place, Shorter}
+use Rattle.text.proofs.Shortening.{EndOf, end_place, end_of, Remains}
 use Rattle.node_lines.specs.NodeLines.{node_fields}
 use Rattle.node_lines.specs.Seen.{Line, line_seen, Finds}
-use Rattle.node_lines.proofs.Shortening.{node_shorter}
+use Rattle.node_lines.proofs.Shortening.{node_rest}
 
 -- earlier lines that differ: line k is the variable k
 unfoldable variables : (from n : ℕ) → List Tree
@@ -81,6 +81,6 @@ module _ {want : List Tree → Read Tree} {lines : ℕ} where
 -- what `read_node` leaves is what the text has from its place on
 pub node_left : (first : ℕ) (text : List ℕ) {lines : ℕ} (r : Line) → Finds (λ earlier. node_fields earlier first text) lines r → LeftAt text r
 node_left first text {lines} (Some (e, rest)) f =
-    let l : EndOf text rest.now = subst (Shorter text) (sym (f.seen (variables 0 lines) (how_many 0 lines))) (node_shorter (variables 0 lines) first text) in
+    let l : EndOf text rest.now = subst (Remains EndOf text) (sym (f.seen (variables 0 lines) (how_many 0 lines))) (node_rest end_of (variables 0 lines) first text) in
     (omega arith, end_place l)
 node_left first text None f = tt

@@ -16,7 +16,7 @@ use Rattle.text.specs.Writing.{in_decimal}
 use Rattle.text.proofs.Fields.{told}
 use Rattle.text.proofs.Only.{never, ended_only, decimal_only}
 use Rattle.text.proofs.RoundTrip.{decimal_reads, ended_here}
-use Rattle.text.proofs.Shortening.{EndOf, end_then, end_next, Shorter, as_long, shorter_cond, shorter_than, shorter_then, shorter_ended, shorter_decimal_number}
+use Rattle.text.proofs.Shortening.{Resting, no_longer, Remains, rest_cond, rest_than, rest_then, rest_ended, rest_decimal_number, Shorter}
 use Rattle.origins.specs.Fields.{most_origins, after_at, origin, line_end, origin_text}
 
 -- ---- without an origin it is LF alone
@@ -127,28 +127,36 @@ line_end_only (is y (b ∷ bs)) x rest e = elim (ℕ_discrete b 9) [
     go bad p f q = never f
 line_end_only bad x rest e = never e
 
--- ---- the rest is an end of the text
+-- ---- how the rest stands to the text
 
-shorter_after : (bs : List ℕ) → Shorter bs (after_at bs)
-unfolding after_at
-shorter_after [] = tt
-shorter_after (b ∷ bs) =
-    shorter_cond (b ∷ bs) (eqb b 45) (is 0 bs) _ (end_next b bs) (shorter_then (b ∷ bs) (decimal most_origins (b ∷ bs)) (λ n rest. is (suc n) rest) (shorter_decimal_number most_origins (b ∷ bs)) λ n rest. as_long rest)
+module _ {To : (bs rest : List ℕ) → Type 0} (w : Resting To) where
+  rest_after : (bs : List ℕ) → Remains To bs (after_at bs)
+  unfolding after_at
+  rest_after [] = tt
+  rest_after (b ∷ bs) =
+      rest_cond To (b ∷ bs) (eqb b 45) (is 0 bs) _ (w.next b bs) (rest_then w (b ∷ bs) (decimal most_origins (b ∷ bs)) (λ n rest. is (suc n) rest) (rest_decimal_number w most_origins (b ∷ bs)) λ n rest. w.all rest)
 
+  pub rest_origin : (bs : List ℕ) → Remains To bs (origin bs)
+  unfolding origin
+  rest_origin [] = tt
+  rest_origin (b ∷ bs) = rest_cond To (b ∷ bs) (eqb b 64) (after_at bs) bad (rest_than w (b ∷ bs) bs (after_at bs) (w.next b bs) (rest_after bs)) tt
+
+  pub rest_line_end : (bs : List ℕ) (r : Read ℕ) → Remains To bs r → Remains To bs (line_end r)
+  unfolding line_end
+  rest_line_end bs (is x []) h = tt
+  rest_line_end bs (is x (b ∷ rest)) h =
+      let l : To bs rest = w.after bs (b ∷ rest) rest h (w.next b rest) in
+      rest_cond To bs (eqb b 9) _ _
+      (rest_then w bs (ended lf (origin rest)) (λ _ after. is x after) (rest_than w bs rest (ended lf (origin rest)) l (rest_ended w lf rest (origin rest) (rest_origin rest))) λ _ after. w.all after)
+      (rest_cond To bs (eqb b 10) (is x rest) bad l tt)
+  rest_line_end bs bad h = tt
+
+-- the rest is never longer
 pub shorter_origin : (bs : List ℕ) → Shorter bs (origin bs)
-unfolding origin
-shorter_origin [] = tt
-shorter_origin (b ∷ bs) = shorter_cond (b ∷ bs) (eqb b 64) (after_at bs) bad (shorter_than (b ∷ bs) bs (after_at bs) (end_next b bs) (shorter_after bs)) tt
+shorter_origin = rest_origin no_longer
 
 pub shorter_line_end : (bs : List ℕ) (r : Read ℕ) → Shorter bs r → Shorter bs (line_end r)
-unfolding line_end
-shorter_line_end bs (is x []) h = tt
-shorter_line_end bs (is x (b ∷ rest)) h =
-    let l : EndOf bs rest = end_then h (end_next b rest) in
-    shorter_cond bs (eqb b 9) _ _
-    (shorter_then bs (ended lf (origin rest)) (λ _ after. is x after) (shorter_than bs rest (ended lf (origin rest)) l (shorter_ended lf rest (origin rest) (shorter_origin rest))) λ _ after. as_long after)
-    (shorter_cond bs (eqb b 10) (is x rest) bad l tt)
-shorter_line_end bs bad h = tt
+shorter_line_end = rest_line_end no_longer
 
 -- ---- for those who read one field after another
 

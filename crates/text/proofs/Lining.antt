@@ -3,7 +3,7 @@
 use Rattle.std.proofs.Common.{◌≡◌, ℕ, zero, suc, ◌≤◌, List, [], ◌∷◌, length, sym, refl, ◌∙◌, arith}
 use Rattle.std.specs.List.{IsFirstAndRest}
 use Rattle.text.specs.Lines.{Line, goes, stops, Whole, read, refused, at_line, after_line, lines_by, lines}
-use Rattle.text.proofs.Shortening.{end_short, ShorterLine, Shortens}
+use Rattle.text.proofs.Shortening.{ShorterLine, Shortens, EndOf, AllRemain, ends_shorten}
 
 module _ {S R : Type 0} (line : S → ℕ → List ℕ → Line S R) (shortens : Shortens line) where
   none_left : (fuel : ℕ) (s : S) → lines_by fuel line s [] ≡ read s
@@ -14,7 +14,7 @@ module _ {S R : Type 0} (line : S → ℕ → List ℕ → Line S R) (shortens :
   after : (bs : List ℕ) (l : Line S R) (m n : S → List ℕ → Whole S R) → ShorterLine bs l → ((s : S) (rest : List ℕ) → length rest ≤ length bs → m s rest ≡ n s rest)
       → after_line l m ≡ after_line l n
   unfolding after_line
-  after bs (goes s rest) m n h e = e s rest (end_short h)
+  after bs (goes s rest) m n h e = e s rest h
   after bs (stops why) m n h e = refl
 
   enough : (f g : ℕ) (s : S) (bs : List ℕ) → length bs ≤ f → length bs ≤ g → lines_by f line s bs ≡ lines_by g line s bs
@@ -66,3 +66,16 @@ module _ {S R : Type 0} {line : S → ℕ → List ℕ → Line S R} {s : S} {te
   pub stops_at : {why : R} → line s b after ≡ stops why → refused why ≡ whole
   unfolding after_line
   stops_at e = rw e at unrolled
+
+-- ---- so where each line leaves an end of the text: it ends and stops as `left` does
+
+pub record LeftByEnds {S R : Type 0} (line : S → ℕ → List ℕ → Line S R) (s : S) (text : List ℕ) (whole : Whole S R) : Type 0 where
+  pub left : Left line s text whole
+  pub rests : AllRemain EndOf line
+
+pub begins_by_ends : {S R : Type 0} (line : S → ℕ → List ℕ → Line S R) → AllRemain EndOf line → (s : S) (text : List ℕ) → LeftByEnds line s text (lines line s text)
+begins_by_ends line h s text = record { left = begins line (ends_shorten line h) s text; rests = h }
+
+pub goes_on_by_ends : {S R : Type 0} {line : S → ℕ → List ℕ → Line S R} {s : S} {text : List ℕ} {whole : Whole S R} → LeftByEnds line s text whole
+    → {b : ℕ} {after : List ℕ} → IsFirstAndRest text b after → {s' : S} {next : List ℕ} → line s b after ≡ goes s' next → LeftByEnds line s' next whole
+goes_on_by_ends l f e = record { left = goes_on l.left f e; rests = l.rests }

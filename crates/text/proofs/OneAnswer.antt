@@ -6,7 +6,7 @@ use Rattle.text.specs.Reading.{Read}
 use Rattle.text.specs.Put.{Put}
 use Rattle.text.specs.Seen.{seen}
 use Rattle.text.proofs.Only.{never}
-use Rattle.text.proofs.Shortening.{EndOf, end_place, Shorter}
+use Rattle.text.proofs.Shortening.{EndOf, end_place, Remains}
 
 -- `Put` is the contract of every writer
 pub one_put : {entry bytes exit exit' : List ℕ} {at next next' : ℕ} → Put entry at bytes next exit → Put entry at bytes next' exit'
@@ -26,8 +26,8 @@ abbrev pub LeftAt : {A : Type 0} → (text : List ℕ) → Option (A × Bor (Lis
 LeftAt text (Some (v, rest)) = (place_in text (Some (v, rest)) ≤ length text) × (drop (place_in text (Some (v, rest))) text ≡ rest.now)
 LeftAt text None = Unit {0}
 
-pub left_at : {A : Type 0} {want : Read A} (text : List ℕ) → Shorter text want → (r : Option (A × Bor (List ℕ))) → seen r ≡ want → LeftAt text r
-left_at text s (Some (v, rest)) e = let l : EndOf text rest.now = subst (Shorter text) (sym e) s in (omega arith, end_place l)
+pub left_at : {A : Type 0} {want : Read A} (text : List ℕ) → Remains EndOf text want → (r : Option (A × Bor (List ℕ))) → seen r ≡ want → LeftAt text r
+left_at text s (Some (v, rest)) e = let l : EndOf text rest.now = subst (Remains EndOf text) (sym e) s in (omega arith, end_place l)
 left_at text s None e = tt
 
 -- what is read is the contract of every reader of a number or a name: two answers say the same, the number, the bytes after it and their place
