@@ -1,4 +1,4 @@
--- A node line is taken away from the text: how the rest stands to it, which is an end of it and never longer. Assumes nothing.
+-- A node line is taken away from the text: the rest is an end of it, and so never longer. Assumes nothing.
 use mathlib.Core.List.{List}
 use Prim.Native.Nat.{ℕ}
 use lib.ListN.{length}

@@ -67,7 +67,7 @@ module _ {S R : Type 0} {line : S → ℕ → List ℕ → Line S R} {s : S} {te
   unfolding after_line
   stops_at e = rw e at unrolled
 
--- ---- so where each line leaves an end of the text: it ends and stops as `left` does
+-- ---- the same where each line leaves an end of the text; of where it ends and stops the laws of `left` speak
 
 pub record LeftByEnds {S R : Type 0} (line : S → ℕ → List ℕ → Line S R) (s : S) (text : List ℕ) (whole : Whole S R) : Type 0 where
   pub left : Left line s text whole
